@@ -1,0 +1,12 @@
+//! What a description is and how it prints: elements, levels, days, codes and texts, by ISAD(G).
+#![tactic(auto)]
+
+mod element;
+mod list;
+mod text;
+mod values;
+
+pub use element::Element;
+pub use list::List;
+pub use text::Text;
+pub use values::{BoxKey, Values};
