@@ -1,0 +1,2 @@
+pub mod DateLemmas
+pub mod DayLemmas

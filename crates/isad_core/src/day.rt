@@ -1,0 +1,109 @@
+//! Days.
+ghost use Rattle.std.specs.Prelude.{◌≡◌, ◌≤◌, ◌+◌, ◌*◌, Some, None, IfSome, IfNone, pos, if◌then◌else◌};
+ghost use Rattle.isad_core.specs.Days.{day_of, day_text, is_day_number, number_of_date};
+ghost use Rattle.isad_core.specs.Days as spec;
+ghost use Rattle.jiff_core.specs.Calendar.{IsCivilDate};
+
+use jiff_core::civil::Date;
+use std::marker::Model;
+
+/// A day from 1900-01-01 to 9999-12-31, which clauses see as its number, counted from 1970-01-01.
+#[derive(Debug, Clone, Copy, PartialEq, Eq, PartialOrd, Ord)]
+pub struct Day {
+    number: i32,
+}
+
+impl Model for Day {
+    ghost use Rattle.std.specs.Prelude.{ℤ};
+    ghost use Rattle.isad_core.specs.Days.{IsDayNumber};
+
+    ghost Value = { ℤ };
+
+    ghost view = { λ d. d.number };
+
+    ghost invariant = { λ d. IsDayNumber d.number };
+
+    ghost inverse = { λ n. record { number = n } };
+}
+
+impl Day {
+    /// The day of a date as ISO 8601 writes it: YYYY-MM-DD, ten bytes and no other form.
+    pub fn parse(text: &str) -> Option<Day>
+        ensures { result ≡ day_of text.now }
+    {
+        let &[a, b, c, d, b'-', e, f, b'-', g, h] = text.as_bytes() else {
+            return None;
+        };
+        let century = two_digits(a, b)?;
+        let rest = two_digits(c, d)?;
+        let month = two_digits(e, f)?;
+        let day = two_digits(g, h)?;
+        on_date(century, rest, month, day)
+    }
+
+    /// The day of that number, where it is in range.
+    pub fn from_number(number: i32) -> Option<Day>
+        ensures { result ≡ (if is_day_number number then Some number else None) }
+    {
+        if number < -25_567 || number > 2_932_896 {
+            None
+        } else {
+            Some(Day { number })
+        }
+    }
+
+    /// Its number: days since 1970-01-01, negative before it.
+    pub fn number(self) -> i32
+        ensures { result ≡ self }
+    {
+        self.number
+    }
+}
+
+/// The value of a digit.
+fn digit(byte: u8) -> Option<u8>
+    ensures value { result ≡ spec.digit byte }
+{
+    if byte.is_ascii_digit() {
+        Some(byte - b'0')
+    } else {
+        None
+    }
+}
+
+/// The number that two digits write.
+fn two_digits(high: u8, low: u8) -> Option<u8>
+    ensures value { result ≡ spec.two_digits high low }
+    ensures bound { IfSome result (λ n. n ≤ 99) }
+{
+    let high = digit(high)?;
+    let low = digit(low)?;
+    Some(high * 10 + low)
+}
+
+/// That date, where the calendar has it.
+fn calendar_date(century: u8, rest: u8, month: u8, day: u8) -> Option<Date>
+    requires century { century ≤ 99 }
+    requires rest { rest ≤ 99 }
+    requires month { month ≤ 99 }
+    requires day { day ≤ 99 }
+    ensures some { IfSome result (λ d. (d.year ≡ pos (century * 100 + rest)) × (d.month ≡ month) × (d.day ≡ day)) }
+    ensures none { IfNone result (IsCivilDate (pos (century * 100 + rest)) month day → ⊥) }
+{
+    let year = century as u16 * 100 + rest as u16;
+    Date::new(year as i16, month as i8, day as i8).ok()
+}
+
+/// The day of that date, where the calendar has it and it is in range.
+fn on_date(century: u8, rest: u8, month: u8, day: u8) -> Option<Day>
+    requires century { century ≤ 99 }
+    requires rest { rest ≤ 99 }
+    requires month { month ≤ 99 }
+    requires day { day ≤ 99 }
+    ensures { result ≡ number_of_date (century * 100 + rest) month day }
+{
+    match calendar_date(century, rest, month, day) {
+        Some(date) => Day::from_number(date.to_unix_epoch_day()),
+        None => None,
+    }
+}
