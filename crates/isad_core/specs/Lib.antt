@@ -1,3 +1,5 @@
+pub mod Codes
 pub mod Days
 pub mod Elements
+pub mod Levels
 pub mod Texts

@@ -1,14 +1,18 @@
 //! What a description is and how it prints: elements, levels, days, codes and texts, by ISAD(G).
 #![tactic(auto)]
 
+mod code;
 mod day;
 mod element;
+mod level;
 mod list;
 mod text;
 mod values;
 
+pub use code::join_code;
 pub use day::Day;
 pub use element::Element;
+pub use level::rank;
 pub use list::List;
-pub use text::Text;
+pub use text::{Text, is_blank};
 pub use values::{BoxKey, Values};
