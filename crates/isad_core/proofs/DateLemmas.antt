@@ -124,6 +124,7 @@ day_of-date_text d number h has =
     rw (century, rest, month, day, year, civil, has.number_is, ranged) refl
 
 pub day_of-day_text : (number : ℤ) → IsDayNumber number → day_of (day_text number) ≡ Some number
+unfolding day_text
 day_of-day_text number h = day_of-date_text (date_of number) number h (date_of-HasNumber number h)
 
 -- the parts of the date of a day number

@@ -2,4 +2,5 @@ pub mod Codes
 pub mod Days
 pub mod Elements
 pub mod Levels
+pub mod Printed
 pub mod Texts

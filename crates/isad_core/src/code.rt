@@ -8,12 +8,7 @@ use std::alloc::{AllocError, Global};
 
 /// The reference code of a unit (ISAD(G) 3.1.1), where `ids` are the identifiers of the units from
 /// the top down to it. Blank identifiers are left out.
-pub fn join_code(
-    alloc: Global,
-    country: &str,
-    repo: &str,
-    ids: &[Text],
-) -> Result<Text, AllocError>
+pub fn join_code(alloc: Global, country: &str, repo: &str, ids: &[Text]) -> Result<Text, AllocError>
     ensures { IfOk result (λ code. code ≡ code_of country.now repo.now ids.now) }
 {
     let mut code = String::from_str(alloc, country)?;

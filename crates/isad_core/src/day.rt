@@ -61,6 +61,7 @@ impl Day {
     }
 
     /// Its date as ISO 8601 writes it: YYYY-MM-DD.
+    #[tactic(auto, unfolding(crate::specs::Days::day_text))]
     pub fn text(self) -> [u8; 10]
         ensures text { result ≡ day_text self }
         ensures reads_back { day_of (day_text self) ≡ Some self }
