@@ -8,7 +8,7 @@ use crate::text::Text;
 use std::alloc::{AllocError, Global};
 
 /// A container as it is known: what it is called, where it stands, and of what kind it is.
-#[derive(Debug, PartialEq, Drop)]
+#[derive(Debug, PartialEq, Eq, PartialOrd, Ord, Drop)]
 pub struct BoxKey {
     /// What is written on it. Rows of a file name no container by a blank text.
     pub name: Text,
