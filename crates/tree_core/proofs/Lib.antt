@@ -4,7 +4,7 @@ pub mod Adding
 pub mod Places
 pub mod Walk
 pub mod Shifts
-pub mod Laws
+pub mod OneForest
 pub mod Cutting
 pub mod Members
 pub mod Moving

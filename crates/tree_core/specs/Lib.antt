@@ -5,3 +5,4 @@ pub mod Shifts
 pub mod Withheld
 pub mod Marks
 pub mod Steps
+pub mod Worked
