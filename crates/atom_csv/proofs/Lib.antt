@@ -1,0 +1,5 @@
+pub mod BoxLemmas
+pub mod ColumnLemmas
+pub mod EntryLemmas
+pub mod FieldLemmas
+pub mod TrimLemmas

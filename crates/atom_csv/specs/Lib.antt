@@ -1,0 +1,5 @@
+pub mod Columns
+pub mod Entries
+pub mod Fields
+pub mod Known
+pub mod Values
