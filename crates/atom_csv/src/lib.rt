@@ -7,3 +7,4 @@ mod entries;
 mod header;
 mod joined;
 mod trim;
+mod values;
