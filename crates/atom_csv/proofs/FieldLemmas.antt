@@ -1,16 +1,18 @@
 -- Where columns stand, and what a record has there.
 use Rattle.std.proofs.Common.{◌≡◌, ◌∙◌, ◌+◌, ℕ, zero, suc, Bool, true, false, List, [], ◌∷◌, ◌++◌, length, take, Option, Some, None, option_map, refl, sym, ap, ap₂, arith, Bor, cond, map, get_or}
-use Rattle.std.specs.Prelude.{if◌then◌else◌, slice_get, unwrap_or, ◌||◌, position}
+use Rattle.std.specs.Prelude.{if◌then◌else◌, slice_get, unwrap_or, ◌&&◌, position}
 use Rattle.std.specs.List.{position_from, list_any}
 use Rattle.std.proofs.lemmas.Iterator.Adapters.{position_from-zero}
 use denote.Enum.Declared.{tag_of}
 use Rattle.atom_csv.specs.contracts.column.Column.{the_type}
 use Rattle.atom_csv.proofs.ColumnLemmas.{at_place}
 use Rattle.csv.specs.Records.{field_at}
+use Rattle.std.proofs.lemmas.List.{map-append}
+use Rattle.std.proofs.lemmas.List.Folds.{list_all-append}
 use Rattle.isad_core.specs.Texts.{Bytes}
 use Rattle.atom_csv.specs.Columns.{columns, name_of}
 use Rattle.atom_csv.specs.declared.column.Column.{Column}
-use Rattle.atom_csv.specs.Fields.{Fields, field_in, field_under, is_named, place_of, places_in, seen, trimmed, value}
+use Rattle.atom_csv.specs.Fields.{Fields, is_blank, is_empty, field_in, field_under, is_named, place_of, places_in, seen, trimmed, value}
 
 shift : {X : Type 0} (p : X → Bool) (i : ℕ) (xs : List X) → position_from p (i + 1) xs ≡ option_map (λ k. k + 1) (position_from p i xs)
 shift p i [] = refl
@@ -92,3 +94,25 @@ pub value_at : (k : Column) (header fields : Fields) (places : List (Option ℕ)
     → field_in (get_or places (tag_of the_type k) d) fields ≡ value k header fields
 value_at k header fields places d is =
     ap (λ ps. field_in (get_or ps (tag_of the_type k) d) fields) is ∙ (ap (λ o. field_in o fields) (at_place (λ k. place_of (name_of k) header) k d) ∙ value_in (name_of k) header fields)
+
+-- a field that is not blank is one of a record that is not
+pub blank_not : (fs : List Bytes) (i : ℕ) (f : Bytes) → field_at fs i ≡ Some f → is_empty (trimmed f) ≡ false → is_blank (map trimmed fs) ≡ false
+unfolding field_at
+blank_not [] i f e there = cc
+blank_not (x ∷ xs) zero f e there =
+    let same : x ≡ f = cc in
+    ap (λ b. b && is_blank (map trimmed xs)) (ap (λ y. is_empty (trimmed y)) same ∙ there)
+blank_not (x ∷ xs) (suc i) f e there =
+    ap (λ b. is_empty (trimmed x) && b) (blank_not xs i f e there) ∙ go (is_empty (trimmed x))
+  where
+    go : (b : Bool) → (b && false) ≡ false
+    go true = refl
+    go false = refl
+
+-- one more blank field
+pub blank_more : (fs : List Bytes) (i : ℕ) (f : Bytes) → field_at fs i ≡ Some f → is_empty (trimmed f) ≡ true → is_blank (map trimmed (take i fs)) ≡ true
+    → is_blank (map trimmed (take (i + 1) fs)) ≡ true
+blank_more fs i f e blank before =
+    ap (λ xs. is_blank (map trimmed xs)) (take_field fs i f e)
+    ∙ (ap is_blank (map-append trimmed (take i fs) (f ∷ []))
+    ∙ (list_all-append is_empty (map trimmed (take i fs)) (trimmed f ∷ []) ∙ ap₂ (λ a b. a && (b && true)) before blank))

@@ -2,9 +2,15 @@
 #![tactic(auto)]
 
 mod boxes;
+mod cause;
 mod column;
 mod entries;
+mod file;
+mod findings;
 mod header;
 mod joined;
+mod records;
 mod trim;
 mod values;
+
+pub use file::{File, FileFault, Row};
