@@ -1,1 +1,2 @@
 pub mod Aids
+pub mod Places

@@ -1,0 +1,3 @@
+//! What a file would show if it were published.
+
+mod places;
