@@ -17,3 +17,6 @@ mod values;
 
 pub use file::{File, FileFault, Row};
 pub use read::read_file;
+
+#[cfg(test)]
+mod tests;
