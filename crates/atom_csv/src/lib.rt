@@ -9,6 +9,7 @@ mod file;
 mod findings;
 mod header;
 mod joined;
+pub mod laws;
 mod read;
 mod records;
 mod rows;
