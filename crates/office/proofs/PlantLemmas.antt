@@ -136,7 +136,7 @@ below_more : (n : ℕ) (p : Option ℕ) → IsBelow n p → IsBelow (suc n) p
 below_more n None h = tt
 below_more n (Some j) h = omega arith
 
-length-push : {X : Type 0} → (xs : List X) (x : X) → length (xs ++ x ∷ []) ≡ suc (length xs)
+pub length-push : {X : Type 0} → (xs : List X) (x : X) → length (xs ++ x ∷ []) ≡ suc (length xs)
 length-push [] x = refl
 length-push (y ∷ xs) x = ap suc (length-push xs x)
 
