@@ -2,4 +2,5 @@ pub mod Aids
 pub mod Numbers
 pub mod Places
 pub mod Planting
+pub mod Printing
 pub mod Slots

@@ -3,3 +3,4 @@
 mod numbers;
 mod places;
 mod planting;
+mod printing;
