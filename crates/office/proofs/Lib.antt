@@ -1,3 +1,4 @@
 pub mod PlaceLemmas
 pub mod PlantLemmas
 pub mod NumberLemmas
+pub mod PrintLemmas

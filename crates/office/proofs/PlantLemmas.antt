@@ -36,7 +36,7 @@ in_order-push : (fs : List (Forest PublicUnit)) (f : Forest PublicUnit) → in_o
 in_order-push [] f = sym (join-Empty f)
 in_order-push (g ∷ fs) f = ap (λ (h : Forest PublicUnit). join h g) (in_order-push fs f) ∙ join-join f (in_order fs) g
 
-side_by_side-push : (fs : List (Forest PublicUnit)) (f : Forest PublicUnit) → side_by_side (fs ++ f ∷ []) ≡ join (side_by_side fs) f
+pub side_by_side-push : (fs : List (Forest PublicUnit)) (f : Forest PublicUnit) → side_by_side (fs ++ f ∷ []) ≡ join (side_by_side fs) f
 side_by_side-push [] f = join-Empty f
 side_by_side-push (g ∷ fs) f = ap (join g) (side_by_side-push fs f) ∙ sym (join-join g (side_by_side fs) f)
 
@@ -57,7 +57,7 @@ map-reverse f (x ∷ xs) =
 pub grove-reverse : (trees : List Tree) → grove (reverse trees) ≡ planted trees
 grove-reverse trees = ap side_by_side (map-reverse tree_of trees) ∙ side_by_side-reverse (map tree_of trees)
 
-tree_of-parts : (t : Tree) → tree_of t ≡ Node (Told (out-Tree t).id (out-Tree t).row.now.values) (grove (out-Tree t).children.items) Empty
+pub tree_of-parts : (t : Tree) → tree_of t ≡ Node (Told (out-Tree t).id (out-Tree t).row.now.values) (grove (out-Tree t).children.items) Empty
 tree_of-parts = fold_out-Tree (Forest PublicUnit) tree_step
 
 -- one more tree comes before the others

@@ -1,7 +1,8 @@
 //! The finding aids of a file's trees.
 ghost use Rattle.std.specs.Prelude.{◌≡◌, ◌≤◌, ◌+◌, ◌++◌, ◌∷◌, [], IfOk, OnOk, List, map, option_copied, unwrap_or};
-ghost use Rattle.isad_core.specs.Printed.{aid};
-ghost use Rattle.office.specs.Printing.{number_by, shown_told};
+ghost use Rattle.isad_core.specs.Printed.{aid, unit_lines};
+ghost use Rattle.office.specs.Planting.{grove, height_of_all};
+ghost use Rattle.office.specs.Printing.{number_by, shown_by, shown_told};
 
 use crate::preview::numbers::{Numbers, number_of};
 use crate::preview::planting::Tree;
@@ -33,6 +34,42 @@ impl<'a> Printer<'a> {
                 boxes: self.numbered(values.boxes.as_slice())?,
             },
         })
+    }
+
+    /// Prints trees below units with these identifiers.
+    pub fn print_trees(
+        &self,
+        out: &mut Vec<u8>,
+        ids: &mut Vec<Text>,
+        depth: u32,
+        trees: &[Tree<'a>],
+    ) -> Result<(), AllocError>
+        requires { depth + height_of_all trees.now ≤ 64 }
+        ensures printed { OnOk result (out.new.items ≡ out.old.items ++ aid (shown_by (record { country = self.now.country.now; repo = self.now.repo.now }) (number_by self.now.numbers) ids.old.items depth (grove trees.now))) }
+        ensures ids { OnOk result (ids.new.items ≡ ids.old.items) }
+    {
+        for tree in trees {
+            ids.push(text_or_empty(self.alloc, tree.row.values.text(Element::ReferenceCode))?)?;
+            self.print_unit(out, ids.as_slice(), depth, &tree.row.values)?;
+            self.print_trees(out, ids, depth + 1, tree.children.as_slice())?;
+            ids.pop();
+        }
+        Ok(())
+    }
+
+    /// Prints one unit.
+    fn print_unit(
+        &self,
+        out: &mut Vec<u8>,
+        ids: &[Text],
+        depth: u32,
+        values: &'a Values,
+    ) -> Result<(), AllocError>
+        ensures { OnOk result (out.new.items ≡ out.old.items ++ unit_lines (shown_told (record { country = self.now.country.now; repo = self.now.repo.now }) (number_by self.now.numbers) ids.now depth values.now)) }
+    {
+        let shown = self.shown(ids, depth, values)?;
+        let text = aid_text(self.alloc, &[shown])?;
+        out.extend_from_slice(text.as_slice())
     }
 
     /// The number and the name of each container.
