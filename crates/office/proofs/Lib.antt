@@ -2,3 +2,4 @@ pub mod PlaceLemmas
 pub mod PlantLemmas
 pub mod NumberLemmas
 pub mod PrintLemmas
+pub mod PreviewLemmas

@@ -12,11 +12,11 @@ use Rattle.atom_csv.specs.declared.file.Row.{Row}
 use Rattle.tree_core.specs.Forest.{Forest, Empty, Node, each, join}
 use Rattle.catalogue_store.specs.Merging.{New, branches, new_unit, has_legacy, number_of, numbered_from}
 use Rattle.catalogue_store.specs.Publishing.{PublicUnit, Told, public_of}
-use Rattle.office.specs.declared.preview.places.Place.{Place}
-use Rattle.office.specs.declared.preview.planting.Slot.{Slot}
-use Rattle.office.specs.declared.preview.planting.Tree.{Tree}
-use Rattle.office.specs.declared.preview.planting.Tree.TheViews.{out-Tree}
-use Rattle.office.specs.declared.preview.planting.Tree.TheFolds.{fold_out-Tree}
+use Rattle.office.specs.declared.previews.places.Place.{Place}
+use Rattle.office.specs.declared.previews.planting.Slot.{Slot}
+use Rattle.office.specs.declared.previews.planting.Tree.{Tree}
+use Rattle.office.specs.declared.previews.planting.Tree.TheViews.{out-Tree}
+use Rattle.office.specs.declared.previews.planting.Tree.TheFolds.{fold_out-Tree}
 use Rattle.office.specs.Places.{AllPlaced, ArePlaced, IsPlaced, depth_below, index_of}
 use Rattle.office.specs.Planting.{grove, height, height_of_all, height_step, highest, in_order, planted, side_by_side, rest_of, seen_below, tree_of, tree_step}
 use Rattle.office.specs.Slots.{HasGrown, IsBelow, depth_at, grown_at}

@@ -13,8 +13,8 @@ use Rattle.catalogue_store.specs.Publishing.{PublicUnit}
 use Rattle.office.specs.Aids.{Repository, identifier_of}
 use Rattle.office.specs.Planting.{grove, height, height_of_all, side_by_side, tree_of}
 use Rattle.office.specs.Printing.{shown_by, shown_told, shown_unit_by}
-use Rattle.office.specs.declared.preview.planting.Tree.{Tree}
-use Rattle.office.specs.declared.preview.planting.Tree.TheViews.{out-Tree}
+use Rattle.office.specs.declared.previews.planting.Tree.{Tree}
+use Rattle.office.specs.declared.previews.planting.Tree.TheViews.{out-Tree}
 use Rattle.office.proofs.PlantLemmas.{height-parts, length-push, side_by_side-push, tree_of-parts}
 
 -- ---- no child is too deep

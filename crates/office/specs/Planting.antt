@@ -4,9 +4,9 @@ use Rattle.atom_csv.specs.declared.file.Row.{Row}
 use Rattle.tree_core.specs.Forest.{Forest, Empty, Node, join}
 use Rattle.catalogue_store.specs.Merging.{New, new_units, numbered_from}
 use Rattle.catalogue_store.specs.Publishing.{PublicUnit, Told, public_of}
-use Rattle.office.specs.declared.preview.planting.Tree.{Tree}
-use Rattle.office.specs.declared.preview.planting.Tree.TheOpen.{Tree-F}
-use Rattle.office.specs.declared.preview.planting.Tree.TheFolds.{fold-Tree}
+use Rattle.office.specs.declared.previews.planting.Tree.{Tree}
+use Rattle.office.specs.declared.previews.planting.Tree.TheOpen.{Tree-F}
+use Rattle.office.specs.declared.previews.planting.Tree.TheFolds.{fold-Tree}
 
 -- forests one after another
 abbrev pub side_by_side : List (Forest PublicUnit) → Forest PublicUnit

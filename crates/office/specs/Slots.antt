@@ -2,8 +2,8 @@
 use Rattle.std.specs.Prelude.{◌≡◌, ℕ, suc, ◌+◌, ◌≤◌, ◌<◌, List, [], length, map, take, reverse, Option, Some, None, option_map, slice_get}
 use Rattle.std.specs.Option.{option_map_or}
 use Rattle.atom_csv.specs.declared.file.Row.{Row}
-use Rattle.office.specs.declared.preview.planting.Slot.{Slot}
-use Rattle.office.specs.declared.preview.planting.Tree.{Tree}
+use Rattle.office.specs.declared.previews.planting.Slot.{Slot}
+use Rattle.office.specs.declared.previews.planting.Tree.{Tree}
 use Rattle.office.specs.Places.{AllPlaced}
 use Rattle.office.specs.Planting.{height_of_all, planted, rest_of, seen_below}
 
