@@ -7,7 +7,7 @@ use Rattle.jiff_core.specs.Calendar.{IsCivilDate, days_in_month}
 use Rattle.jiff_core.specs.Date.{epoch_day}
 use Rattle.jiff_core.specs.declared.civil.date.Date.{Date}
 use Rattle.jiff_core.proofs.DateLemmas.{civil}
-use Rattle.isad_core.specs.Days.{is_civil, is_day_number, number_of_date}
+use Rattle.isad_core.specs.Days.{IsDayNumber, is_civil, is_day_number, number_of_date}
 
 pub is_civil-true : (year month day : ℕ) → IsCivilDate (pos year) month day → is_civil year month day ≡ true
 is_civil-true year month day h =
@@ -44,3 +44,6 @@ pub number_of_date-none : (year month day : ℕ) → year ≤ 9999 → (IsCivilD
 number_of_date-none year month day late absent =
     let e : is_civil year month day ≡ false = false_from_ne_true _ (λ h. absent (civil_from year month day late h)) in
     rw e refl
+
+pub is_day_number-true : (number : ℤ) → IsDayNumber number → is_day_number number ≡ true
+is_day_number-true number h = grind (arith, ints, h.0, h.1)

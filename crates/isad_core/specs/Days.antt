@@ -93,5 +93,5 @@ date_text d = in_two_digits (d.year / 100) ++ in_two_digits (d.year % 100)
     ++ 45 ∷ in_two_digits d.month ++ 45 ∷ in_two_digits d.day
 
 -- the date of a day number, YYYY-MM-DD
-abbrev pub day_text : ℤ → Bytes
+unfoldable pub day_text : ℤ → Bytes
 day_text number = date_text (date_of number)

@@ -1,6 +1,6 @@
 //! Days.
-ghost use Rattle.std.specs.Prelude.{◌≡◌, ◌≤◌, ◌+◌, ◌*◌, Some, None, IfSome, IfNone, pos, if◌then◌else◌};
-ghost use Rattle.isad_core.specs.Days.{day_of, day_text, is_day_number, number_of_date};
+ghost use Rattle.std.specs.Prelude.{◌≡◌, ◌≤◌, ◌+◌, ◌*◌, ◌/◌, ◌%◌, ◌∷◌, [], Some, None, IfSome, IfNone, pos, if◌then◌else◌};
+ghost use Rattle.isad_core.specs.Days.{IsDayNumber, date_of, day_of, day_text, in_two_digits, is_day_number, number_of_date};
 ghost use Rattle.isad_core.specs.Days as spec;
 ghost use Rattle.jiff_core.specs.Calendar.{IsCivilDate};
 
@@ -54,9 +54,24 @@ impl Day {
 
     /// Its number: days since 1970-01-01, negative before it.
     pub fn number(self) -> i32
-        ensures { result ≡ self }
+        ensures number { result ≡ self }
+        ensures range { IsDayNumber result }
     {
         self.number
+    }
+
+    /// Its date as ISO 8601 writes it: YYYY-MM-DD.
+    #[tactic(auto, unfolding(crate::specs::Days::day_text))]
+    pub fn text(self) -> [u8; 10]
+        ensures text { result ≡ day_text self }
+        ensures reads_back { day_of (day_text self) ≡ Some self }
+    {
+        let (year, month, day) = civil(self.number);
+        let (a, b) = digits((year / 100) as u8);
+        let (c, d) = digits((year % 100) as u8);
+        let (e, f) = digits(month);
+        let (g, h) = digits(day);
+        [a, b, c, d, b'-', e, f, b'-', g, h]
     }
 }
 
@@ -106,4 +121,26 @@ fn on_date(century: u8, rest: u8, month: u8, day: u8) -> Option<Day>
         Some(date) => Day::from_number(date.to_unix_epoch_day()),
         None => None,
     }
+}
+
+/// The year, the month and the day in it, of the date with that number.
+fn civil(number: i32) -> (u16, u8, u8)
+    requires { IsDayNumber number }
+    ensures date { record { year = result.0; month = result.1; day = result.2 } ≡ date_of number }
+    ensures year { result.0 ≤ 9999 }
+    ensures month { result.1 ≤ 12 }
+    ensures day { result.2 ≤ 31 }
+{
+    let Ok(date) = Date::from_unix_epoch_day(i64::from(number)) else {
+        unreachable!()
+    };
+    (date.year as u16, date.month, date.day)
+}
+
+/// The two digits of a number below 100.
+fn digits(n: u8) -> (u8, u8)
+    requires { n ≤ 99 }
+    ensures { result.0 ∷ result.1 ∷ [] ≡ in_two_digits n }
+{
+    (b'0' + n / 10, b'0' + n % 10)
 }

@@ -1,14 +1,26 @@
 //! What a description is and how it prints: elements, levels, days, codes and texts, by ISAD(G).
 #![tactic(auto)]
 
+mod aid;
+mod code;
 mod day;
 mod element;
+mod level;
 mod list;
+mod page;
+mod print;
+mod shown;
 mod text;
 mod values;
 
+pub use aid::aid_text;
+pub use code::join_code;
 pub use day::Day;
 pub use element::Element;
+pub use level::rank;
 pub use list::List;
-pub use text::Text;
+pub use page::page_text;
+pub use print::one_line;
+pub use shown::{Body, Page, Shown};
+pub use text::{Text, is_blank};
 pub use values::{BoxKey, Values};

@@ -1,0 +1,6 @@
+use Rattle.std.proofs.Common.{◌≡◌, take}
+use Rattle.isad_core.specs.Printed.{aid}
+use Rattle.isad_core.proofs.aid.aid_text.Given as goal
+
+abbrev pub invariant-loop-unit : goal.invariant-loop-unit
+invariant-loop-unit l = l.out.items ≡ aid (take l.unit-index l.units)

@@ -1,0 +1,44 @@
+//! Levels of description.
+ghost use Rattle.std.specs.Prelude.{◌≡◌};
+ghost use Rattle.isad_core.specs.Levels.{names_level, rank_of};
+
+/// How far a level lies from the top of its fonds: 1 for a fonds or a collection, 6 for an item.
+/// ASCII case and hyphens make no difference; other texts are levels without a rank.
+pub fn rank(level: &str) -> Option<u8>
+    ensures { result ≡ rank_of level.now }
+{
+    if names(level, "fonds") || names(level, "collection") {
+        Some(1)
+    } else if names(level, "subfonds") {
+        Some(2)
+    } else if names(level, "series") {
+        Some(3)
+    } else if names(level, "subseries") {
+        Some(4)
+    } else if names(level, "file") {
+        Some(5)
+    } else if names(level, "item") {
+        Some(6)
+    } else {
+        None
+    }
+}
+
+/// Whether a text names the level.
+fn names(text: &str, level: &str) -> bool
+    ensures { result ≡ names_level text.now level.now }
+{
+    let mut letters = text.as_bytes();
+    let mut wanted = level.as_bytes();
+    while let [letter, others @ ..] = letters {
+        letters = others;
+        if *letter == b'-' {
+            continue;
+        }
+        match wanted {
+            [first, rest @ ..] if first.eq_ignore_ascii_case(letter) => wanted = rest,
+            _ => return false,
+        }
+    }
+    wanted.is_empty()
+}

@@ -1,0 +1,171 @@
+//! What is printed of a unit, appended to the bytes so far.
+ghost use Rattle.std.specs.Prelude.{◌≡◌, ◌≤◌, ◌++◌, ◌∷◌, [], IfOk, OnOk, codes, decimal, length};
+ghost use Rattle.isad_core.specs.Days.{day_text};
+ghost use Rattle.isad_core.specs.Printed.{container_text, element_text, head_line, heading, indent, or_dash, origin};
+ghost use Rattle.isad_core.specs.Texts.{spaced};
+ghost use Rattle.isad_core.specs.Texts as spec;
+
+use crate::day::Day;
+use crate::element::Element;
+use crate::shown::{Body, Shown};
+use crate::text::{Text, is_blank};
+use itoa::Buffer;
+use std::alloc::{AllocError, Global};
+
+/// A text.
+pub fn push(out: &mut Vec<u8>, text: &str) -> Result<(), AllocError>
+    ensures { OnOk result (out.new.items ≡ out.old.items ++ text.now) }
+{
+    out.extend_from_slice(text.as_bytes())
+}
+
+/// A number.
+pub fn push_number(out: &mut Vec<u8>, number: u64) -> Result<(), AllocError>
+    ensures { OnOk result (out.new.items ≡ out.old.items ++ decimal number) }
+{
+    let mut buffer = Buffer::new();
+    push(out, buffer.format(number))
+}
+
+/// A byte on one line.
+fn on_one_line(byte: u8) -> u8
+    ensures { result ≡ spaced byte }
+{
+    if byte == b'\r' || byte == b'\n' {
+        b' '
+    } else {
+        byte
+    }
+}
+
+/// What follows the first byte of a text, or follows CR and LF together.
+fn after(first: u8, others: &[u8]) -> &[u8]
+    ensures rest { spec.one_line (first ∷ others.now) ≡ spaced first ∷ spec.one_line result.now }
+    ensures shorter { length result.now ≤ length others.now }
+{
+    match others {
+        [b'\n', rest @ ..] if first == b'\r' => rest,
+        _ => others,
+    }
+}
+
+/// A text on one line.
+pub fn push_one_line(out: &mut Vec<u8>, text: &str) -> Result<(), AllocError>
+    ensures { OnOk result (out.new.items ≡ out.old.items ++ spec.one_line text.now) }
+{
+    let mut rest = text.as_bytes();
+    while let [first, others @ ..] = rest {
+        out.push(on_one_line(*first))?;
+        rest = after(*first, others);
+    }
+    Ok(())
+}
+
+/// A text as it is printed on one line: each CRLF, and each other CR or LF, is one space.
+pub fn one_line(alloc: Global, text: &str) -> Result<Vec<u8>, AllocError>
+    ensures { IfOk result (λ line. line.items ≡ spec.one_line text.now) }
+{
+    let mut out = Vec::new(alloc);
+    push_one_line(&mut out, text)?;
+    Ok(out)
+}
+
+/// A text on one line, or a dash for a blank one.
+pub fn push_or_dash(out: &mut Vec<u8>, text: &str) -> Result<(), AllocError>
+    ensures { OnOk result (out.new.items ≡ out.old.items ++ or_dash text.now) }
+{
+    if is_blank(text) {
+        push(out, "-")
+    } else {
+        push_one_line(out, text)
+    }
+}
+
+/// Two spaces for each step down.
+#[tactic(auto, using(crate::proofs::PrintLemmas::indent_more))]
+pub fn push_indent(out: &mut Vec<u8>, depth: u64) -> Result<(), AllocError>
+    ensures { OnOk result (out.new.items ≡ out.old.items ++ indent depth) }
+{
+    for _ in 0..depth {
+        push(out, "  ")?;
+    }
+    Ok(())
+}
+
+/// The end of a line.
+pub fn end_line(out: &mut Vec<u8>) -> Result<(), AllocError>
+    ensures { OnOk result (out.new.items ≡ out.old.items ++ 10 ∷ []) }
+{
+    push(out, "\n")
+}
+
+/// Until when a unit is closed.
+fn push_closed(out: &mut Vec<u8>, day: Day) -> Result<(), AllocError>
+    ensures { OnOk result (out.new.items ≡ out.old.items ++ codes "closed until " ++ day_text day) }
+{
+    push(out, "closed until ")?;
+    push_day(out, day)
+}
+
+/// The date of a day.
+fn push_day(out: &mut Vec<u8>, day: Day) -> Result<(), AllocError>
+    ensures { OnOk result (out.new.items ≡ out.old.items ++ day_text day) }
+{
+    out.extend_from_slice(&day.text())
+}
+
+/// The title of a unit, or until when it is closed.
+fn push_heading(out: &mut Vec<u8>, title: &str, body: &Body) -> Result<(), AllocError>
+    ensures { OnOk result (out.new.items ≡ out.old.items ++ heading title.now body.now) }
+{
+    match body {
+        Body::Full { .. } => push_or_dash(out, title),
+        Body::Closed(day) => push_closed(out, *day),
+    }
+}
+
+/// The head line of a unit, without its end.
+pub fn push_head_line(out: &mut Vec<u8>, unit: &Shown) -> Result<(), AllocError>
+    ensures { OnOk result (out.new.items ≡ out.old.items ++ head_line unit.now) }
+{
+    push_one_line(out, unit.code.as_str())?;
+    push(out, " [")?;
+    push_or_dash(out, unit.level.as_str())?;
+    push(out, "] ")?;
+    push_heading(out, unit.title.as_str(), &unit.body)
+}
+
+/// An element with its value.
+pub fn push_element(out: &mut Vec<u8>, element: Element, value: &Text) -> Result<(), AllocError>
+    ensures { OnOk result (out.new.items ≡ out.old.items ++ element_text element value.now) }
+{
+    push(out, element.number())?;
+    push(out, " ")?;
+    push(out, element.name())?;
+    push(out, ": ")?;
+    push_one_line(out, value.as_str())
+}
+
+/// A container with its name.
+pub fn push_container(out: &mut Vec<u8>, number: u64, name: &Text) -> Result<(), AllocError>
+    ensures { OnOk result (out.new.items ≡ out.old.items ++ container_text number name.now) }
+{
+    push(out, "Container ")?;
+    push_number(out, number)?;
+    push(out, ": ")?;
+    push_one_line(out, name.as_str())
+}
+
+/// From which unit a value is, where it was found above.
+pub fn push_origin(out: &mut Vec<u8>, code: &Option<Text>) -> Result<(), AllocError>
+    ensures { OnOk result (out.new.items ≡ out.old.items ++ origin code.now) }
+{
+    match code {
+        None => Ok(()),
+        Some(code) => {
+            push(out, " (from ")?;
+            push_one_line(out, code.as_str())?;
+            push(out, ")")
+        }
+    }
+}

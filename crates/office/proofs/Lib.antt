@@ -1,0 +1,3 @@
+pub mod PlaceLemmas
+pub mod PlantLemmas
+pub mod NumberLemmas

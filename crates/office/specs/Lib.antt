@@ -1,0 +1,5 @@
+pub mod Aids
+pub mod Numbers
+pub mod Places
+pub mod Planting
+pub mod Slots
