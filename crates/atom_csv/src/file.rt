@@ -2,7 +2,7 @@
 ghost use Rattle.std.specs.Prelude.{◌≡◌};
 
 use isad_core::{List, Text, Values};
-use std::alloc::AllocError;
+use std::alloc::{AllocError, AllocFailed};
 
 /// A row of a file: what it tells of a unit.
 #[derive(Debug, PartialEq, Drop)]
@@ -42,6 +42,16 @@ impl From<AllocError> for FileFault {
     ghost from_gives = { λ _ e. e ≡ Memory };
 
     fn from(_: AllocError) -> FileFault {
+        FileFault::Memory
+    }
+}
+
+impl<T: Drop> From<AllocFailed<T>> for FileFault {
+    ghost use Rattle.atom_csv.specs.declared.file.FileFault.TheVariants.{Memory};
+
+    ghost from_gives = { λ _ e. e ≡ Memory };
+
+    fn from(_: AllocFailed<T>) -> FileFault {
         FileFault::Memory
     }
 }
