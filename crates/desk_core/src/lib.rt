@@ -5,8 +5,10 @@ mod decisions;
 mod reader;
 mod refusal;
 mod run;
+mod slip;
 
 pub use decisions::{Ask, AtDesk, may_issue, may_leave, may_order, may_sit};
 pub use reader::{Limits, Place, Reader};
 pub use refusal::Refusal;
 pub use run::{Candidate, pick_reshelve, pick_run};
+pub use slip::slip_text;
