@@ -2,6 +2,7 @@
 #![tactic(auto)]
 
 mod decisions;
+pub mod laws;
 mod reader;
 mod refusal;
 mod run;
@@ -12,3 +13,6 @@ pub use reader::{Limits, Place, Reader};
 pub use refusal::Refusal;
 pub use run::{Candidate, pick_reshelve, pick_run};
 pub use slip::slip_text;
+
+#[cfg(test)]
+mod tests;
