@@ -2,7 +2,7 @@ use Rattle.std.proofs.Common.{sym, eq-eqb, ⊎_elim, arith, nat_eq}
 use Rattle.std.proofs.lemmas.Bool.{cases_lt}
 use Rattle.std.proofs.lemmas.List.Folds.{list_any_at}
 use Rattle.desk_core.proofs.SeatLemmas.{free_seat-at, free_seat-none}
-use Rattle.desk_core.proofs.decisions.least_free_seat.Goals as goal
+use Rattle.desk_core.proofs.seat.least_free_seat.Goals as goal
 
 -- the last seat is taken, and all before it
 pub returns-then-least-seats : goal.returns-then-least-seats
