@@ -1,0 +1,19 @@
+//! Reads AtoM's archival description CSV.
+#![tactic(auto)]
+
+mod boxes;
+mod cause;
+mod column;
+mod entries;
+mod file;
+mod findings;
+mod header;
+mod joined;
+mod read;
+mod records;
+mod rows;
+mod trim;
+mod values;
+
+pub use file::{File, FileFault, Row};
+pub use read::read_file;

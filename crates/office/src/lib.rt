@@ -1,0 +1,2 @@
+//! One command, one transaction, one step; and what a file would show.
+#![tactic(auto)]
