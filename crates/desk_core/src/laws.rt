@@ -2,7 +2,7 @@
 ghost use Rattle.std.specs.Prelude.{ℕ, List, nat_lt};
 ghost use Rattle.desk_core.specs.Orders.{IsInOrder, in_order};
 ghost use Rattle.desk_core.specs.Runs.{IsRun, run_of};
-ghost use Rattle.desk_core.specs.Slips.{is_shelved_before};
+ghost use Rattle.desk_core.specs.Slips.{CountsCharacters, is_shelved_before};
 ghost use Rattle.desk_core.specs.declared.run.Candidate.{Candidate};
 
 /// What a run takes is a run: no candidate that is left has a lesser order than one that is taken.
@@ -20,4 +20,9 @@ pub fn slip_lines_are_in_order()
 /// What goes back to the shelf is told in ascending order, each container once.
 pub fn reshelved_are_in_order()
     ensures { (containers : List ℕ) → IsInOrder nat_lt containers (in_order nat_lt containers) }
+{}
+
+/// The places of a slip count characters: of a text as many as it has Unicode scalar values.
+pub fn places_count_characters()
+    ensures { CountsCharacters }
 {}
