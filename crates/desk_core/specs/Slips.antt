@@ -67,6 +67,11 @@ abbrev pub slip : ℕ → ℤ → List Candidate → Bytes
 slip run day candidates =
     slip_head run day ++ flat_map slip_line (in_order is_shelved_before candidates)
 
--- in a text, as many as it has scalar values
+-- in a text, as many as it has Unicode scalar values
 abbrev pub CountsCharacters : Type 0
 CountsCharacters = (text : Bytes) → IsUtf8 text → characters text ≡ length (chars text)
+
+-- and on one line as many as are left where a carriage return and a line feed together are one
+abbrev pub CountsPrintedCharacters : Type 0
+CountsPrintedCharacters =
+    (text : Bytes) → IsUtf8 text → characters (one_line text) ≡ length (one_line (chars text))
