@@ -1,7 +1,7 @@
 -- What a file of rows makes of a catalogue.
 use Rattle.std.specs.Prelude.{ℕ, suc, ◌+◌, ◌-◌, nat_eq, nat_lt, Bool, not, ◌&&◌, if◌then◌else◌, List, [], ◌∷◌, ◌++◌, length, filter, find, Option, Some, None, option_and_then, option_map, unwrap_or, Result, Ok, Err}
 use Rattle.std.specs.List.{flat_map}
-use Rattle.std.specs.Option.{option_eq}
+use Rattle.std.specs.Option.{option_eq, option_to_list}
 use Rattle.std.specs.Str.{bytes_eq}
 use Rattle.isad_core.specs.Texts.{Bytes}
 use Rattle.isad_core.specs.declared.values.BoxKey.{BoxKey}
@@ -28,7 +28,7 @@ is_known f source row = has (is_from source row.legacy) f
 
 -- the row has this number in its source
 abbrev pub has_legacy : Bytes → Row → Bool
-has_legacy legacy row = bytes_eq row.legacy legacy
+has_legacy legacy row = bytes_eq legacy row.legacy
 
 -- ---- what can be wrong with a new row: its parent is not there, or it would lie too deep
 
@@ -47,15 +47,12 @@ abbrev pub cause_at : Option ℕ → Option ℕ
 cause_at None = Some 11
 cause_at (Some depth) = if nat_lt 64 depth then Some 12 else None
 
--- the new rows that have a cause, each by its place in the file, with that cause
+-- the new rows that have a cause, each by its number in the file, with that cause
 abbrev pub faults_below : Forest Unit → Bytes → List Row → List Row → List (ℕ × ℕ)
 faults_below f source above [] = []
 faults_below f source above (row ∷ rest) =
-    with_cause (cause_at (depth_under f source row.parent above)) (faults_below f source (row ∷ above) rest)
-  where
-    with_cause : Option ℕ → List (ℕ × ℕ) → List (ℕ × ℕ)
-    with_cause None later = later
-    with_cause (Some cause) later = (row.row, cause) ∷ later
+    option_to_list (option_map (λ cause. (row.row, cause)) (cause_at (depth_under f source row.parent above)))
+    ++ faults_below f source (row ∷ above) rest
 
 -- ---- the units after it
 

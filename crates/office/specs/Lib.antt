@@ -1,1 +1,4 @@
 pub mod Aids
+pub mod Places
+pub mod Planting
+pub mod Slots

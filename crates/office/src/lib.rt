@@ -1,2 +1,4 @@
 //! One command, one transaction, one step; and what a file would show.
 #![tactic(auto)]
+
+mod preview;

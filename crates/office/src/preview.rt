@@ -1,0 +1,4 @@
+//! What a file would show if it were published.
+
+mod places;
+mod planting;
