@@ -1,4 +1,6 @@
 pub mod Aids
+pub mod Numbers
 pub mod Places
 pub mod Planting
+pub mod Printing
 pub mod Slots

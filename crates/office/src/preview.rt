@@ -1,4 +1,6 @@
 //! What a file would show if it were published.
 
+mod numbers;
 mod places;
 mod planting;
+mod printing;

@@ -33,6 +33,7 @@ type Known = BTreeMap<String, usize>;
 pub fn place_rows(alloc: Global, rows: &[Row]) -> Result<Vec<Place>, FileFault>
     ensures none_bad { IfOk result (λ places. faults rows.now ≡ []) }
     ensures places { IfOk result (λ places. ArePlaced rows.now places.items) }
+    ensures shallow { IfOk result (λ places. All (λ place. place.depth ≤ 64) places.items) }
     ensures bad { IfErr result (λ e. IsBad e (λ row cause. (later : _) × (faults rows.now ≡ (row, cause) ∷ later))) }
 {
     let mut known: Known = BTreeMap::new(alloc);

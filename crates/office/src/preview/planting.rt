@@ -1,18 +1,18 @@
 //! The forest of a file's rows.
-ghost use Rattle.std.specs.Prelude.{◌≡◌, ◌<◌, ◌++◌, ◌∷◌, ℕ, [], IfOk, OnOk, None, Option, length, map, nat_eq, slice_get, if◌then◌else◌};
+ghost use Rattle.std.specs.Prelude.{◌≡◌, ◌≤◌, ◌<◌, ◌++◌, ◌∷◌, ℕ, [], IfOk, OnOk, None, Option, length, map, nat_eq, slice_get, if◌then◌else◌};
 ghost use Rattle.std.specs.List.{All};
 ghost use Rattle.std.specs.Option.{option_eq};
 ghost use Rattle.catalogue_store.specs.Merging.{numbered_from};
 ghost use Rattle.tree_core.specs.Forest.{Empty};
 ghost use Rattle.office.specs.Places.{ArePlaced};
-ghost use Rattle.office.specs.Planting.{planted, seen_below};
+ghost use Rattle.office.specs.Planting.{grove, height_of_all, seen_below};
 ghost use Rattle.office.specs.Slots.{IsBelow, children_at, grown_at};
 
 use crate::preview::places::Place;
 use atom_csv::Row;
 use std::alloc::{AllocError, Global};
 
-/// A published row, with those right below it. The last child comes first.
+/// A published row, with those right below it.
 #[derive(Drop)]
 pub struct Tree<'a> {
     /// The number that its unit gets.
@@ -21,21 +21,23 @@ pub struct Tree<'a> {
     pub children: Vec<Tree<'a>>,
 }
 
-/// Where a row stands, and what has grown below it so far.
+/// Where a row stands, and what has grown below it so far, the last child first.
 #[derive(Drop)]
 struct Slot<'a> {
     place: Place,
     children: Vec<Tree<'a>>,
 }
 
-/// The published trees of a file's rows, without what lies below a draft; the last top comes first.
+/// The published trees of a file's rows, without what lies below a draft.
 pub fn plant<'a>(
     alloc: Global,
     rows: &'a [Row],
     places: &[Place],
 ) -> Result<Vec<Tree<'a>>, AllocError>
-    requires { ArePlaced rows.now places.now }
-    ensures { IfOk result (λ tops. planted tops.items ≡ seen_below None (numbered_from Empty [] 1 [] rows.now)) }
+    requires placed { ArePlaced rows.now places.now }
+    requires shallow { All (λ place. place.depth ≤ 64) places.now }
+    ensures grove { IfOk result (λ tops. grove tops.items ≡ seen_below None (numbered_from Empty [] 1 [] rows.now)) }
+    ensures low { IfOk result (λ tops. height_of_all tops.items ≤ 64) }
 {
     let mut slots = bare_slots(alloc, places)?;
     let mut tops = Vec::new(alloc);
@@ -43,14 +45,17 @@ pub fn plant<'a>(
         let index = slots.len();
         let row = &rows[index];
         if row.published {
+            let mut children = slot.children;
+            children.reverse();
             let tree = Tree {
                 id: index as u64 + 1,
                 row,
-                children: slot.children,
+                children,
             };
             put(&mut slots, &mut tops, slot.place.parent, tree)?;
         }
     }
+    tops.reverse();
     Ok(tops)
 }
 
