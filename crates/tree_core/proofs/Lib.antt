@@ -11,3 +11,7 @@ pub mod Moving
 pub mod Below
 pub mod MarkWalks
 pub mod PlaceOrder
+pub mod Repeats
+pub mod Seen
+pub mod Crossing
+pub mod Reading

@@ -4,5 +4,6 @@ pub mod Spans
 pub mod Shifts
 pub mod Withheld
 pub mod Marks
+pub mod SpanFaults
 pub mod Steps
 pub mod Worked
