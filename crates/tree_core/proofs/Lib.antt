@@ -15,3 +15,5 @@ pub mod Repeats
 pub mod Seen
 pub mod Crossing
 pub mod Reading
+pub mod Growing
+pub mod Linking

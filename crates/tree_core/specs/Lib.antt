@@ -5,5 +5,6 @@ pub mod Shifts
 pub mod Withheld
 pub mod Marks
 pub mod SpanFaults
+pub mod LinkFaults
 pub mod Steps
 pub mod Worked
