@@ -17,3 +17,5 @@ pub mod Crossing
 pub mod Reading
 pub mod Growing
 pub mod Linking
+pub mod Adjacent
+pub mod Climbing
