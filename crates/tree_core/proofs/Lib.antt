@@ -19,3 +19,4 @@ pub mod Growing
 pub mod Linking
 pub mod Adjacent
 pub mod Climbing
+pub mod Orders

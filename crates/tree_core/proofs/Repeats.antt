@@ -1,36 +1,41 @@
 -- Lists in which nothing stands twice.
-use Rattle.std.proofs.Common.{◌≡◌, ℕ, zero, suc, ◌<◌, ◌≤◌, Bool, true, false, ◌||◌, List, [], ◌∷◌, Option, Some, None, length, refl, sym, ap, ◌∙◌, subst, nat_eq, inl, inr, arith, get_or, drop, drop-cons}
+use Rattle.std.proofs.Common.{◌≡◌, ℕ, suc, ◌<◌, ◌≤◌, Bool, true, false, ◌||◌, List, [], ◌∷◌, Option, Some, None, length, refl, sym, ap, ◌∙◌, nat_eq, inl, inr, arith, get_or, drop, drop-cons}
 use Rattle.std.proofs.lemmas.Bool.{eq-eqb, ne_eqb, cases_Bool, cases_eq, false≢true, or_parts, or_from}
 use Rattle.std.proofs.lemmas.List.{drop_all}
 use Rattle.std.proofs.lemmas.List.Sorted.{IsPermutation-sym}
 use Rattle.std.proofs.lemmas.Map.Keys.{IsDistinct-IsPermutation}
-use Rattle.std.specs.List.{list_any, IsDistinct}
+use Rattle.std.specs.List.{list_any, IsDistinct, AllByRecursion}
 use Rattle.std.specs.List.Sorted.{IsNonDecreasing, IsPermutation}
 use Rattle.std.specs.Option.{option_eq}
 use Rattle.tree_core.specs.SpanFaults.{repeats}
-use Rattle.tree_core.proofs.Lists.{In, head_apart, distinct_cons}
-use Rattle.tree_core.proofs.Members.{eqb_comm}
+use Rattle.tree_core.proofs.Lists.{In}
 
--- nothing stands twice where the ids are distinct, and the other way round
-pub repeats_distinct : (xs : List ℕ) → IsDistinct nat_eq xs → repeats nat_eq xs ≡ false
-repeats_distinct [] d = refl
-repeats_distinct (x ∷ xs) d = let h = head_apart x xs d in rw (h.0, repeats_distinct xs h.1) refl
+none_of_all : {X : Type 0} (e : X → X → Bool) (x : X) (ys : List X) → AllByRecursion (λ y. e x y ≡ false) ys → list_any (e x) ys ≡ false
+none_of_all e x [] h = refl
+none_of_all e x (y ∷ ys) h = or_from (e x y) (list_any (e x) ys) h.0 (none_of_all e x ys h.1)
 
-nil_distinct : IsDistinct nat_eq []
+all_of_none : {X : Type 0} (e : X → X → Bool) (x : X) (ys : List X) → list_any (e x) ys ≡ false → AllByRecursion (λ y. e x y ≡ false) ys
+all_of_none e x [] h = tt
+all_of_none e x (y ∷ ys) h = let p = or_parts (e x y) (list_any (e x) ys) h in (p.0, all_of_none e x ys p.1)
+
+-- nothing stands twice where all are distinct, and the other way round
+pub repeats_distinct : {X : Type 0} (e : X → X → Bool) (xs : List X) → IsDistinct e xs → repeats e xs ≡ false
 unfolding IsDistinct
-nil_distinct = tt
+repeats_distinct e [] d = refl
+repeats_distinct e (x ∷ xs) d = or_from (list_any (e x) xs) (repeats e xs) (none_of_all e x xs d.0) (repeats_distinct e xs d.1)
 
-pub distinct_repeats : (xs : List ℕ) → repeats nat_eq xs ≡ false → IsDistinct nat_eq xs
-distinct_repeats [] e = nil_distinct
-distinct_repeats (x ∷ xs) e = let h = or_parts (list_any (nat_eq x) xs) (repeats nat_eq xs) e in distinct_cons x xs h.0 (distinct_repeats xs h.1)
+pub distinct_repeats : {X : Type 0} (e : X → X → Bool) (xs : List X) → repeats e xs ≡ false → IsDistinct e xs
+unfolding IsDistinct
+distinct_repeats e [] h = tt
+distinct_repeats e (x ∷ xs) h = let p = or_parts (list_any (e x) xs) (repeats e xs) h in (all_of_none e x xs p.0, distinct_repeats e xs p.1)
 
-pub repeats-permutation : (xs ys : List ℕ) → IsPermutation xs ys → repeats nat_eq ys ≡ repeats nat_eq xs
-repeats-permutation xs ys p = elim (cases_Bool (repeats nat_eq xs)) [
-  | inl t ↦ elim (cases_Bool (repeats nat_eq ys)) [
+pub repeats-permutation : {X : Type 0} (e : X → X → Bool) → ((x y : X) → e x y ≡ e y x) → (xs ys : List X) → IsPermutation xs ys → repeats e ys ≡ repeats e xs
+repeats-permutation e flips xs ys p = elim (cases_Bool (repeats e xs)) [
+  | inl t ↦ elim (cases_Bool (repeats e ys)) [
     | inl s ↦ s ∙ sym t
-    | inr f ↦ absurd (false≢true (sym (repeats_distinct xs (IsDistinct-IsPermutation nat_eq eqb_comm ys xs (IsPermutation-sym xs ys p) (distinct_repeats ys f))) ∙ t))
+    | inr f ↦ absurd (false≢true (sym (repeats_distinct e xs (IsDistinct-IsPermutation e flips ys xs (IsPermutation-sym xs ys p) (distinct_repeats e ys f))) ∙ t))
   ]
-  | inr f ↦ repeats_distinct ys (IsDistinct-IsPermutation nat_eq eqb_comm xs ys p (distinct_repeats xs f)) ∙ sym f
+  | inr f ↦ repeats_distinct e ys (IsDistinct-IsPermutation e flips xs ys p (distinct_repeats e xs f)) ∙ sym f
 ]
 
 -- ---- numbers that rise: the same ones stand side by side
