@@ -20,3 +20,4 @@ pub mod Linking
 pub mod Adjacent
 pub mod Climbing
 pub mod Orders
+pub mod Sharing
