@@ -1,16 +1,16 @@
 -- Which units share the containers above them, and who may see all of these.
-use Rattle.std.proofs.Common.{if◌then◌else◌, ◌≡◌, ℕ, ℤ, Bool, true, false, cond, not, ◌&&◌, ◌||◌, List, [], ◌∷◌, ◌++◌, refl, sym, ap, ◌∙◌, nat_eq, arith, inl, inr, map, append_assoc, subst}
-use Rattle.std.proofs.lemmas.Bool.{eq-eqb, cases_Bool, false≢true, or_parts, or_from}
+use Rattle.std.proofs.Common.{if◌then◌else◌, ◌≡◌, ℕ, ℤ, Bool, true, false, cond, not, ◌&&◌, ◌||◌, List, [], ◌∷◌, ◌++◌, refl, sym, ap, ◌∙◌, nat_eq, inl, inr, map, append_assoc, subst}
+use Rattle.std.proofs.lemmas.Bool.{eq-eqb, cases_Bool, false≢true, or_parts}
 use Rattle.std.proofs.lemmas.List.{map-append}
 use Rattle.std.proofs.lemmas.List.Folds.{list_any-append}
-use Rattle.std.proofs.Math.Bool.{or-false, and_assoc}
+use Rattle.std.proofs.Math.Bool.{or-false}
 use Rattle.std.specs.List.{list_any, list_all}
 use Rattle.tree_core.specs.declared.marks.Mark.{Mark}
 use Rattle.tree_core.specs.Forest.{Forest, Empty, Node, nodes, each, has, path, HasDistinctIds}
 use Rattle.tree_core.specs.Withheld.{sharing, sharing_paths}
 use Rattle.tree_core.specs.Marks.{is_closed, withholds, contents_paths}
 use Rattle.tree_core.proofs.Lists.{In, In-append, In-append_left, In-append_right, In-map, any_from_In}
-use Rattle.tree_core.proofs.Ways.{Parts, parts, other_id}
+use Rattle.tree_core.proofs.LinkPaths.{parts, other_id}
 use Rattle.tree_core.proofs.Adding.{Here, Below, Beside, place}
 use Rattle.tree_core.proofs.OneForest.{has-each, nodes-each}
 use Rattle.tree_core.proofs.MarkWalks.{is_draft, has_permit, is_seen, is_boxed, list_all-append}
