@@ -1,0 +1,12 @@
+pub mod Lists
+pub mod Ways
+pub mod Adding
+pub mod Places
+pub mod Walk
+pub mod Shifts
+pub mod OneForest
+pub mod Cutting
+pub mod Members
+pub mod Moving
+pub mod Below
+pub mod MarkWalks
