@@ -1,0 +1,5 @@
+pub mod Checks
+pub mod Decisions
+pub mod Orders
+pub mod Refusals
+pub mod Runs
