@@ -1,0 +1,2 @@
+//! Units, containers and places.
+#![tactic(auto)]

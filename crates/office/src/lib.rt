@@ -1,0 +1,11 @@
+//! The office: one command, one step.
+#![tactic(auto)]
+
+mod command;
+mod done;
+mod query;
+
+pub use command::Command;
+pub use desk_core::Refusal;
+pub use done::{Done, Remark};
+pub use query::{Answer, Query};
