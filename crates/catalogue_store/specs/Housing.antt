@@ -1,17 +1,13 @@
 -- Where units lie, and when what lies in a container may be seen.
-use Rattle.std.specs.Prelude.{ℕ, ℤ, int_lt, Bool, true, false, not, ◌&&◌, List, [], ◌∷◌, ◌++◌, Option, Some, None, filter}
+use Rattle.std.specs.Prelude.{ℕ, ℤ, Bool, true, false, not, ◌&&◌, List, [], ◌∷◌, ◌++◌, Option, Some, None, filter}
 use Rattle.std.specs.List.{list_any, list_all}
-use Rattle.std.specs.Str.{bytes_eq}
 use Rattle.isad_core.specs.declared.values.BoxKey.{BoxKey}
 use Rattle.tree_core.specs.Forest.{Forest, Empty, Node}
 use Rattle.tree_core.specs.Withheld.{is_withheld}
-use Rattle.catalogue_store.specs.Units.{Unit}
+use Rattle.catalogue_store.specs.Units.{Unit, is_closed}
+use Rattle.catalogue_store.specs.Merging.{is_same_box}
 
 -- ---- which containers a unit lies in
-
--- one container: the same name, location and kind
-abbrev pub is_same_box : BoxKey → BoxKey → Bool
-is_same_box a b = bytes_eq a.name b.name && (bytes_eq a.location b.location && bytes_eq a.kind b.kind)
 
 -- the containers that are named, or where none is, those that are handed down
 abbrev pub own_or : List BoxKey → List BoxKey → List BoxKey
@@ -42,14 +38,6 @@ abbrev pub contents : Forest Unit → BoxKey → List (List Unit)
 contents f box = filter (λ path. list_any (is_same_box box) (housed path)) (paths f)
 
 -- ---- who may see them
-
-abbrev pub is_later : ℤ → Option ℤ → Bool
-is_later day None = false
-is_later day (Some until) = int_lt day until
-
--- a unit is closed until a later day; a closure until a day ends on that day
-abbrev pub is_closed : ℤ → Unit → Bool
-is_closed day unit = is_later day unit.until
 
 -- A unit is withheld from a reader where it or a unit above it is a draft, or where one of these is closed
 -- and the reader has no permit for any of them. `permitted` says for which units he has one that day.

@@ -1,12 +1,29 @@
--- A unit of description, as the office keeps it.
-use Rattle.std.specs.Prelude.{ℕ, ℤ, Bool, Option}
+-- Units of description, and what a unit takes from those above it.
+use Rattle.std.specs.Prelude.{ℕ, ℤ, Bool, false, ◌&&◌, nat_eq, int_lt, Option, Some, None}
+use Rattle.std.specs.Str.{bytes_eq}
 use Rattle.isad_core.specs.Texts.{Bytes}
 use Rattle.isad_core.specs.declared.values.Values.{Values}
 
 pub record Unit : Type 0 where
-  pub id : ℕ
-  pub source : Bytes  -- where its description comes from
+  pub id : ℕ  -- its number in this office
+  pub source : Bytes  -- where its description came from
   pub legacy : Bytes  -- its number there
   pub values : Values
   pub draft : Bool
   pub until : Option ℤ  -- the day on which its closure ends
+
+-- the unit has this number
+abbrev pub has_id : ℕ → Unit → Bool
+has_id id unit = nat_eq id unit.id
+
+-- the unit is the one with this number in this source
+abbrev pub is_from : Bytes → Bytes → Unit → Bool
+is_from source legacy unit = bytes_eq unit.source source && bytes_eq unit.legacy legacy
+
+-- a closure until a day ends on that day
+abbrev pub is_later : ℤ → Option ℤ → Bool
+is_later today None = false
+is_later today (Some until) = int_lt today until
+
+abbrev pub is_closed : ℤ → Unit → Bool
+is_closed today unit = is_later today unit.until

@@ -1,2 +1,2 @@
-//! Units, containers and places.
+//! Units, containers and places: what an office knows of its archives.
 #![tactic(auto)]

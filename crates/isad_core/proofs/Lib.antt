@@ -1,3 +1,4 @@
 pub mod DateLemmas
 pub mod DayLemmas
 pub mod PrintLemmas
+pub mod ValueLemmas

@@ -4,3 +4,4 @@ pub mod Elements
 pub mod Levels
 pub mod Printed
 pub mod Texts
+pub mod Values

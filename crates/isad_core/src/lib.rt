@@ -20,6 +20,7 @@ pub use element::Element;
 pub use level::rank;
 pub use list::List;
 pub use page::page_text;
+pub use print::one_line;
 pub use shown::{Body, Page, Shown};
 pub use text::{Text, is_blank};
 pub use values::{BoxKey, Values};

@@ -1,15 +1,16 @@
 //! What is printed of a unit, appended to the bytes so far.
-ghost use Rattle.std.specs.Prelude.{◌≡◌, ◌≤◌, ◌++◌, ◌∷◌, [], OnOk, codes, decimal, length};
+ghost use Rattle.std.specs.Prelude.{◌≡◌, ◌≤◌, ◌++◌, ◌∷◌, [], IfOk, OnOk, codes, decimal, length};
 ghost use Rattle.isad_core.specs.Days.{day_text};
 ghost use Rattle.isad_core.specs.Printed.{container_text, element_text, head_line, heading, indent, or_dash, origin};
-ghost use Rattle.isad_core.specs.Texts.{one_line, spaced};
+ghost use Rattle.isad_core.specs.Texts.{spaced};
+ghost use Rattle.isad_core.specs.Texts as spec;
 
 use crate::day::Day;
 use crate::element::Element;
 use crate::shown::{Body, Shown};
 use crate::text::{Text, is_blank};
 use itoa::Buffer;
-use std::alloc::AllocError;
+use std::alloc::{AllocError, Global};
 
 /// A text.
 pub fn push(out: &mut Vec<u8>, text: &str) -> Result<(), AllocError>
@@ -39,7 +40,7 @@ fn on_one_line(byte: u8) -> u8
 
 /// What follows the first byte of a text, or follows CR and LF together.
 fn after(first: u8, others: &[u8]) -> &[u8]
-    ensures rest { one_line (first ∷ others.now) ≡ spaced first ∷ one_line result.now }
+    ensures rest { spec.one_line (first ∷ others.now) ≡ spaced first ∷ spec.one_line result.now }
     ensures shorter { length result.now ≤ length others.now }
 {
     match others {
@@ -50,7 +51,7 @@ fn after(first: u8, others: &[u8]) -> &[u8]
 
 /// A text on one line.
 pub fn push_one_line(out: &mut Vec<u8>, text: &str) -> Result<(), AllocError>
-    ensures { OnOk result (out.new.items ≡ out.old.items ++ one_line text.now) }
+    ensures { OnOk result (out.new.items ≡ out.old.items ++ spec.one_line text.now) }
 {
     let mut rest = text.as_bytes();
     while let [first, others @ ..] = rest {
@@ -58,6 +59,15 @@ pub fn push_one_line(out: &mut Vec<u8>, text: &str) -> Result<(), AllocError>
         rest = after(*first, others);
     }
     Ok(())
+}
+
+/// A text as it is printed on one line: each CRLF, and each other CR or LF, is one space.
+pub fn one_line(alloc: Global, text: &str) -> Result<Vec<u8>, AllocError>
+    ensures { IfOk result (λ line. line.items ≡ spec.one_line text.now) }
+{
+    let mut out = Vec::new(alloc);
+    push_one_line(&mut out, text)?;
+    Ok(out)
 }
 
 /// A text on one line, or a dash for a blank one.

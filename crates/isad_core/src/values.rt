@@ -1,10 +1,14 @@
 //! What a file tells of a unit.
+ghost use Rattle.std.specs.Prelude.{◌≡◌, ◌<◌, ◌++◌, IfOk, IfSome, OnOk, option_copied, option_to_list};
+ghost use Rattle.isad_core.specs.Values.{line_of, lines_among, own_lines, place, text_of};
 
+use crate::element::Element;
 use crate::list::List;
 use crate::text::Text;
+use std::alloc::{AllocError, Global};
 
 /// A container as it is known: what it is called, where it stands, and of what kind it is.
-#[derive(Debug, PartialEq, Drop)]
+#[derive(Debug, PartialEq, Eq, PartialOrd, Ord, Drop)]
 pub struct BoxKey {
     /// What is written on it. Rows of a file name no container by a blank text.
     pub name: Text,
@@ -23,4 +27,90 @@ pub struct Values {
     pub texts: [Option<Text>; 25],
     /// The unit's containers in its order, none of them twice.
     pub boxes: List<BoxKey>,
+}
+
+/// The elements that have a line of their own, in the standard's order: code, title and level stand
+/// in the head line.
+const LINE_ELEMENTS: [Element; 23] = [
+    Element::Dates,
+    Element::Extent,
+    Element::Creator,
+    Element::CreatorHistory,
+    Element::ArchivalHistory,
+    Element::Acquisition,
+    Element::Scope,
+    Element::Appraisal,
+    Element::Accruals,
+    Element::Arrangement,
+    Element::Access,
+    Element::Reproduction,
+    Element::Language,
+    Element::Physical,
+    Element::FindingAids,
+    Element::Originals,
+    Element::Copies,
+    Element::RelatedUnits,
+    Element::PublicationNote,
+    Element::Note,
+    Element::ArchivistsNote,
+    Element::Rules,
+    Element::DescriptionDates,
+];
+
+impl Values {
+    /// The text of an element other than the level.
+    pub fn text(&self, element: Element) -> Option<&Text>
+        ensures { option_copied result ≡ text_of element self.now }
+    {
+        let place = place_of(element)?;
+        self.texts[place].as_ref()
+    }
+
+    /// The elements that have a line of their own, each with its text.
+    pub fn lines(&self, alloc: Global) -> Result<List<(Element, Text)>, AllocError>
+        ensures { IfOk result (λ lines. lines ≡ own_lines self.now) }
+    {
+        self.lines_among(alloc, LINE_ELEMENTS.as_slice())
+    }
+
+    /// Those of these elements that the unit has, each with its text.
+    fn lines_among(
+        &self,
+        alloc: Global,
+        elements: &[Element],
+    ) -> Result<List<(Element, Text)>, AllocError>
+        ensures { IfOk result (λ lines. lines ≡ lines_among elements.now self.now) }
+    {
+        let mut lines = List::new(alloc);
+        for element in elements {
+            push_line(&mut lines, self, *element)?;
+        }
+        Ok(lines)
+    }
+}
+
+/// Adds the line of an element, where the unit has it.
+fn push_line(
+    lines: &mut List<(Element, Text)>,
+    values: &Values,
+    element: Element,
+) -> Result<(), AllocError>
+    ensures { OnOk result (lines.new ≡ lines.old ++ option_to_list (line_of values.now element)) }
+{
+    match values.text(element) {
+        None => Ok(()),
+        Some(text) => lines.push((element, text.clone()?)),
+    }
+}
+
+/// The place of an element's text among the texts of `Values`.
+fn place_of(element: Element) -> Option<usize>
+    ensures place { result ≡ place element }
+    ensures bound { IfSome result (λ i. i < 25) }
+{
+    match element {
+        Element::Level => None,
+        Element::ReferenceCode | Element::Title | Element::Dates => Some(element as usize),
+        _ => Some(element as usize - 1),
+    }
 }

@@ -10,13 +10,13 @@ use Rattle.desk_core.specs.declared.reader.Place.{Place}
 use Rattle.desk_core.specs.declared.reader.Place.TheVariants.{Shelf, Desk, Out}
 use Rattle.desk_core.specs.declared.refusal.Refusal.{Refusal}
 use Rattle.desk_core.specs.declared.refusal.Refusal.TheVariants.{UnknownUnit, UnknownTicket, UnknownContainer, UnknownOrder, OrderNotWaiting, NotIssued, DayNotLater, StillIssued, IntoItself, WithReader, Full, NothingToMove, TooDeep, BadName, NoPermit}
-use Rattle.catalogue_store.specs.Units.{Unit}
+use Rattle.catalogue_store.specs.Units.{Unit, has_id}
 use Rattle.office.specs.declared.command.Command.{Command}
 use Rattle.office.specs.declared.command.Command.TheVariants as command
 use Rattle.office.specs.declared.done.Done.{Done}
 use Rattle.office.specs.declared.done.Done.TheVariants as done
 use Rattle.office.specs.Words.{numbered, put, some_and, first_that, first, is_empty, stands, without}
-use Rattle.office.specs.State.{Reader, State, is_unit, has_unit, is_ticket, is_expired, is_seated, seat_of, free_seat, sit, rise, containers, is_container, opens, container_of, is_by, order_out, is_desk, is_out, held, waits, has_ordered, placed, picked, next_run, brings, idle, has_permit, granted, revoked, granted_until}
+use Rattle.office.specs.State.{Reader, State, has_unit, is_ticket, is_expired, is_seated, seat_of, free_seat, sit, rise, containers, is_container, opens, container_of, is_by, order_out, is_desk, is_out, held, waits, has_ordered, placed, picked, next_run, brings, idle, has_permit, granted, revoked, granted_until}
 use Rattle.office.specs.State as state
 
 -- ---- names
@@ -59,23 +59,23 @@ gate s = (is_some (kept s), WithReader (unwrap_or (kept s) 0))
 
 -- the unit, or with `whole` each unit of its branch
 abbrev pub is_chosen : Bool → ℕ → Forest Unit → Unit → Bool
-is_chosen true u f unit = list_any (is_unit unit.id) (branch (is_unit u) f)
-is_chosen false u f unit = is_unit u unit
+is_chosen true u f unit = list_any (has_id unit.id) (branch (has_id u) f)
+is_chosen false u f unit = has_id u unit
 
 abbrev pub with_status : Bool → Bool → ℕ → Forest Unit → Forest Unit
 with_status draft whole u f = each (λ (unit : Unit). cond (is_chosen whole u f unit) (record unit { draft = draft }) unit) f
 
 abbrev pub with_closure : Option ℤ → ℕ → Forest Unit → Forest Unit
-with_closure until u f = each (λ (unit : Unit). cond (is_unit u unit) (record unit { until = until }) unit) f
+with_closure until u f = each (λ (unit : Unit). cond (has_id u unit) (record unit { until = until }) unit) f
 
 -- how many units are set
 abbrev pub chosen : Bool → ℕ → Forest Unit → ℕ
-chosen true u f = length (branch (is_unit u) f)
+chosen true u f = length (branch (has_id u) f)
 chosen false u f = 1
 
 -- the parent is the unit itself, or lies below it; the place above the tops does not
 abbrev pub is_into_itself : ℕ → Option ℕ → Forest Unit → Bool
-is_into_itself u parent f = some_and (λ p. list_any (is_unit p) (branch (is_unit u) f)) parent
+is_into_itself u parent f = some_and (λ p. list_any (has_id p) (branch (has_id u) f)) parent
 
 -- how many units stand above one another
 abbrev pub height : Forest Unit → ℕ
@@ -85,11 +85,11 @@ height (Node unit children others) = max (1 + height children) (height others)
 -- how deep a unit lies: 1 for a top, and 0 for the place above the tops
 abbrev pub depth : Option ℕ → Forest Unit → ℕ
 depth None f = 0
-depth (Some u) f = length (path (is_unit u) f)
+depth (Some u) f = length (path (has_id u) f)
 
 -- how deep the lowest unit of a branch would lie below the parent
 abbrev pub depth_after : ℕ → Option ℕ → Forest Unit → ℕ
-depth_after u parent f = depth parent f + height (tree (is_unit u) f)
+depth_after u parent f = depth parent f + height (tree (has_id u) f)
 
 abbrev pub most_deep : ℕ
 most_deep = 64
@@ -103,8 +103,8 @@ opened s day = record s { day = day; seats = replicate s.settings.seats None }
 abbrev pub removed : State → ℕ → State
 removed s u =
     record s {
-      forest = cut (is_unit u) s.forest;
-      permits = λ t. filter (λ permit. has_unit (cut (is_unit u) s.forest) permit.unit) (s.permits t);
+      forest = cut (has_id u) s.forest;
+      permits = λ t. filter (λ permit. has_unit (cut (has_id u) s.forest) permit.unit) (s.permits t);
     }
 
 abbrev pub renewed : ℤ → List Reader → ℕ → List Reader

@@ -7,7 +7,7 @@ use Rattle.isad_core.specs.declared.values.BoxKey.{BoxKey}
 use Rattle.tree_core.specs.Forest.{Forest, Empty, has}
 use Rattle.desk_core.specs.declared.reader.Place.{Place}
 use Rattle.desk_core.specs.declared.reader.Place.TheVariants.{Shelf, Desk, Out}
-use Rattle.catalogue_store.specs.Units.{Unit}
+use Rattle.catalogue_store.specs.Units.{Unit, has_id}
 use Rattle.catalogue_store.specs.Housing.{is_open}
 use Rattle.office.specs.Words.{numbered, numbers_to, some_and, place_of, first, is_empty, stands}
 
@@ -86,11 +86,8 @@ start settings day =
 
 -- ---- units
 
-abbrev pub is_unit : ℕ → Unit → Bool
-is_unit u unit = nat_eq u unit.id
-
 abbrev pub has_unit : Forest Unit → ℕ → Bool
-has_unit f u = has (is_unit u) f
+has_unit f u = has (has_id u) f
 
 -- ---- readers and seats
 

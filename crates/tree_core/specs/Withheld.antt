@@ -1,6 +1,6 @@
 -- What is withheld from a reader, which units share the containers above them, and what the public sees of a forest.
 -- Which nodes are drafts, closed, opened by a permit of the reader, or have containers of their own is said by tests.
-use Rattle.std.specs.Prelude.{Bool, false, true, not, ◌&&◌, ◌||◌, List, [], ◌∷◌, ◌++◌, if◌then◌else◌}
+use Rattle.std.specs.Prelude.{Bool, not, ◌&&◌, ◌||◌, List, [], ◌∷◌, ◌++◌, if◌then◌else◌}
 use Rattle.std.specs.List.{list_any}
 use Rattle.tree_core.specs.Forest.{Forest, Empty, Node}
 
