@@ -1,3 +1,5 @@
 pub mod Words
 pub mod State
+pub mod Intake
 pub mod Rules
+pub mod Worked

@@ -11,6 +11,7 @@ use Rattle.desk_core.specs.declared.reader.Place.TheVariants.{Shelf, Desk, Out}
 use Rattle.desk_core.specs.declared.refusal.Refusal.{Refusal}
 use Rattle.desk_core.specs.declared.refusal.Refusal.TheVariants.{UnknownUnit, UnknownTicket, UnknownContainer, UnknownOrder, OrderNotWaiting, NotIssued, DayNotLater, StillIssued, IntoItself, WithReader, Full, NothingToMove, TooDeep, BadName, NoPermit}
 use Rattle.catalogue_store.specs.Units.{Unit, has_id}
+use Rattle.catalogue_store.specs.Merging.{Catalogue}
 use Rattle.office.specs.declared.command.Command.{Command}
 use Rattle.office.specs.declared.command.Command.TheVariants as command
 use Rattle.office.specs.declared.done.Done.{Done}
@@ -18,6 +19,7 @@ use Rattle.office.specs.declared.done.Done.TheVariants as done
 use Rattle.office.specs.Words.{numbered, put, some_and, first_that, first, is_empty, stands, without}
 use Rattle.office.specs.State.{Reader, State, has_unit, is_ticket, is_expired, is_seated, seat_of, free_seat, sit, rise, containers, is_container, opens, container_of, is_by, order_out, is_desk, is_out, held, waits, has_ordered, placed, picked, next_run, brings, idle, has_permit, granted, revoked, granted_until}
 use Rattle.office.specs.State as state
+use Rattle.office.specs.Intake.{Taken, take, bad_file, too_much, told_of}
 
 -- ---- names
 
@@ -140,3 +142,194 @@ abbrev pub returned : State → ℕ → Place → State
 returned s c Shelf = s
 returned s c Desk = s
 returned s c (Out o) = record s { place = put s.place c Desk; past = put s.past o (Some state.Done) }
+
+-- ---- an import
+
+abbrev pub catalogue : State → Catalogue
+catalogue s = record { forest = s.forest; containers = s.boxes; next = s.next_unit }
+
+-- what a file from a source makes of the catalogue, or its first faulty row
+abbrev pub taken : State → Bytes → Bytes → Taken
+taken s source file = take (catalogue s) source file
+
+abbrev pub imported : State → Taken → State
+imported s (Ok intake) =
+    record s {
+      forest = intake.catalogue.forest;
+      boxes = intake.catalogue.containers;
+      next_unit = intake.catalogue.next;
+    }
+imported s (Err fault) = s
+
+-- ---- what a command does
+
+abbrev pub after : State → Command → State
+after s (command.OpenDay day) = opened s day
+after s (command.Import source file) = imported s (taken s source file)
+after s (command.SetStatus u draft whole) = record s { forest = with_status draft whole u s.forest }
+after s (command.SetClosure u until) = record s { forest = with_closure until u s.forest }
+after s (command.Move u parent) = record s { forest = move_last has_id u parent s.forest }
+after s (command.Remove u) = removed s u
+after s (command.Register name until) = record s { readers = s.readers ++ record { name = name; until = until } ∷ [] }
+after s (command.Renew t until) = record s { readers = renewed until s.readers t }
+after s (command.TakeSeat t) = record s { seats = sit t s.seats }
+after s (command.LeaveSeat t) = record s { seats = rise t s.seats }
+after s (command.Order t c) = ordered s t c
+after s (command.Cancel o) = cancelled s o (container_of s o)
+after s command.Run = fetched s
+after s command.Reshelve = reshelved s
+after s (command.Issue c t) = issued s c (s.queue c)
+after s (command.Return c) = returned s c (s.place c)
+after s (command.Permit t u until) = record s { permits = put s.permits t (granted u until (s.permits t)) }
+after s (command.Revoke t u) = record s { permits = put s.permits t (revoked u (s.permits t)) }
+
+-- ---- what a command asks for, in order
+
+abbrev pub most_tickets : ℕ
+most_tickets = 1000000
+
+abbrev pub most_runs : ℕ
+most_runs = 1000000
+
+-- of one ticket
+abbrev pub most_permits : ℕ
+most_permits = 100
+
+abbrev pub checks : State → Command → List Check
+checks s (command.OpenDay day) =
+    (not (int_lt s.day day), DayNotLater)
+    ∷ (list_any (is_out s) (containers s), StillIssued)
+    ∷ []
+checks s (command.Import source file) =
+    (not (is_source source), BadName)
+    ∷ bad_file (taken s source file)
+    ∷ too_much (taken s source file)
+    ∷ gate (after s (command.Import source file))
+    ∷ []
+checks s (command.SetStatus u draft whole) =
+    (not (has_unit s.forest u), UnknownUnit)
+    ∷ gate (after s (command.SetStatus u draft whole))
+    ∷ []
+checks s (command.SetClosure u until) =
+    (not (has_unit s.forest u), UnknownUnit)
+    ∷ gate (after s (command.SetClosure u until))
+    ∷ []
+checks s (command.Move u parent) =
+    (not (has_unit s.forest u), UnknownUnit)
+    ∷ (not (has_place has_id parent s.forest), UnknownUnit)
+    ∷ (is_into_itself u parent s.forest, IntoItself)
+    ∷ (nat_lt most_deep (depth_after u parent s.forest), TooDeep)
+    ∷ gate (after s (command.Move u parent))
+    ∷ []
+checks s (command.Remove u) =
+    (not (has_unit s.forest u), UnknownUnit)
+    ∷ gate (after s (command.Remove u))
+    ∷ []
+checks s (command.Register name until) =
+    (not (is_name name), BadName)
+    ∷ (nat_le most_tickets (length s.readers), Full)
+    ∷ []
+checks s (command.Renew t until) = (not (is_ticket s t), UnknownTicket) ∷ []
+checks s (command.TakeSeat t) =
+    take_seat_checks
+    (record {
+      known = is_ticket s t;
+      expired = is_expired s t;
+      seated = is_seated s t;
+      free = free_seat s;
+    })
+checks s (command.LeaveSeat t) =
+    leave_seat_checks (record { known = is_ticket s t; seated = is_seated s t; held = held s t })
+checks s (command.Order t c) =
+    order_checks
+    (record {
+      known = is_ticket s t;
+      expired = is_expired s t;
+      available = opens s t c;
+      ordered = has_ordered s t c;
+      placed = placed s t s.day;
+      daily = s.settings.daily;
+      orders = length s.orders;
+    })
+checks s (command.Cancel o) =
+    (not (is_some (container_of s o)), UnknownOrder)
+    ∷ (not (waits s o), OrderNotWaiting)
+    ∷ []
+checks s command.Run =
+    (is_empty (picked s), NothingToMove)
+    ∷ (nat_le most_runs (length s.runs), Full)
+    ∷ []
+checks s command.Reshelve = (is_empty (idle s), NothingToMove) ∷ []
+checks s (command.Issue c t) =
+    issue_checks
+    (record {
+      known = is_container s c;
+      at_desk = is_desk (s.place c);
+      first = some_and (is_by s t) (first (s.queue c));
+      expired = is_expired s t;
+      seated = is_seated s t;
+      held = held s t;
+      hands = s.settings.hands;
+      available = opens s t c;
+    })
+checks s (command.Return c) =
+    (not (is_container s c), UnknownContainer)
+    ∷ (not (is_out s c), NotIssued)
+    ∷ []
+checks s (command.Permit t u until) =
+    (not (is_ticket s t), UnknownTicket)
+    ∷ (not (has_unit s.forest u), UnknownUnit)
+    ∷ (not (has_permit s t u) && nat_le most_permits (length (s.permits t)), Full)
+    ∷ []
+checks s (command.Revoke t u) =
+    (not (is_ticket s t), UnknownTicket)
+    ∷ (not (has_unit s.forest u), UnknownUnit)
+    ∷ (not (has_permit s t u), NoPermit)
+    ∷ gate (after s (command.Revoke t u))
+    ∷ []
+
+-- ---- what is told where no check holds
+
+abbrev pub told : State → Command → Done
+told s (command.OpenDay day) = done.OpenDay day
+told s (command.Import source file) = told_of s.forest source (taken s source file)
+told s (command.SetStatus u draft whole) = done.SetStatus (chosen whole u s.forest)
+told s (command.SetClosure u until) = done.SetClosure u
+told s (command.Move u parent) = done.Move u
+told s (command.Remove u) = done.Remove (length (branch (has_id u) s.forest))
+told s (command.Register name until) = done.Register (suc (length s.readers))
+told s (command.Renew t until) = done.Renew t
+told s (command.TakeSeat t) = done.TakeSeat (unwrap_or (free_seat s) 0)
+told s (command.LeaveSeat t) = done.LeaveSeat (unwrap_or (seat_of s t) 0)
+told s (command.Order t c) = done.Order (suc (length s.orders))
+told s (command.Cancel o) = done.Cancel o
+told s command.Run = done.Run (suc (length s.runs)) (length (picked s))
+told s command.Reshelve = done.Reshelve (idle s)
+told s (command.Issue c t) = done.Issue (unwrap_or (first (s.queue c)) 0)
+told s (command.Return c) = done.Return (unwrap_or (order_out (s.place c)) 0)
+told s (command.Permit t u until) = done.Permit t u (granted_until u until (s.permits t))
+told s (command.Revoke t u) = done.Revoke u
+
+-- ---- one step: the first check that holds refuses the command, and nothing changes
+
+abbrev pub refusal : State → Command → Option Refusal
+refusal s asked = first_that_holds (checks s asked)
+
+abbrev pub Reply : Type 0
+Reply = Result Done Refusal
+
+abbrev pub decided : Option Refusal → State → State → Done → State × Reply
+decided (Some why) old new done = (old, Err why)
+decided None old new done = (new, Ok done)
+
+abbrev pub step : State → Command → State × Reply
+step s asked = decided (refusal s asked) s (after s asked) (told s asked)
+
+-- the state after a list of commands, and the replies to them
+abbrev pub state_after : State → List Command → State
+state_after s [] = s
+state_after s (asked ∷ later) = state_after (step s asked).0 later
+
+abbrev pub replies : State → List Command → List Reply
+replies s [] = []
+replies s (asked ∷ later) = (step s asked).1 ∷ replies (step s asked).0 later
