@@ -3,3 +3,4 @@ pub mod State
 pub mod Intake
 pub mod Rules
 pub mod Worked
+pub mod Rows

@@ -187,7 +187,7 @@ abbrev pub is_due : State → ℕ → Bool
 is_due s o =
     some_and
     (λ order. some_and (nat_eq o) (first (s.queue order.container))
-        && (is_shelf (s.place order.container) && opens s order.ticket order.container))
+    && (is_shelf (s.place order.container) && opens s order.ticket order.container))
     (numbered s.orders o)
 
 -- the least orders that are due, as many as a run takes

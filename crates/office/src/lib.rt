@@ -4,6 +4,7 @@
 mod command;
 mod done;
 mod query;
+pub mod worked;
 
 pub use command::Command;
 pub use desk_core::Refusal;
