@@ -1,0 +1,9 @@
+pub mod Causes
+pub mod Columns
+pub mod Entries
+pub mod Fields
+pub mod FileOf
+pub mod Findings
+pub mod Known
+pub mod Source
+pub mod Values

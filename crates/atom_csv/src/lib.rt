@@ -1,6 +1,16 @@
-//! Rows of AtoM archival description files.
+//! Reads AtoM's archival description CSV.
 #![tactic(auto)]
 
+mod boxes;
+mod cause;
+mod column;
+mod entries;
 mod file;
+mod findings;
+mod header;
+mod joined;
+mod records;
+mod trim;
+mod values;
 
 pub use file::{File, FileFault, Row};

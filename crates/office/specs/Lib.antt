@@ -1,3 +1,4 @@
+pub mod Aids
 pub mod Words
 pub mod State
 pub mod Intake

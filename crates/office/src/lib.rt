@@ -1,4 +1,4 @@
-//! The office: one command, one step.
+//! One command, one transaction, one step; and what a file would show.
 #![tactic(auto)]
 
 mod command;
