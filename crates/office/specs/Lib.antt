@@ -5,3 +5,4 @@ pub mod Intake
 pub mod Rules
 pub mod Worked
 pub mod Rows
+pub mod Sound
