@@ -1,8 +1,10 @@
 -- What an accepted import has made.
-use Rattle.std.proofs.Common.{◌≡◌, ℕ, Bool, true, false, not, cond, ◌&&◌, ◌||◌, List, [], ◌∷◌, ◌++◌, Option, Some, None, Ok, Err, refl, sym, ap, ◌∙◌, subst, inl, inr}
+use Rattle.std.proofs.Common.{◌≡◌, ℕ, Bool, true, false, not, arith, cond, ◌&&◌, ◌||◌, List, [], ◌∷◌, ◌++◌, Option, Some, None, Ok, Err, refl, sym, ap, ◌∙◌, subst, inl, inr}
 use Rattle.std.specs.Prelude.{Result, filter}
 use Rattle.std.specs.List.{list_any, flat_map}
-use Rattle.std.proofs.lemmas.Bool.{cases_Bool}
+use Rattle.std.specs.Str.{bytes_eq}
+use Rattle.std.proofs.lemmas.Bool.{cases_Bool, and_parts}
+use Rattle.std.proofs.lemmas.Slice.Eq.{bytes_eq-Decides}
 use Rattle.isad_core.specs.Texts.{Bytes}
 use Rattle.isad_core.specs.declared.values.BoxKey.{BoxKey}
 use Rattle.atom_csv.specs.FileOf.{file_of}
@@ -18,7 +20,7 @@ new_rows c source rows = filter (λ row. not (is_known c.forest source row)) row
 pub record IsTaken (c : Catalogue) (source file : Bytes) (intake : Intake) : Type 0 where
   pub read : file_of file ≡ Ok intake.file
   pub placed : faults_below c.forest source [] (new_rows c source intake.file.rows) ≡ []
-  pub is : intake.catalogue ≡ merged c source intake.file.rows (numbered_from c.next (new_rows c source intake.file.rows))
+  pub is : intake.catalogue ≡ merged c source intake.file.rows (numbered_from c.forest source c.next [] (new_rows c source intake.file.rows))
 
 first_ok : {A : Type 0} (faults : List (ℕ × ℕ)) (value : A) (got : A) → or_first faults value ≡ Ok got → (faults ≡ []) × (got ≡ value)
 first_ok [] value got e = (refl, cc)
@@ -28,7 +30,7 @@ taken_at : (c : Catalogue) (source file : Bytes) (intake : Intake) (f : File) (r
 taken_at c source file intake f (Err fault) h m e = absurd (cc)
 taken_at c source file intake f (Ok made) h m e =
     let same : record { file = f; catalogue = made } ≡ intake = cc in
-    let x = first_ok (faults_below c.forest source [] (new_rows c source f.rows)) (merged c source f.rows (numbered_from c.next (new_rows c source f.rows))) made m in
+    let x = first_ok (faults_below c.forest source [] (new_rows c source f.rows)) (merged c source f.rows (numbered_from c.forest source c.next [] (new_rows c source f.rows))) made m in
     subst (IsTaken c source file) same (record { read = h; placed = x.0; is = x.1 })
 
 taken_from : (c : Catalogue) (source file : Bytes) (intake : Intake) (r : Result File (ℕ × ℕ)) → file_of file ≡ r → take_rows c source r ≡ Ok intake → IsTaken c source file intake
@@ -93,25 +95,64 @@ new_boxes boxes rows = filter (λ b. not (list_any (λ x. is_same_box x b) boxes
 pub boxes_grow : (boxes : List BoxKey) (rows : List Row) → firsts boxes ≡ boxes → merged_boxes rows boxes ≡ boxes ++ new_boxes boxes rows
 boxes_grow boxes rows e = firsts_append boxes (flat_map (λ row. row.values.boxes) rows) ∙ ap (λ l. l ++ new_boxes boxes rows) e
 
+same_texts : (a b : List ℕ) → bytes_eq a b ≡ true → a ≡ b
+same_texts a b e = grind (arith, bytes_eq-Decides a b)
+
+-- one container has one name, location and kind
+pub same_box : (a b : BoxKey) → is_same_box a b ≡ true → a ≡ b
+same_box a b e =
+    let x = and_parts (bytes_eq a.name b.name) (bytes_eq a.location b.location && bytes_eq a.kind b.kind) e in
+    let y = and_parts (bytes_eq a.location b.location) (bytes_eq a.kind b.kind) x.1 in
+    let n = same_texts a.name b.name x.0 in
+    let l = same_texts a.location b.location y.0 in
+    let k = same_texts a.kind b.kind y.1 in
+    ap (λ t. record { name = t; location = a.location; kind = a.kind }) n
+    ∙ (ap (λ t. record { name = b.name; location = t; kind = a.kind }) l
+    ∙ ap (λ t. record { name = b.name; location = b.location; kind = t }) k)
+
+and_twice : (b : Bool) → (b && b) ≡ b
+and_twice true = refl
+and_twice false = refl
+
+and_swap : (a b : Bool) → (a && b) ≡ (b && a)
+and_swap true true = refl
+and_swap true false = refl
+and_swap false true = refl
+and_swap false false = refl
+
+-- what a test keeps, it keeps of one of several equal ones too
+kept_alone : (p : BoxKey → Bool) (y b : BoxKey) → p y ≡ false → (p b && not (is_same_box y b)) ≡ p b
+kept_alone p y b e = at (is_same_box y b) refl
+  where
+    at : (c : Bool) → is_same_box y b ≡ c → (p b && not c) ≡ p b
+    at true h = let n : p b ≡ false = subst (λ z. p z ≡ false) (same_box y b h) e in ap (λ x. x && false) n ∙ sym n
+    at false h = right_true (p b)
+      where
+        right_true : (x : Bool) → (x && true) ≡ x
+        right_true true = refl
+        right_true false = refl
+
+pub firsts_filter : (p : BoxKey → Bool) (ys : List BoxKey) → firsts (filter p ys) ≡ filter p (firsts ys)
+firsts_filter p [] = refl
+firsts_filter p (y ∷ ys) = at (p y) refl (firsts_filter p ys)
+  where
+    at : (b : Bool) → p y ≡ b → firsts (filter p ys) ≡ filter p (firsts ys) → firsts (cond b (y ∷ filter p ys) (filter p ys)) ≡ cond b (y ∷ filter p (filter (λ later. not (is_same_box y later)) (firsts ys))) (filter p (filter (λ later. not (is_same_box y later)) (firsts ys)))
+    at true e ih =
+        ap (λ l. y ∷ l)
+        (ap (filter (λ later. not (is_same_box y later))) ih
+        ∙ (filter_both (λ later. not (is_same_box y later)) p (λ b. not (is_same_box y b) && p b) (λ b. refl) (firsts ys)
+        ∙ sym (filter_both p (λ later. not (is_same_box y later)) (λ b. not (is_same_box y b) && p b) (λ b. and_swap (p b) (not (is_same_box y b))) (firsts ys))))
+    at false e ih = ih ∙ sym (filter_both p (λ later. not (is_same_box y later)) p (λ b. kept_alone p y b e) (firsts ys))
+
 -- the containers are still distinct
 pub firsts_again : (xs : List BoxKey) → firsts (firsts xs) ≡ firsts xs
 firsts_again [] = refl
-firsts_again (x ∷ xs) = ap (λ l. x ∷ l) (ap (filter (λ later. not (is_same_box x later))) (through (λ later. not (is_same_box x later)) (firsts xs) ∙ ap (filter (λ later. not (is_same_box x later))) (firsts_again xs)) ∙ filter_both (λ later. not (is_same_box x later)) (λ later. not (is_same_box x later)) (λ later. not (is_same_box x later)) (λ b. twice (not (is_same_box x b))) (firsts xs))
-  where
-    twice : (b : Bool) → (b && b) ≡ b
-    twice true = refl
-    twice false = refl
+firsts_again (x ∷ xs) =
+    let p : BoxKey → Bool = λ later. not (is_same_box x later) in
+    ap (λ l. x ∷ l)
+    (ap (filter p) (firsts_filter p (firsts xs) ∙ ap (filter p) (firsts_again xs))
+    ∙ filter_both p p p (λ b. and_twice (not (is_same_box x b))) (firsts xs))
 
-    swap : (a b : Bool) → (a && b) ≡ (b && a)
-    swap true true = refl
-    swap true false = refl
-    swap false true = refl
-    swap false false = refl
-
-    through : (p : BoxKey → Bool) (ys : List BoxKey) → firsts (filter p ys) ≡ filter p (firsts ys)
-    through p [] = refl
-    through p (y ∷ ys) = at (p y) refl (through p ys)
-      where
-        at : (b : Bool) → p y ≡ b → firsts (filter p ys) ≡ filter p (firsts ys) → firsts (cond b (y ∷ filter p ys) (filter p ys)) ≡ cond b (y ∷ filter p (filter (λ later. not (is_same_box y later)) (firsts ys))) (filter p (filter (λ later. not (is_same_box y later)) (firsts ys)))
-        at true e ih = ap (λ l. y ∷ l) (ap (filter (λ later. not (is_same_box y later))) ih ∙ (filter_both (λ later. not (is_same_box y later)) p (λ b. not (is_same_box y b) && p b) (λ b. refl) (firsts ys) ∙ sym (filter_both p (λ later. not (is_same_box y later)) (λ b. not (is_same_box y b) && p b) (λ b. swap (p b) (not (is_same_box y b))) (firsts ys))))
-        at false e ih = ?
+pub boxes_after : (c : Catalogue) (source file : Bytes) (intake : Intake) → take c source file ≡ Ok intake → firsts c.containers ≡ c.containers → intake.catalogue.containers ≡ c.containers ++ new_boxes c.containers intake.file.rows
+boxes_after c source file intake e b =
+    ap (λ m. m.containers) (taken_is c source file intake e).is ∙ boxes_grow c.containers intake.file.rows b

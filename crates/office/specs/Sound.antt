@@ -119,10 +119,9 @@ abbrev pub ByUnit : List Permit → Type 0
 ByUnit [] = Unit {0}
 ByUnit (permit ∷ permits) = AllByRecursion (λ other. permit.unit < other.unit) permits × ByUnit permits
 
--- the permits are of registered tickets, for units that are there
+-- the permits are of registered tickets
 pub record AreGoodPermits (s : State) : Type 0 where
   pub known : (t : ℕ) → is_ticket s t ≡ false → s.permits t ≡ []
-  pub units : (t : ℕ) → AllByRecursion (λ permit. has_unit s.forest permit.unit ≡ true) (s.permits t)
   pub by_unit : (t : ℕ) → ByUnit (s.permits t)
   pub few : (t : ℕ) → length (s.permits t) ≤ most_permits
 
