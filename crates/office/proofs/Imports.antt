@@ -1,5 +1,5 @@
 -- What an accepted import has made.
-use Rattle.std.proofs.Common.{◌≡◌, ℕ, Bool, true, false, not, arith, cond, ◌&&◌, ◌||◌, List, [], ◌∷◌, ◌++◌, Option, Some, None, Ok, Err, refl, sym, ap, ◌∙◌, subst, inl, inr}
+use Rattle.std.proofs.Common.{◌≡◌, ◌≤◌, ℕ, Bool, true, false, not, arith, cond, ◌&&◌, ◌||◌, List, [], ◌∷◌, ◌++◌, Option, Some, None, Ok, Err, refl, sym, ap, ◌∙◌, subst, inl, inr}
 use Rattle.std.specs.Prelude.{Result, filter}
 use Rattle.std.specs.List.{list_any, flat_map}
 use Rattle.std.specs.Str.{bytes_eq}
@@ -156,3 +156,8 @@ firsts_again (x ∷ xs) =
 pub boxes_after : (c : Catalogue) (source file : Bytes) (intake : Intake) → take c source file ≡ Ok intake → firsts c.containers ≡ c.containers → intake.catalogue.containers ≡ c.containers ++ new_boxes c.containers intake.file.rows
 boxes_after c source file intake e b =
     ap (λ m. m.containers) (taken_is c source file intake e).is ∙ boxes_grow c.containers intake.file.rows b
+
+pub next_after : (c : Catalogue) (source file : Bytes) (intake : Intake) → take c source file ≡ Ok intake → c.next ≤ intake.catalogue.next
+next_after c source file intake e =
+    let x = ap (λ m. m.next) (taken_is c source file intake e).is in
+    omega (arith, x)

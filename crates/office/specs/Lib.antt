@@ -6,3 +6,4 @@ pub mod Rules
 pub mod Worked
 pub mod Rows
 pub mod Sound
+pub mod Laws

@@ -3,6 +3,7 @@
 
 mod command;
 mod done;
+pub mod laws;
 mod query;
 pub mod worked;
 

@@ -1,0 +1,42 @@
+//! What holds over every list of commands, from a new office or any sound state on. Each function does
+//! nothing: its contract is the law.
+
+ghost use Rattle.std.specs.Prelude.{◌≡◌, ℕ, ℤ, List};
+ghost use Rattle.office.specs.declared.command.Command.{Command};
+ghost use Rattle.office.specs.State.{State, Settings, start};
+ghost use Rattle.office.specs.Rules.{step, state_after};
+ghost use Rattle.office.specs.Sound.{IsSoundDesk, IsAscending};
+ghost use Rattle.office.specs.Laws.{OutApart, GoesOn, IssuesTheFirst, OpenToHolders, Kind, all_given};
+
+/// The reading room of a new office is sound, and it stays sound.
+pub fn desk_stays_sound()
+    ensures start { (settings : Settings) (day : ℤ) → IsSoundDesk (start settings day) }
+    ensures on { (s : State) (commands : List Command) → IsSoundDesk s → IsSoundDesk (state_after s commands) }
+{}
+
+/// Two orders that are out have different containers.
+pub fn out_apart()
+    ensures { (s : State) (commands : List Command) → IsSoundDesk s → OutApart (state_after s commands) }
+{}
+
+/// An order begins to wait, goes from waiting to out or cancelled and from out to done, and nothing else. That it
+/// stands in exactly one place is part of a sound reading room.
+pub fn orders_go_on()
+    ensures { (s : State) (commands : List Command) (asked : Command) → IsSoundDesk s →
+        GoesOn (state_after s commands) (step (state_after s commands) asked).0 }
+{}
+
+/// Each accepted Issue gives the first waiting order of its container.
+pub fn issues_the_first()
+    ensures { (s : State) (commands : List Command) → IsSoundDesk s → IssuesTheFirst (state_after s commands) }
+{}
+
+/// Each container that is out is open, on that day, to the reader who has it.
+pub fn open_to_holders()
+    ensures { (s : State) (commands : List Command) → IsSoundDesk s → OpenToHolders (state_after s commands) }
+{}
+
+/// No number of a ticket, an order, a run, a container or a unit is given twice.
+pub fn given_once()
+    ensures { (kind : Kind) (s : State) (commands : List Command) → IsSoundDesk s → IsAscending (all_given kind s commands) }
+{}
