@@ -7,3 +7,6 @@ pub mod Worked
 pub mod Rows
 pub mod Sound
 pub mod Laws
+pub mod Json
+pub mod Pages
+pub mod Queries
