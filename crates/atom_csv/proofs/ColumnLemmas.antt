@@ -1,5 +1,5 @@
 -- The place of a column among all that are read.
-use Rattle.std.proofs.Common.{◌≡◌, ◌<◌, ℕ, List, length, map, get_or, refl, lit<}
+use Rattle.std.proofs.Common.{◌≡◌, ◌<◌, length, map, get_or, refl, lit<}
 use denote.Enum.Declared.{tag_of}
 use Rattle.atom_csv.specs.Columns.{columns}
 use Rattle.atom_csv.specs.contracts.column.Column.{the_type}

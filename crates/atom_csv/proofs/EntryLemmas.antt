@@ -1,5 +1,5 @@
 -- Entries that are joined one after another.
-use Rattle.std.proofs.Common.{◌≡◌, ◌∙◌, ◌+◌, ◌++◌, ◌∷◌, [], ◌⊎◌, inl, inr, ℕ, suc, Bool, true, false, List, length, map, fold, refl, sym, ap, arith, append_assoc, append-nil, Bor, cond}
+use Rattle.std.proofs.Common.{◌≡◌, ◌∙◌, ◌++◌, ◌∷◌, [], ◌⊎◌, inl, inr, ℕ, suc, Bool, true, false, List, length, map, fold, refl, sym, ap, arith, append_assoc, append-nil, Bor, cond}
 use Rattle.std.specs.Prelude.{◌==◌, codes, if◌then◌else◌, not}
 use Rattle.std.proofs.lemmas.List.Elements.{filter-append}
 use Rattle.std.proofs.lemmas.Bool.{ne_eqb}

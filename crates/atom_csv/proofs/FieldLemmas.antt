@@ -1,6 +1,6 @@
 -- Where columns stand, and what a record has there.
-use Rattle.std.proofs.Common.{◌≡◌, ◌∙◌, ◌+◌, ℕ, zero, suc, Bool, true, false, List, [], ◌∷◌, ◌++◌, length, take, Option, Some, None, option_map, refl, sym, ap, ap₂, arith, Bor, cond, map, get_or}
-use Rattle.std.specs.Prelude.{if◌then◌else◌, slice_get, unwrap_or, ◌&&◌, position}
+use Rattle.std.proofs.Common.{◌≡◌, ◌∙◌, ◌+◌, ℕ, zero, suc, Bool, true, false, List, [], ◌∷◌, ◌++◌, take, Option, Some, None, option_map, refl, sym, ap, ap₂, arith, Bor, cond, map, get_or}
+use Rattle.std.specs.Prelude.{if◌then◌else◌, slice_get, unwrap_or, ◌&&◌, ◌||◌, position, count_by, fold, nat_lt}
 use Rattle.std.specs.List.{position_from, list_any}
 use Rattle.std.proofs.lemmas.Iterator.Adapters.{position_from-zero}
 use denote.Enum.Declared.{tag_of}
@@ -11,6 +11,7 @@ use Rattle.std.proofs.lemmas.List.{map-append}
 use Rattle.std.proofs.lemmas.List.Folds.{list_all-append}
 use Rattle.isad_core.specs.Texts.{Bytes}
 use Rattle.atom_csv.specs.Columns.{columns, name_of}
+use Rattle.atom_csv.specs.FileOf.{has_twice}
 use Rattle.atom_csv.specs.declared.column.Column.{Column}
 use Rattle.atom_csv.specs.Fields.{Fields, is_blank, is_empty, field_in, field_under, is_named, place_of, places_in, seen, trimmed, value}
 
@@ -116,3 +117,21 @@ blank_more fs i f e blank before =
     ap (λ xs. is_blank (map trimmed xs)) (take_field fs i f e)
     ∙ (ap is_blank (map-append trimmed (take i fs) (f ∷ []))
     ∙ (list_all-append is_empty (map trimmed (take i fs)) (trimmed f ∷ []) ∙ ap₂ (λ a b. a && (b && true)) before blank))
+
+-- ---- names in a header
+
+pub column_seen : (p : Bytes → Bool) (xs : List (Bor Bytes)) → list_any (λ x. p x.now) xs ≡ list_any p (seen xs)
+column_seen p [] = refl
+column_seen p (x ∷ xs) = ap (λ b. p x.now || b) (column_seen p xs)
+
+count_from : (p : Bytes → Bool) (n : ℕ) (xs : List (Bor Bytes)) → fold (λ a x. a + cond (p x.now) 1 0) n xs ≡ fold (λ a x. a + cond (p x) 1 0) n (seen xs)
+count_from p n [] = refl
+count_from p n (x ∷ xs) = count_from p (n + cond (p x.now) 1 0) xs
+
+twice_from : (ks : List Column) (xs : List (Bor Bytes))
+    → list_any (λ k. nat_lt 1 (count_by (λ x. is_named (name_of k) x.now) xs)) ks ≡ list_any (λ k. nat_lt 1 (count_by (is_named (name_of k)) (seen xs))) ks
+twice_from [] xs = refl
+twice_from (k ∷ ks) xs = ap₂ (λ a b. nat_lt 1 a || b) (count_from (is_named (name_of k)) 0 xs) (twice_from ks xs)
+
+pub twice_seen : (xs : List (Bor Bytes)) → list_any (λ k. nat_lt 1 (count_by (λ x. is_named (name_of k) x.now) xs)) columns ≡ has_twice (seen xs)
+twice_seen xs = twice_from columns xs

@@ -2,6 +2,7 @@ pub mod BoxLemmas
 pub mod ColumnLemmas
 pub mod EntryLemmas
 pub mod FieldLemmas
+pub mod LineLemmas
 pub mod RecordLemmas
 pub mod SourceLemmas
 pub mod TextLemmas

@@ -1,5 +1,5 @@
 -- The entries of a split column.
-use Rattle.std.specs.Prelude.{Bool, not, ◌==◌, ◌++◌, if◌then◌else◌, List, [], ◌∷◌, map, filter, codes}
+use Rattle.std.specs.Prelude.{not, ◌==◌, ◌++◌, if◌then◌else◌, List, [], ◌∷◌, map, filter, codes}
 use Rattle.std.specs.List.{slice_split}
 use Rattle.std.specs.Str.{bytes_eq}
 use Rattle.isad_core.specs.Texts.{Bytes}

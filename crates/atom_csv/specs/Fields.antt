@@ -1,5 +1,5 @@
 -- The fields of a record, by the columns of a header.
-use Rattle.std.specs.Prelude.{ℕ, ◌+◌, Bool, Option, Some, None, option_map, slice_get, unwrap_or, ◌==◌, if◌then◌else◌, List, [], ◌∷◌, reverse, length, map, position}
+use Rattle.std.specs.Prelude.{ℕ, Bool, Option, Some, None, slice_get, unwrap_or, ◌==◌, if◌then◌else◌, List, [], ◌∷◌, reverse, length, map, position}
 use Rattle.std.specs.List.{list_all}
 use Rattle.std.specs.Borrow.{Bor}
 use Rattle.std.specs.Str.{bytes_eq}

@@ -5,5 +5,6 @@ pub mod Fields
 pub mod FileOf
 pub mod Findings
 pub mod Known
+pub mod Reads
 pub mod Source
 pub mod Values

@@ -5,7 +5,9 @@ ghost use Rattle.csv.specs.Records.{fields_of};
 ghost use Rattle.atom_csv.specs.Columns.{columns, name_of};
 ghost use Rattle.atom_csv.specs.Fields.{field_in, fields_in, is_named, seen};
 ghost use Rattle.atom_csv.specs.Fields as spec;
+ghost use Rattle.atom_csv.specs.FileOf.{header_causes, lowest};
 
+use crate::cause::Cause;
 use crate::column::Column;
 use crate::trim::trimmed;
 use csv::StringRecord;
@@ -28,6 +30,30 @@ fn place(header: &[&str], name: &str) -> Option<usize>
     ensures { result ≡ position (λ field. is_named name.now field.now) header.now }
 {
     header.iter().position(|field| *field == name)
+}
+
+// Whether a column has this name.
+fn has(header: &[&str], name: &str) -> bool
+    ensures { result ≡ list_any (λ field. is_named name.now field.now) header.now }
+{
+    header.iter().any(|field| *field == name)
+}
+
+// How many columns have this name.
+fn count(header: &[&str], name: &str) -> usize
+    ensures { result ≡ count_by (λ field. is_named name.now field.now) header.now }
+{
+    header.iter().filter(|field| **field == name).count()
+}
+
+// Whether a column that is read stands twice.
+fn has_twice(header: &[&str]) -> bool
+    ensures { result ≡ list_any (λ column.
+        nat_lt 1 (count_by (λ field. is_named (name_of column) field.now) header.now)) columns }
+{
+    Column::all()
+        .iter()
+        .any(|column| count(header, column.name()) > 1)
 }
 
 // Where each column that is read stands.
@@ -78,6 +104,20 @@ impl<'a> Header<'a> {
         let names = names(alloc, row)?;
         let places = places(alloc, names.as_slice())?;
         Ok(Header { names, places })
+    }
+
+    /// The lowest cause for which the file is refused, if there is one.
+    pub fn cause(&self) -> Option<Cause>
+        ensures { result ≡ lowest (header_causes self.now) }
+    {
+        let names = self.names.as_slice();
+        if !has(names, "legacyId") {
+            return Some(Cause::NoLegacyId);
+        }
+        if has_twice(names) {
+            return Some(Cause::HeaderTwice);
+        }
+        None
     }
 
     /// What a record has in a column.

@@ -9,8 +9,11 @@ mod file;
 mod findings;
 mod header;
 mod joined;
+mod read;
 mod records;
+mod rows;
 mod trim;
 mod values;
 
 pub use file::{File, FileFault, Row};
+pub use read::read_file;

@@ -1,14 +1,14 @@
 -- Lists in an order: what `in_order` gives, and that a stable sort gives nothing else.
-use Rattle.std.proofs.Common.{◌≡◌, ℕ, suc, ◌<◌, ◌≤◌, Bool, true, false, not, ◌&&◌, cond, List, [], ◌∷◌, length, get_or, map, refl, sym, ap, ◌∙◌, subst, arith, nat_lt, ◌==◌}
+use Rattle.std.proofs.Common.{◌≡◌, ℕ, zero, suc, ◌+◌, ◌<◌, ◌≤◌, Bool, true, false, not, ◌&&◌, cond, List, [], ◌∷◌, length, get_or, map, refl, sym, ap, ◌∙◌, subst, arith, nat_lt, ◌==◌}
 use Rattle.std.specs.Cmp.{IsStrictWeakOrder, nat_cmp_total}
 use Rattle.std.specs.List.{AllByRecursion, filter}
-use Rattle.std.specs.List.Sorted.{IsSortedBy, IsSortedByKey, IsStableBy, IsStableByKey, ties}
+use Rattle.std.specs.List.Sorted.{IsPermutation, IsSortedBy, IsSortedByKey, IsStableBy, IsStableByKey, ties}
 use Rattle.std.specs.Ordering.{is_lt, nat_cmp}
 use Rattle.std.specs.declared.cmp.Ordering.TheVariants.{Less, Equal, Greater}
 use Rattle.std.proofs.lemmas.Bool.{false≢true}
-use Rattle.std.proofs.lemmas.List.Elements.{recursion_from_All}
-use Rattle.std.proofs.lemmas.List.Sorted.{ranks_by, sorted_far}
-use Rattle.desk_core.specs.Orders.{put_in_order, in_order}
+use Rattle.std.proofs.lemmas.List.Elements.{All-from_recursion, recursion_from_All}
+use Rattle.std.proofs.lemmas.List.Sorted.{IsPermutation-refl, IsPermutation-cons, IsPermutation-middle, IsPermutation-sym, IsPermutation-trans, ranks_by, sorted_far}
+use Rattle.desk_core.specs.Orders.{IsInOrder, in_order, put_in_order}
 
 -- a fact of each element, by recursion on the list
 each-filter : {X : Type 0} (P : X → Type 0) (test : X → Bool) (xs : List X) → AllByRecursion P xs → AllByRecursion P (filter test xs)
@@ -162,3 +162,31 @@ in_order-map f lt (x ∷ xs) = put_in_order-map f lt x _ ∙ ap (put_in_order lt
 pub sorted_by_number-is : {X : Type 0} (number : X → ℕ) (xs ys : List X) → IsSortedByKey number nat_cmp ys → IsStableByKey number nat_cmp xs ys → ys ≡ in_order (λ x y. nat_lt (number x) (number y)) xs
 sorted_by_number-is number xs ys sorted stable =
     sorted-is _ (ranks_by nat_cmp_total number) xs ys sorted stable ∙ in_order-agree _ _ (λ x y. is_lt-nat_cmp (number x) (number y)) xs
+
+module _ {X : Type 0} (lt : X → X → Bool) where
+  permutation-put : (x : X) (ys : List X) → IsPermutation (x ∷ ys) (put_in_order lt x ys)
+  permutation-put x [] = IsPermutation-refl (x ∷ [])
+  permutation-put x (y ∷ ys) =
+      elim (lt y x) as (λ b. IsPermutation (x ∷ y ∷ ys) (cond b (y ∷ put_in_order lt x ys) (x ∷ y ∷ ys))) [
+        | true ↦ IsPermutation-trans _ (y ∷ x ∷ ys) _ (IsPermutation-sym _ _ (IsPermutation-middle (y ∷ []) x ys)) (IsPermutation-cons y _ _ (permutation-put x ys))
+        | false ↦ IsPermutation-refl (x ∷ y ∷ ys)
+      ]
+
+  pub in_order-permutation : (xs : List X) → IsPermutation xs (in_order lt xs)
+  in_order-permutation [] = IsPermutation-refl []
+  in_order-permutation (x ∷ xs) = IsPermutation-trans _ (x ∷ in_order lt xs) _ (IsPermutation-cons x _ _ (in_order-permutation xs)) (permutation-put x (in_order lt xs))
+
+  -- at any two places
+  pub far-in_order : (xs : List X) → InOrder lt xs → IsStrictWeakOrder lt → (i j : ℕ) (d : X) → i ≤ j → j < length xs → lt (get_or xs j d) (get_or xs i d) ≡ false
+  far-in_order [] h order i j d low high = absurd (omega arith)
+  far-in_order (x ∷ xs) h order zero zero d low high = not_itself lt order x
+  far-in_order (x ∷ xs) h order zero (suc j) d low high = All-from_recursion (λ y. lt y x ≡ false) xs h.0 j d (omega arith)
+  far-in_order (x ∷ xs) h order (suc i) zero d low high = absurd (omega arith)
+  far-in_order (x ∷ xs) h order (suc i) (suc j) d low high = far-in_order xs h.1 order i j d (omega arith) (omega arith)
+
+  pub in_order-sorts : IsStrictWeakOrder lt → (xs : List X) → IsInOrder lt xs (in_order lt xs)
+  in_order-sorts order xs = record {
+    same = in_order-permutation xs;
+    sorted = λ k d low high. far-in_order (in_order lt xs) (in_order-is lt order xs) order k (k + 1) d (omega arith) high;
+    stable = in_order-stable lt order xs;
+  }

@@ -1,18 +1,18 @@
 -- What a run takes, and what goes back to the shelf.
-use Rattle.std.proofs.Common.{◌≡◌, ℕ, ◌≤◌, true, List, length, map, take, sym, ap, ◌∙◌, arith, nat_lt, Bor}
-use Rattle.std.specs.Cmp.{nat_cmp_total}
+use Rattle.std.proofs.Common.{◌≡◌, ℕ, ◌≤◌, true, List, length, map, take, drop, get_or, min, ◌<◌, ◌+◌, ◌-◌, subst, length-drop, sym, ap, ◌∙◌, arith, nat_lt, Bor}
+use Rattle.std.specs.Cmp.{IsStrictWeakOrder, nat_cmp_total}
 use Rattle.std.specs.List.{All, filter}
 use Rattle.std.specs.List.Sorted.{IsPermutation, IsSorted, IsStableBy, ties}
 use Rattle.std.specs.Ordering.{is_lt, nat_cmp}
 use Rattle.std.proofs.lemmas.Bool.{ltb-false}
-use Rattle.std.proofs.lemmas.List.{same_lists, take-map, take_all}
+use Rattle.std.proofs.lemmas.List.{get_or-drop, get_or-take, get_or_default, length-take, same_lists, take-append-drop, take-map, take_all}
 use Rattle.std.proofs.lemmas.List.Elements.{All-weaker, filter_passes}
-use Rattle.std.proofs.lemmas.List.Sorted.{ranks_by, sum_by-IsPermutation}
+use Rattle.std.proofs.lemmas.List.Sorted.{IsNonDecreasingBy-take, IsStrictWeakOrder-by_number, length_permutation, ranks_by, sum_by-IsPermutation}
 use Rattle.std.proofs.lemmas.List.Sums.{length-filter}
 use Rattle.desk_core.specs.declared.run.Candidate.{Candidate}
 use Rattle.desk_core.specs.Orders.{in_order}
-use Rattle.desk_core.specs.Runs.{has_lesser_order, run_of}
-use Rattle.desk_core.proofs.OrderLemmas.{in_order-agree, in_order-map, is_lt-nat_cmp, neither, sorted-is}
+use Rattle.desk_core.specs.Runs.{IsRun, has_lesser_order, run_of}
+use Rattle.desk_core.proofs.OrderLemmas.{far-in_order, in_order-agree, in_order-is, in_order-map, in_order-permutation, is_lt-nat_cmp, neither, sorted-is}
 
 -- copies of the first of a queue that is in order
 pub run_of-copies : (candidates run : List Candidate) (lent sorted items : List (Bor Candidate)) (most n : ℕ) → map (λ (b : Bor Candidate). b.now) lent ≡ candidates → sorted ≡ in_order (λ (a b : Bor Candidate). nat_lt a.now.order b.now.order) lent → items ≡ take most sorted → length items ≤ n → run ≡ map (λ (b : Bor Candidate). b.now) (take n items) → run ≡ run_of candidates most
@@ -45,3 +45,27 @@ pub sorted_numbers-is : (xs ys : List ℕ) → IsSorted nat_cmp ys → IsPermuta
 sorted_numbers-is xs ys sorted same =
     sorted-is _ (ranks_by nat_cmp_total (λ (n : ℕ). n)) xs ys sorted (numbers-stable xs ys same)
     ∙ in_order-agree _ _ is_lt-nat_cmp xs
+
+-- ---- a run is least
+
+run-far : (candidates : List Candidate) (i j : ℕ) (d : Candidate) → i ≤ j → j < length (in_order has_lesser_order candidates) → (get_or (in_order has_lesser_order candidates) i d).order ≤ (get_or (in_order has_lesser_order candidates) j d).order
+run-far candidates i j d low high =
+    let order : IsStrictWeakOrder has_lesser_order = IsStrictWeakOrder-by_number (λ (c : Candidate). c.order) in
+    ltb-false _ _ (far-in_order has_lesser_order (in_order has_lesser_order candidates) (in_order-is has_lesser_order order candidates) order i j d low high)
+
+pub run_of-is : (candidates : List Candidate) (most : ℕ) → IsRun candidates (run_of candidates most) most
+run_of-is candidates most =
+    let queue = in_order has_lesser_order candidates in
+    let whole : IsPermutation candidates queue = in_order-permutation has_lesser_order candidates in
+    let taken : length (take most queue) ≡ min most (length queue) = length-take most queue in
+    let left : length (drop most queue) ≡ length queue - most = length-drop most queue in
+    record {
+      left = drop most queue;
+      same = subst (IsPermutation candidates) (sym (take-append-drop most queue)) whole;
+      many = taken ∙ ap (min most) (length_permutation candidates queue whole);
+      rising = IsNonDecreasingBy-take (λ (c : Candidate). c.order) most queue (λ i j d low high. run-far candidates i j d low high);
+      least = λ i d low j e high.
+          let there : get_or (take most queue) i d ≡ get_or queue i d = get_or-take most queue i d (omega arith) in
+          let other : get_or (drop most queue) j e ≡ get_or queue (most + j) d = get_or-drop most queue j e ∙ get_or_default queue (most + j) e d (omega arith) in
+          rw (there, other) (run-far candidates i (most + j) d (omega arith) (omega arith));
+    }

@@ -6,8 +6,8 @@ use Rattle.desk_core.specs.declared.reader.Reader.{Reader}
 use Rattle.desk_core.specs.declared.reader.Limits.{Limits}
 use Rattle.desk_core.specs.declared.reader.Place.{Place}
 use Rattle.desk_core.specs.declared.reader.Place.TheVariants.{Shelf, Desk, Out}
-use Rattle.desk_core.specs.declared.decisions.Ask.{Ask}
-use Rattle.desk_core.specs.declared.decisions.AtDesk.{AtDesk}
+use Rattle.desk_core.specs.declared.order.Ask.{Ask}
+use Rattle.desk_core.specs.declared.issue.AtDesk.{AtDesk}
 use Rattle.desk_core.specs.Checks.{OrderFacts, IssueFacts, TakeSeatFacts, LeaveSeatFacts}
 
 -- ---- of a reader, or of none where the ticket was not given

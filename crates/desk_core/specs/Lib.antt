@@ -3,3 +3,4 @@ pub mod Decisions
 pub mod Orders
 pub mod Refusals
 pub mod Runs
+pub mod Slips

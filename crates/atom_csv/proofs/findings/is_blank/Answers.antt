@@ -1,4 +1,4 @@
-use Rattle.std.proofs.Common.{◌≡◌, ◌∙◌, ap, sym, map, take, Some, None, true, false, Option, List, ℕ}
+use Rattle.std.proofs.Common.{◌≡◌, ◌∙◌, ap, sym, map, take, true, false, List, ℕ}
 use Rattle.csv.specs.Records.{Row, field_at, fields_of}
 use Rattle.isad_core.specs.Texts.{Bytes}
 use Rattle.atom_csv.specs.Fields.{is_blank, is_empty, trimmed}

@@ -1,6 +1,6 @@
-use Rattle.std.proofs.Common.{◌≡◌, ◌∙◌, sym, ap, List, ℕ, [], option_map, Some, None, Option, Bor, refl}
+use Rattle.std.proofs.Common.{◌≡◌, ◌∙◌, sym, ap, [], option_map, Some, None, Option, Bor, refl}
 use Rattle.std.specs.Prelude.{unwrap_or}
-use Rattle.csv.specs.Records.{field_at, fields_of}
+use Rattle.csv.specs.Records.{fields_of}
 use Rattle.isad_core.specs.Texts.{Bytes}
 use Rattle.atom_csv.specs.Fields.{trimmed}
 use Rattle.atom_csv.proofs.FieldLemmas.{trimmed_at}

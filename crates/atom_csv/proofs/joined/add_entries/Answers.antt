@@ -1,4 +1,4 @@
-use Rattle.std.proofs.Common.{◌≡◌, ◌∙◌, ap, sym, refl, lit<, Bor, map, fold, [], ◌∷◌, List}
+use Rattle.std.proofs.Common.{◌∙◌, ap, sym, refl, lit<, Bor, map, fold, [], ◌∷◌}
 use Rattle.std.proofs.lemmas.Iterator.Splits.{YieldsList-from_str_split}
 use Rattle.std.proofs.lemmas.Iterator.Consumers.{YieldsList-at, YieldsList-end}
 use Rattle.std.proofs.lemmas.List.{map-append}

@@ -1,4 +1,4 @@
-use Rattle.std.proofs.Common.{◌≡◌, fold, map, List, Bor}
+use Rattle.std.proofs.Common.{◌≡◌, fold, map, Bor}
 use Rattle.std.specs.String.{string_bytes}
 use Rattle.isad_core.specs.Texts.{Bytes}
 use Rattle.atom_csv.specs.Entries.{entry_of, with_entry}

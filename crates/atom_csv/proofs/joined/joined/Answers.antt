@@ -4,10 +4,9 @@ use Rattle.std.proofs.lemmas.Grind.{flat_map-append}
 use Rattle.std.proofs.lemmas.List.Sums.{fold-append}
 use Rattle.std.proofs.lemmas.List.{append-nil}
 use Rattle.std.specs.List.{flat_map}
-use Rattle.std.specs.String.{string_bytes}
 use Rattle.isad_core.specs.Texts.{Bytes}
 use Rattle.atom_csv.specs.Columns.{columns_of}
-use Rattle.atom_csv.specs.Entries.{filled, joined, with_entry}
+use Rattle.atom_csv.specs.Entries.{with_entry}
 use Rattle.atom_csv.specs.Fields.{Fields, fields_in, value}
 use Rattle.atom_csv.specs.Values.{told_by}
 use Rattle.atom_csv.specs.declared.column.Column.{Column}

@@ -1,5 +1,5 @@
-use Rattle.std.proofs.Common.{◌≡◌, ◌∙◌, ap, sym, inl, inr, Some}
-use Rattle.csv.specs.Reading.{builder_is_flexible, builder_names_headers, strip_bom}
+use Rattle.std.proofs.Common.{◌∙◌, ap, inr, Some}
+use Rattle.csv.specs.Reading.{builder_is_flexible, strip_bom}
 use Rattle.atom_csv.proofs.TextLemmas.{unmarked_text}
 use Rattle.atom_csv.proofs.records.reader.Goals as goal
 

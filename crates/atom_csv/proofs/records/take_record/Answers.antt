@@ -1,9 +1,9 @@
-use Rattle.std.proofs.Common.{◌≡◌, ◌∙◌, ◌∷◌, [], Bool, List, true, false, sym, ap, refl, subst, Bor, Some, Option}
+use Rattle.std.proofs.Common.{◌≡◌, ◌∙◌, ◌∷◌, [], Bool, List, true, false, refl, subst, Bor, Some, Option}
 use Rattle.std.specs.Prelude.{if◌then◌else◌}
 use Rattle.csv.specs.Reading.{ReadRecord, error_kind}
 use Rattle.csv.specs.Records.{fields_of}
 use Rattle.isad_core.specs.Texts.{Bytes}
-use Rattle.atom_csv.specs.Source.{IsReading, Source, left}
+use Rattle.atom_csv.specs.Source.{Source, left}
 use Rattle.atom_csv.proofs.SourceLemmas.{fails_outside, read_more, read_none}
 use Rattle.atom_csv.proofs.records.take_record.Goals as goal
 
