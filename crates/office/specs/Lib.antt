@@ -10,3 +10,4 @@ pub mod Laws
 pub mod Json
 pub mod Pages
 pub mod Queries
+pub mod AnswerRows

@@ -1,6 +1,7 @@
 //! The rules at work in small offices, worked by hand.
 
 ghost use Rattle.office.specs.Rows as row;
+ghost use Rattle.office.specs.AnswerRows as answers;
 
 /// The commands of each row get the replies of the row.
 pub fn worked_rows()
@@ -29,4 +30,12 @@ pub fn worked_rows()
     ensures with_reader_again { row.WithReaderAgain }
     ensures permits_above { row.PermitsAbove }
     ensures placed { row.Placed }
+{}
+
+/// The answers are those of the rows, to the byte.
+pub fn worked_answers()
+    ensures aids { answers.Aids }
+    ensures pages { answers.Pages }
+    ensures at_the_desk { answers.AtTheDesk }
+    ensures replies { answers.Replies }
 {}
