@@ -11,3 +11,4 @@ pub mod Json
 pub mod Pages
 pub mod Queries
 pub mod AnswerRows
+pub mod Secrecy

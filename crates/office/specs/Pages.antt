@@ -105,23 +105,20 @@ PageBox = ℕ × Bytes × Option Bytes
 abbrev pub page_boxes : Press → Option Bytes → List BoxKey → List PageBox
 page_boxes press from boxes = map (λ box. (box_number press.containers box, box.name, from)) boxes
 
+-- these containers; where there are none, what is found further up
+abbrev pub boxes_or : Press → Option Bytes → List BoxKey → List PageBox → List PageBox
+boxes_or press from [] further = further
+boxes_or press from (box ∷ boxes) further = page_boxes press from (box ∷ boxes)
+
 -- the containers of the nearest of these units that has some, with the code of that unit
 abbrev pub nearest_boxes : Press → List Coded → List PageBox
 nearest_boxes press [] = []
-nearest_boxes press (unit ∷ higher) = some_or unit.values.boxes (nearest_boxes press higher)
-  where
-    some_or : List BoxKey → List PageBox → List PageBox
-    some_or [] further = further
-    some_or (box ∷ boxes) further = page_boxes press (Some unit.code) (box ∷ boxes)
+nearest_boxes press (unit ∷ higher) = boxes_or press (Some unit.code) unit.values.boxes (nearest_boxes press higher)
 
 -- the containers that a unit lies in: its own, or those of the nearest unit above that has some
 abbrev pub boxes_on_page : Press → List Coded → List PageBox
 boxes_on_page press [] = []
-boxes_on_page press (unit ∷ higher) = own_or unit.values.boxes
-  where
-    own_or : List BoxKey → List PageBox
-    own_or [] = nearest_boxes press higher
-    own_or (box ∷ boxes) = page_boxes press None (box ∷ boxes)
+boxes_on_page press (unit ∷ higher) = boxes_or press None unit.values.boxes (nearest_boxes press higher)
 
 -- the page of the unit at the head of a tree, where `way` is its path. A closed unit has its head line alone.
 abbrev pub page_at : Press → List PublicUnit → Forest PublicUnit → Option Page

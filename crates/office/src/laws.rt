@@ -6,6 +6,7 @@ ghost use Rattle.office.specs.declared.command.Command.{Command};
 ghost use Rattle.office.specs.State.{State, Settings, start};
 ghost use Rattle.office.specs.Rules.{step, state_after};
 ghost use Rattle.office.specs.Sound.{IsSoundDesk, IsAscending};
+ghost use Rattle.office.specs.Secrecy.{SamePublic, AnswersAlike};
 ghost use Rattle.office.specs.Laws.{OutApart, GoesOn, IssuesTheFirst, OpenToHolders, Kind, all_given};
 
 /// The reading room of a new office is sound, and it stays sound.
@@ -39,4 +40,9 @@ pub fn open_to_holders()
 /// No number of a ticket, an order, a run, a container or a unit is given twice.
 pub fn given_once()
     ensures { (kind : Kind) (s : State) (commands : List Command) → IsSoundDesk s → IsAscending (all_given kind s commands) }
+{}
+
+/// Two offices whose public parts are equal give equal answers to the public's questions.
+pub fn nothing_leaks()
+    ensures { (s t : State) → SamePublic s t → AnswersAlike s t }
 {}
