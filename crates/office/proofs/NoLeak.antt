@@ -30,7 +30,7 @@ use Rattle.office.specs.Secrecy.{boxes_told, SamePublic, AnswersAlike}
 abbrev Alike : List BoxKey → List BoxKey → List BoxKey → Type 0
 Alike xs ys boxes = AllByRecursion (λ box. box_number xs box ≡ box_number ys box) boxes
 
-all_parts : {X : Type 0} (P : X → Type 0) (xs ys : List X) → AllByRecursion P (xs ++ ys) → AllByRecursion P xs × AllByRecursion P ys
+pub all_parts : {X : Type 0} (P : X → Type 0) (xs ys : List X) → AllByRecursion P (xs ++ ys) → AllByRecursion P xs × AllByRecursion P ys
 all_parts P [] ys h = (tt, h)
 all_parts P (x ∷ xs) ys h = let r = all_parts P xs ys h.1 in ((h.0, r.0), r.1)
 
@@ -45,7 +45,7 @@ each_alike xs ys (unit ∷ units) h =
     let r = all_parts (λ box. box_number xs box ≡ box_number ys box) (boxes_told unit) (flat_map boxes_told units) h in
     (r.0, each_alike xs ys units r.1)
 
-all_both : {X : Type 0} (P : X → Type 0) (xs ys : List X) → AllByRecursion P xs → AllByRecursion P ys → AllByRecursion P (xs ++ ys)
+pub all_both : {X : Type 0} (P : X → Type 0) (xs ys : List X) → AllByRecursion P xs → AllByRecursion P ys → AllByRecursion P (xs ++ ys)
 all_both P [] ys h k = k
 all_both P (x ∷ xs) ys h k = (h.0, all_both P xs ys h.1 k)
 
@@ -60,7 +60,7 @@ path_alike P is (Node a c o) h =
     at false true p q = (h.0, p)
     at false false p q = q
 
-tree_alike : (P : PublicUnit → Type 0) (is : PublicUnit → Bool) (f : Forest PublicUnit) → AllByRecursion P (nodes f) → AllByRecursion P (nodes (tree is f))
+pub tree_alike : (P : PublicUnit → Type 0) (is : PublicUnit → Bool) (f : Forest PublicUnit) → AllByRecursion P (nodes f) → AllByRecursion P (nodes (tree is f))
 tree_alike P is Empty h = tt
 tree_alike P is (Node a c o) h =
     let r = all_parts P (nodes c) (nodes o) h.1 in

@@ -54,9 +54,12 @@ before_last (x ∷ y ∷ ys) = x ∷ before_last (y ∷ ys)
 abbrev pub above_last : List PublicUnit → List Bytes
 above_last way = map identifier_of (before_last way)
 
+-- the units of the branch, with the codes that they have below the units above it
+abbrev pub aid_units : Press → ℕ → Forest PublicUnit → List Shown
+aid_units press u f = shown_below press.at press.containers (above_last (path (is_numbered u) f)) 0 (tree (is_numbered u) f)
+
 abbrev pub aid_of : Press → ℕ → Forest PublicUnit → Bytes
-aid_of press u f =
-    aid (shown_below press.at press.containers (above_last (path (is_numbered u) f)) 0 (tree (is_numbered u) f))
+aid_of press u f = aid (aid_units press u f)
 
 -- ---- the page of a unit
 

@@ -6,7 +6,7 @@ ghost use Rattle.office.specs.declared.command.Command.{Command};
 ghost use Rattle.office.specs.State.{State, Settings, start};
 ghost use Rattle.office.specs.Rules.{step, state_after};
 ghost use Rattle.office.specs.Sound.{IsSoundDesk, IsAscending};
-ghost use Rattle.office.specs.Secrecy.{SamePublic, AnswersAlike};
+ghost use Rattle.office.specs.Secrecy.{SamePublic, AnswersAlike, ShowsOnlyPublished};
 ghost use Rattle.office.specs.Laws.{OutApart, GoesOn, IssuesTheFirst, OpenToHolders, Kind, all_given};
 
 /// The reading room of a new office is sound, and it stays sound.
@@ -45,4 +45,9 @@ pub fn given_once()
 /// Two offices whose public parts are equal give equal answers to the public's questions.
 pub fn nothing_leaks()
     ensures { (s t : State) → SamePublic s t → AnswersAlike s t }
+{}
+
+/// Every unit in an answer to the public's questions is published, and is a stub where it is closed.
+pub fn only_the_published_is_shown()
+    ensures { (s : State) → ShowsOnlyPublished s }
 {}
