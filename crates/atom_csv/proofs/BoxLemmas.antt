@@ -42,7 +42,7 @@ and_assoc : (a b c : Bool) → ((a && b) && c) ≡ (a && (b && c))
 and_assoc true b c = refl
 and_assoc false b c = refl
 
-same_compared : (a b : Told) → is_eq (compared a b) ≡ is_same (key_of a) (key_of b)
+pub same_compared : (a b : Told) → is_eq (compared a b) ≡ is_same (key_of a) (key_of b)
 same_compared a b =
     eq_then _ (slice_cmp nat_cmp a.2.now b.2.now)
     ∙ (ap₂ (λ x y. x && y) (eq_then (slice_cmp nat_cmp a.0.now b.0.now) (slice_cmp nat_cmp a.1.now b.1.now) ∙ ap₂ (λ x y. x && y) (is_eq-slice_cmp a.0.now b.0.now) (is_eq-slice_cmp a.1.now b.1.now)) (is_eq-slice_cmp a.2.now b.2.now)
@@ -86,7 +86,7 @@ bytes_eq_sym a b = go (bytes_eq a b) (bytes_eq b a) refl refl
         let yes : bytes_eq a b ≡ true = (bytes_eq-Decides a b).1 (sym ((bytes_eq-Decides b a).0 f)) in
         sym e ∙ yes
 
-same_sym : (a b : BoxKey) → is_same a b ≡ is_same b a
+pub same_sym : (a b : BoxKey) → is_same a b ≡ is_same b a
 same_sym a b =
     ap₂ (λ x y. x && y) (bytes_eq_sym a.name b.name) (ap₂ (λ x y. x && y) (bytes_eq_sym a.location b.location) (bytes_eq_sym a.kind b.kind))
 
@@ -101,7 +101,7 @@ or_comm false true = refl
 or_comm false false = refl
 
 -- a container that stood already adds nothing
-distinct_more : (bs : List BoxKey) (b : BoxKey) → distinct (bs ++ b ∷ []) ≡ distinct bs ++ (if list_any (is_same b) bs then [] else b ∷ [])
+pub distinct_more : (bs : List BoxKey) (b : BoxKey) → distinct (bs ++ b ∷ []) ≡ distinct bs ++ (if list_any (is_same b) bs then [] else b ∷ [])
 distinct_more [] b = refl
 distinct_more (c ∷ bs) b =
     ap (λ ds. c ∷ filter (λ later. not (is_same c later)) ds) (distinct_more bs b)

@@ -28,7 +28,7 @@ pub struct File {
 }
 
 /// Why a file is refused.
-#[derive(Debug, Drop)]
+#[derive(Clone, Copy, Debug, PartialEq, Eq)]
 pub enum FileFault {
     /// A growth was refused for want of memory.
     Memory,

@@ -9,6 +9,7 @@ mod file;
 mod findings;
 mod header;
 mod joined;
+pub mod laws;
 mod read;
 mod records;
 mod rows;
@@ -17,3 +18,6 @@ mod values;
 
 pub use file::{File, FileFault, Row};
 pub use read::read_file;
+
+#[cfg(test)]
+mod tests;

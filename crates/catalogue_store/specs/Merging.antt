@@ -1,10 +1,11 @@
 -- What a file of rows makes of a catalogue.
-use Rattle.std.specs.Prelude.{ℕ, suc, ◌+◌, ◌-◌, nat_eq, nat_lt, Bool, not, ◌&&◌, if◌then◌else◌, List, [], ◌∷◌, ◌++◌, length, filter, find, Option, Some, None, option_and_then, option_map, unwrap_or, Result, Ok, Err}
+use Rattle.std.specs.Prelude.{ℕ, suc, ◌+◌, ◌-◌, nat_eq, nat_lt, Bool, not, if◌then◌else◌, List, [], ◌∷◌, ◌++◌, length, filter, find, Option, Some, None, option_and_then, option_map, unwrap_or, Result, Ok, Err}
 use Rattle.std.specs.List.{flat_map}
-use Rattle.std.specs.Option.{option_eq}
+use Rattle.std.specs.Option.{option_eq, option_to_list}
 use Rattle.std.specs.Str.{bytes_eq}
 use Rattle.isad_core.specs.Texts.{Bytes}
 use Rattle.isad_core.specs.declared.values.BoxKey.{BoxKey}
+use Rattle.atom_csv.specs.Values.{distinct, is_same}
 use Rattle.atom_csv.specs.declared.file.Row.{Row}
 use Rattle.tree_core.specs.Forest.{Forest, Empty, Node, nodes, has, path, each, join}
 use Rattle.catalogue_store.specs.Units.{Unit, is_from}
@@ -28,7 +29,7 @@ is_known f source row = has (is_from source row.legacy) f
 
 -- the row has this number in its source
 abbrev pub has_legacy : Bytes → Row → Bool
-has_legacy legacy row = bytes_eq row.legacy legacy
+has_legacy legacy row = bytes_eq legacy row.legacy
 
 -- ---- what can be wrong with a new row: its parent is not there, or it would lie too deep
 
@@ -47,15 +48,12 @@ abbrev pub cause_at : Option ℕ → Option ℕ
 cause_at None = Some 11
 cause_at (Some depth) = if nat_lt 64 depth then Some 12 else None
 
--- the new rows that have a cause, each by its place in the file, with that cause
+-- the new rows that have a cause, each by its number in the file, with that cause
 abbrev pub faults_below : Forest Unit → Bytes → List Row → List Row → List (ℕ × ℕ)
 faults_below f source above [] = []
 faults_below f source above (row ∷ rest) =
-    with_cause (cause_at (depth_under f source row.parent above)) (faults_below f source (row ∷ above) rest)
-  where
-    with_cause : Option ℕ → List (ℕ × ℕ) → List (ℕ × ℕ)
-    with_cause None later = later
-    with_cause (Some cause) later = (row.row, cause) ∷ later
+    option_to_list (option_map (λ cause. (row.row, cause)) (cause_at (depth_under f source row.parent above)))
+    ++ faults_below f source (row ∷ above) rest
 
 -- ---- the units after it
 
@@ -121,24 +119,17 @@ merged_forest source rows new f =
 
 -- ---- the containers after it
 
--- one container: the same name, location and kind
-abbrev pub is_same_box : BoxKey → BoxKey → Bool
-is_same_box a b =
-    bytes_eq a.name b.name && (bytes_eq a.location b.location && bytes_eq a.kind b.kind)
+-- the number of a container: its place among these, from 1
+abbrev pub number_in : List BoxKey → BoxKey → Option ℕ
+number_in [] b = None
+number_in (c ∷ rest) b = if is_same c b then Some 1 else option_map suc (number_in rest b)
 
--- each container once, at its first place
-abbrev pub firsts : List BoxKey → List BoxKey
-firsts [] = []
-firsts (b ∷ rest) = b ∷ filter (λ later. not (is_same_box b later)) (firsts rest)
-
--- the number of a container: its place, from 1
 abbrev pub box_number : List BoxKey → BoxKey → ℕ
-box_number [] b = 0
-box_number (c ∷ rest) b = if is_same_box c b then 1 else suc (box_number rest b)
+box_number containers b = unwrap_or (number_in containers b) 0
 
 -- containers keep their numbers, and new ones get the next as they first appear
 abbrev pub merged_boxes : List Row → List BoxKey → List BoxKey
-merged_boxes rows containers = firsts (containers ++ flat_map (λ row. row.values.boxes) rows)
+merged_boxes rows containers = distinct (containers ++ flat_map (λ row. row.values.boxes) rows)
 
 -- ---- all of it
 

@@ -1,4 +1,8 @@
 pub mod Aids
+pub mod Numbers
+pub mod Places
+pub mod Planting
+pub mod Slots
 pub mod Words
 pub mod State
 pub mod Intake

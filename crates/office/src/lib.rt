@@ -4,6 +4,7 @@
 mod command;
 mod done;
 pub mod laws;
+mod preview;
 mod query;
 pub mod worked;
 
