@@ -1,7 +1,7 @@
 -- The containers stay distinct.
 use Rattle.std.proofs.Common.{◌≡◌, ℕ, List, [], ◌∷◌, Option, Some, None, Ok, Err, refl, sym, ap, ◌∙◌, subst}
 use Rattle.isad_core.specs.Texts.{Bytes}
-use Rattle.catalogue_store.specs.Merging.{firsts}
+use Rattle.atom_csv.specs.Values.{distinct}
 use Rattle.desk_core.specs.declared.reader.Place.TheVariants.{Shelf, Desk, Out}
 use Rattle.desk_core.specs.declared.reader.Place.{Place}
 use Rattle.office.specs.declared.command.Command.{Command}
@@ -14,13 +14,13 @@ use Rattle.office.proofs.Imports.{taken_is, firsts_again}
 
 -- no two containers have one name, location and kind
 AreApartBoxes : State → Type 0
-AreApartBoxes s = firsts s.boxes ≡ s.boxes
+AreApartBoxes s = distinct s.boxes ≡ s.boxes
 
-imported_boxes : (s : State) (source file : Bytes) (t : Taken) → taken s source file ≡ t → firsts s.boxes ≡ s.boxes → firsts (imported s t).boxes ≡ (imported s t).boxes
+imported_boxes : (s : State) (source file : Bytes) (t : Taken) → taken s source file ≡ t → distinct s.boxes ≡ s.boxes → distinct (imported s t).boxes ≡ (imported s t).boxes
 imported_boxes s source file (Err fault) e b = b
 imported_boxes s source file (Ok intake) e b =
     let x = ap (λ c. c.containers) (taken_is (catalogue s) source file intake e).is in
-    subst (λ bs. firsts bs ≡ bs) (sym x) (firsts_again _)
+    subst (λ bs. distinct bs ≡ bs) (sym x) (firsts_again _)
 
 cancelled_boxes : (s : State) (o : ℕ) (k : Option ℕ) → (cancelled s o k).boxes ≡ s.boxes
 cancelled_boxes s o None = refl
@@ -35,12 +35,12 @@ returned_boxes s c Shelf = refl
 returned_boxes s c Desk = refl
 returned_boxes s c (Out o) = refl
 
-pub apart_after : (s : State) (asked : Command) → firsts s.boxes ≡ s.boxes → firsts (after s asked).boxes ≡ (after s asked).boxes
+pub apart_after : (s : State) (asked : Command) → distinct s.boxes ≡ s.boxes → distinct (after s asked).boxes ≡ (after s asked).boxes
 apart_after s (command.Import source file) b = imported_boxes s source file (taken s source file) refl b
-apart_after s (command.Cancel o) b = subst (λ bs. firsts bs ≡ bs) (sym (cancelled_boxes s o (container_of s o))) b
-apart_after s (command.Issue c t) b = subst (λ bs. firsts bs ≡ bs) (sym (issued_boxes s c (s.queue c))) b
-apart_after s (command.Return c) b = subst (λ bs. firsts bs ≡ bs) (sym (returned_boxes s c (s.place c))) b
+apart_after s (command.Cancel o) b = subst (λ bs. distinct bs ≡ bs) (sym (cancelled_boxes s o (container_of s o))) b
+apart_after s (command.Issue c t) b = subst (λ bs. distinct bs ≡ bs) (sym (issued_boxes s c (s.queue c))) b
+apart_after s (command.Return c) b = subst (λ bs. distinct bs ≡ bs) (sym (returned_boxes s c (s.place c))) b
 apart_after s _ b = b
 
-pub step_apart : (s : State) (asked : Command) → firsts s.boxes ≡ s.boxes → firsts (step s asked).0.boxes ≡ (step s asked).0.boxes
-step_apart s asked b = step_at (λ t reply. firsts t.boxes ≡ t.boxes) s asked (λ why. b) (λ ok. apart_after s asked b)
+pub step_apart : (s : State) (asked : Command) → distinct s.boxes ≡ s.boxes → distinct (step s asked).0.boxes ≡ (step s asked).0.boxes
+step_apart s asked b = step_at (λ t reply. distinct t.boxes ≡ t.boxes) s asked (λ why. b) (λ ok. apart_after s asked b)

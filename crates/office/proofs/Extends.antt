@@ -3,7 +3,7 @@ use Rattle.std.proofs.Common.{◌≡◌, ◌≢◌, ℕ, zero, suc, ◌≤◌, t
 use Rattle.std.specs.Prelude.{ℤ, int_lt, ◌≤ℤ◌, is_some}
 use Rattle.std.proofs.lemmas.Int.{ints}
 use Rattle.isad_core.specs.Texts.{Bytes}
-use Rattle.catalogue_store.specs.Merging.{firsts}
+use Rattle.atom_csv.specs.Values.{distinct}
 use Rattle.std.proofs.lemmas.Bool.{false≢true, not-false}
 use Rattle.office.specs.Words.{numbered}
 use Rattle.desk_core.specs.declared.reader.Place.TheVariants.{Shelf, Desk, Out}
@@ -89,7 +89,7 @@ returned_extends s c Shelf = same_lists s s refl refl refl refl refl
 returned_extends s c Desk = same_lists s s refl refl refl refl refl
 returned_extends s c (Out o) = same_lists s (returned s c (Out o)) refl refl refl refl refl
 
-imported_extends : (s : State) (source file : Bytes) (t : Taken) → taken s source file ≡ t → firsts s.boxes ≡ s.boxes → Extends s (imported s t)
+imported_extends : (s : State) (source file : Bytes) (t : Taken) → taken s source file ≡ t → distinct s.boxes ≡ s.boxes → Extends s (imported s t)
 imported_extends s source file (Err fault) e b = same_lists s s refl refl refl refl refl
 imported_extends s source file (Ok intake) e b =
     let x = boxes_after (catalogue s) source file intake e b in
@@ -101,7 +101,7 @@ imported_extends s source file (Ok intake) e b =
       orders = λ o order h. h;
     }
 
-pub extends_after : (s : State) (asked : Command) → firsts s.boxes ≡ s.boxes → Passes (checks s asked) → Extends s (after s asked)
+pub extends_after : (s : State) (asked : Command) → distinct s.boxes ≡ s.boxes → Passes (checks s asked) → Extends s (after s asked)
 extends_after s (command.OpenDay day) b ok = record { settings = refl; day = after_today s.day day (not-false (int_lt s.day day) ok.0); tickets = λ n h. h; containers = λ n h. h; orders = λ o order h. h }
 extends_after s (command.Register name until) b ok = record { settings = refl; day = same_day s.day; tickets = λ n. some_kept s.readers _ n; containers = λ n h. h; orders = λ o order h. h }
 extends_after s (command.Renew t until) b ok = record { settings = refl; day = same_day s.day; tickets = λ n. some-renewed until s.readers t n; containers = λ n h. h; orders = λ o order h. h }

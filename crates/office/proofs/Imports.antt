@@ -10,7 +10,8 @@ use Rattle.isad_core.specs.declared.values.BoxKey.{BoxKey}
 use Rattle.atom_csv.specs.FileOf.{file_of}
 use Rattle.atom_csv.specs.declared.file.File.{File}
 use Rattle.atom_csv.specs.declared.file.Row.{Row}
-use Rattle.catalogue_store.specs.Merging.{Catalogue, merge, merged, or_first, faults_below, numbered_from, is_known, firsts, is_same_box, merged_boxes}
+use Rattle.catalogue_store.specs.Merging.{Catalogue, merge, merged, or_first, faults_below, numbered_from, is_known, merged_boxes}
+use Rattle.atom_csv.specs.Values.{distinct, is_same as is_same_box}
 use Rattle.office.specs.Intake.{Intake, take, take_rows, with_file}
 
 -- the rows of units that are not catalogued
@@ -79,20 +80,20 @@ or_not : (a b : Bool) → (not a && not b) ≡ not (a || b)
 or_not true b = refl
 or_not false b = refl
 
-pub firsts_append : (xs ys : List BoxKey) → firsts (xs ++ ys) ≡ firsts xs ++ filter (λ b. not (list_any (λ x. is_same_box x b) xs)) (firsts ys)
-firsts_append [] ys = sym (filter_keeps (λ b. true) (λ b. refl) (firsts ys))
+pub firsts_append : (xs ys : List BoxKey) → distinct (xs ++ ys) ≡ distinct xs ++ filter (λ b. not (list_any (λ x. is_same_box x b) xs)) (distinct ys)
+firsts_append [] ys = sym (filter_keeps (λ b. true) (λ b. refl) (distinct ys))
 firsts_append (x ∷ xs) ys =
     ap (λ l. x ∷ l)
     (ap (filter (λ later. not (is_same_box x later))) (firsts_append xs ys)
-    ∙ (filter_append (λ later. not (is_same_box x later)) (firsts xs) (filter (λ b. not (list_any (λ x. is_same_box x b) xs)) (firsts ys))
-    ∙ ap (λ l. filter (λ later. not (is_same_box x later)) (firsts xs) ++ l)
-    (filter_both (λ later. not (is_same_box x later)) (λ b. not (list_any (λ x. is_same_box x b) xs)) (λ b. not (is_same_box x b || list_any (λ x. is_same_box x b) xs)) (λ b. or_not (is_same_box x b) (list_any (λ x. is_same_box x b) xs)) (firsts ys))))
+    ∙ (filter_append (λ later. not (is_same_box x later)) (distinct xs) (filter (λ b. not (list_any (λ x. is_same_box x b) xs)) (distinct ys))
+    ∙ ap (λ l. filter (λ later. not (is_same_box x later)) (distinct xs) ++ l)
+    (filter_both (λ later. not (is_same_box x later)) (λ b. not (list_any (λ x. is_same_box x b) xs)) (λ b. not (is_same_box x b || list_any (λ x. is_same_box x b) xs)) (λ b. or_not (is_same_box x b) (list_any (λ x. is_same_box x b) xs)) (distinct ys))))
 
 -- the containers that come
 abbrev pub new_boxes : List BoxKey → List Row → List BoxKey
-new_boxes boxes rows = filter (λ b. not (list_any (λ x. is_same_box x b) boxes)) (firsts (flat_map (λ row. row.values.boxes) rows))
+new_boxes boxes rows = filter (λ b. not (list_any (λ x. is_same_box x b) boxes)) (distinct (flat_map (λ row. row.values.boxes) rows))
 
-pub boxes_grow : (boxes : List BoxKey) (rows : List Row) → firsts boxes ≡ boxes → merged_boxes rows boxes ≡ boxes ++ new_boxes boxes rows
+pub boxes_grow : (boxes : List BoxKey) (rows : List Row) → distinct boxes ≡ boxes → merged_boxes rows boxes ≡ boxes ++ new_boxes boxes rows
 boxes_grow boxes rows e = firsts_append boxes (flat_map (λ row. row.values.boxes) rows) ∙ ap (λ l. l ++ new_boxes boxes rows) e
 
 same_texts : (a b : List ℕ) → bytes_eq a b ≡ true → a ≡ b
@@ -132,28 +133,28 @@ kept_alone p y b e = at (is_same_box y b) refl
         right_true true = refl
         right_true false = refl
 
-pub firsts_filter : (p : BoxKey → Bool) (ys : List BoxKey) → firsts (filter p ys) ≡ filter p (firsts ys)
+pub firsts_filter : (p : BoxKey → Bool) (ys : List BoxKey) → distinct (filter p ys) ≡ filter p (distinct ys)
 firsts_filter p [] = refl
 firsts_filter p (y ∷ ys) = at (p y) refl (firsts_filter p ys)
   where
-    at : (b : Bool) → p y ≡ b → firsts (filter p ys) ≡ filter p (firsts ys) → firsts (cond b (y ∷ filter p ys) (filter p ys)) ≡ cond b (y ∷ filter p (filter (λ later. not (is_same_box y later)) (firsts ys))) (filter p (filter (λ later. not (is_same_box y later)) (firsts ys)))
+    at : (b : Bool) → p y ≡ b → distinct (filter p ys) ≡ filter p (distinct ys) → distinct (cond b (y ∷ filter p ys) (filter p ys)) ≡ cond b (y ∷ filter p (filter (λ later. not (is_same_box y later)) (distinct ys))) (filter p (filter (λ later. not (is_same_box y later)) (distinct ys)))
     at true e ih =
         ap (λ l. y ∷ l)
         (ap (filter (λ later. not (is_same_box y later))) ih
-        ∙ (filter_both (λ later. not (is_same_box y later)) p (λ b. not (is_same_box y b) && p b) (λ b. refl) (firsts ys)
-        ∙ sym (filter_both p (λ later. not (is_same_box y later)) (λ b. not (is_same_box y b) && p b) (λ b. and_swap (p b) (not (is_same_box y b))) (firsts ys))))
-    at false e ih = ih ∙ sym (filter_both p (λ later. not (is_same_box y later)) p (λ b. kept_alone p y b e) (firsts ys))
+        ∙ (filter_both (λ later. not (is_same_box y later)) p (λ b. not (is_same_box y b) && p b) (λ b. refl) (distinct ys)
+        ∙ sym (filter_both p (λ later. not (is_same_box y later)) (λ b. not (is_same_box y b) && p b) (λ b. and_swap (p b) (not (is_same_box y b))) (distinct ys))))
+    at false e ih = ih ∙ sym (filter_both p (λ later. not (is_same_box y later)) p (λ b. kept_alone p y b e) (distinct ys))
 
 -- the containers are still distinct
-pub firsts_again : (xs : List BoxKey) → firsts (firsts xs) ≡ firsts xs
+pub firsts_again : (xs : List BoxKey) → distinct (distinct xs) ≡ distinct xs
 firsts_again [] = refl
 firsts_again (x ∷ xs) =
     let p : BoxKey → Bool = λ later. not (is_same_box x later) in
     ap (λ l. x ∷ l)
-    (ap (filter p) (firsts_filter p (firsts xs) ∙ ap (filter p) (firsts_again xs))
-    ∙ filter_both p p p (λ b. and_twice (not (is_same_box x b))) (firsts xs))
+    (ap (filter p) (firsts_filter p (distinct xs) ∙ ap (filter p) (firsts_again xs))
+    ∙ filter_both p p p (λ b. and_twice (not (is_same_box x b))) (distinct xs))
 
-pub boxes_after : (c : Catalogue) (source file : Bytes) (intake : Intake) → take c source file ≡ Ok intake → firsts c.containers ≡ c.containers → intake.catalogue.containers ≡ c.containers ++ new_boxes c.containers intake.file.rows
+pub boxes_after : (c : Catalogue) (source file : Bytes) (intake : Intake) → take c source file ≡ Ok intake → distinct c.containers ≡ c.containers → intake.catalogue.containers ≡ c.containers ++ new_boxes c.containers intake.file.rows
 boxes_after c source file intake e b =
     ap (λ m. m.containers) (taken_is c source file intake e).is ∙ boxes_grow c.containers intake.file.rows b
 

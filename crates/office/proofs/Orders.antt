@@ -16,7 +16,7 @@ use Rattle.std.proofs.lemmas.Bool.Decides.{Decides-int_eq}
 use Rattle.isad_core.specs.declared.values.BoxKey.{BoxKey}
 use Rattle.desk_core.specs.Checks.{most_orders}
 use Rattle.catalogue_store.specs.Housing.{is_open}
-use Rattle.catalogue_store.specs.Merging.{firsts}
+use Rattle.atom_csv.specs.Values.{distinct}
 use Rattle.office.specs.Intake.{Taken}
 use Rattle.office.specs.Sound.{ExactlyOne, IsFiled, is_out_for, AreFiled, IsGoodOrder, AreGoodOrders}
 use Rattle.office.proofs.Words.{same_number, put_each, numbered-push, numbered-push_last}
@@ -195,7 +195,7 @@ imported_good : (s : State) (t : Taken) → Extends s (imported s t) → AreGood
 imported_good s (Err fault) e g = g
 imported_good s (Ok intake) e g = orders_same s (imported s (Ok intake)) e refl (λ p h. h) g
 
-pub orders_after : (s : State) (asked : Command) → firsts s.boxes ≡ s.boxes → AreFiled s → AreGoodOrders s → Passes (checks s asked) → AreGoodOrders (after s asked)
+pub orders_after : (s : State) (asked : Command) → distinct s.boxes ≡ s.boxes → AreFiled s → AreGoodOrders s → Passes (checks s asked) → AreGoodOrders (after s asked)
 orders_after s (command.OpenDay day) b f g ok = orders_same s (after s (command.OpenDay day)) (extends_after s (command.OpenDay day) b ok) refl (λ o h. h) g
 orders_after s (command.Register name until) b f g ok = orders_same s (after s (command.Register name until)) (extends_after s (command.Register name until) b ok) refl (λ o h. h) g
 orders_after s (command.Renew t until) b f g ok = orders_same s (after s (command.Renew t until)) (extends_after s (command.Renew t until) b ok) refl (λ o h. h) g

@@ -6,7 +6,7 @@ use Rattle.std.proofs.lemmas.Bool.{eqb-true, ltb-false, leb-false, cases_eq, cas
 use Rattle.office.specs.Words.{numbered, put, some_and, stands, first, first_that}
 use Rattle.isad_core.specs.declared.values.BoxKey.{BoxKey}
 use Rattle.catalogue_store.specs.Housing.{is_open}
-use Rattle.catalogue_store.specs.Merging.{firsts}
+use Rattle.atom_csv.specs.Values.{distinct}
 use Rattle.desk_core.specs.declared.reader.Place.TheVariants.{Shelf, Desk, Out}
 use Rattle.desk_core.specs.declared.reader.Place.{Place}
 use Rattle.office.specs.State.{State, Permit, is_permitted, is_seat_of, Order, Line, Run, is_seated, containers, is_container, opens, container_of, is_by, order_out, is_out, is_out_with, held, picked, line_for, next_run, brings, idle, granted}
@@ -279,7 +279,7 @@ grant_places s t u until g =
       known = g.known;
     }
 
-pub places_after : (s : State) (asked : Command) → firsts s.boxes ≡ s.boxes → AreFiled s → AreGoodOrders s → AreGoodPlaces s → Passes (checks s asked) → AreGoodPlaces (after s asked)
+pub places_after : (s : State) (asked : Command) → distinct s.boxes ≡ s.boxes → AreFiled s → AreGoodOrders s → AreGoodPlaces s → Passes (checks s asked) → AreGoodPlaces (after s asked)
 places_after s (command.OpenDay day) b f gs g ok = record { holders = λ c o order e n. absurd (none_out s f gs ok.1.0 c o e); known = g.known }
 places_after s (command.Register name until) b f gs g ok = record { holders = λ c o order e n. (let y = g.holders c o order e n in record { seated = y.seated; few = y.few; may_see = y.may_see }); known = g.known }
 places_after s (command.Renew t until) b f gs g ok = record { holders = λ c o order e n. (let y = g.holders c o order e n in record { seated = y.seated; few = y.few; may_see = y.may_see }); known = g.known }

@@ -6,7 +6,7 @@ use Rattle.std.proofs.lemmas.Bool.{eqb-true, eqb-false, ltb-true, ltb-false, leb
 use Rattle.office.specs.Words.{numbered}
 use Rattle.tree_core.specs.Forest.{cut}
 use Rattle.catalogue_store.specs.Units.{has_id}
-use Rattle.catalogue_store.specs.Merging.{firsts}
+use Rattle.atom_csv.specs.Values.{distinct}
 use Rattle.desk_core.specs.declared.reader.Place.TheVariants.{Shelf, Desk, Out}
 use Rattle.desk_core.specs.declared.reader.Place.{Place}
 use Rattle.office.specs.State.{State, Reader, Permit, has_unit, container_of, is_ticket, has_permit, granted, revoked}
@@ -226,7 +226,7 @@ readers_after s (command.SetClosure u until) g ok = readers_same s (after s (com
 readers_after s (command.Move u parent) g ok = readers_same s (after s (command.Move u parent)) refl g
 readers_after s (command.Remove u) g ok = readers_same s (after s (command.Remove u)) refl g
 
-pub permits_after : (s : State) (asked : Command) → firsts s.boxes ≡ s.boxes → AreGoodPermits s → Passes (checks s asked) → AreGoodPermits (after s asked)
+pub permits_after : (s : State) (asked : Command) → distinct s.boxes ≡ s.boxes → AreGoodPermits s → Passes (checks s asked) → AreGoodPermits (after s asked)
 permits_after s (command.Register name until) b g ok = permits_same s (after s (command.Register name until)) (extends_after s (command.Register name until) b ok) refl g
 permits_after s (command.Renew t until) b g ok = permits_same s (after s (command.Renew t until)) (extends_after s (command.Renew t until) b ok) refl g
 permits_after s (command.OpenDay day) b g ok = permits_same s (after s (command.OpenDay day)) (extends_after s (command.OpenDay day) b ok) refl g

@@ -10,7 +10,7 @@ use Rattle.office.specs.State.{State, Order, Line, Run, container_of, is_shelf, 
 use Rattle.office.specs.declared.command.Command.{Command}
 use Rattle.office.specs.declared.command.Command.TheVariants as command
 use Rattle.office.specs.Rules.{most_runs, checks, after, fetched, cancelled, issued, returned, imported, taken, removed}
-use Rattle.catalogue_store.specs.Merging.{firsts}
+use Rattle.atom_csv.specs.Values.{distinct}
 use Rattle.office.specs.Intake.{Taken}
 use Rattle.office.specs.Sound.{IsAscending, IsGoodLine, AreApart, IsGoodRun, AreGoodRuns}
 use Rattle.office.proofs.Words.{same_number, all-push, ascending-push, numbered-push, numbered-push_last}
@@ -187,7 +187,7 @@ imported_runs : (s : State) (t : Taken) → (imported s t).runs ≡ s.runs
 imported_runs s (Err fault) = refl
 imported_runs s (Ok intake) = refl
 
-pub runs_after : (s : State) (asked : Command) → firsts s.boxes ≡ s.boxes → AreGoodRuns s → Passes (checks s asked) → AreGoodRuns (after s asked)
+pub runs_after : (s : State) (asked : Command) → distinct s.boxes ≡ s.boxes → AreGoodRuns s → Passes (checks s asked) → AreGoodRuns (after s asked)
 runs_after s (command.OpenDay day) b g ok = runs_same s (after s (command.OpenDay day)) (extends_after s (command.OpenDay day) b ok) refl g
 runs_after s (command.Register name until) b g ok = runs_same s (after s (command.Register name until)) (extends_after s (command.Register name until) b ok) refl g
 runs_after s (command.Renew t until) b g ok = runs_same s (after s (command.Renew t until)) (extends_after s (command.Renew t until) b ok) refl g

@@ -17,7 +17,8 @@ use Rattle.tree_core.specs.Forest.{Forest, nodes, size, path}
 use Rattle.desk_core.specs.Refusals.{Check}
 use Rattle.desk_core.specs.declared.refusal.Refusal.TheVariants.{BadFile, Full}
 use Rattle.catalogue_store.specs.Units.{Unit, is_from}
-use Rattle.catalogue_store.specs.Merging.{Catalogue, merge, is_known, is_same_box}
+use Rattle.catalogue_store.specs.Merging.{Catalogue, merge, is_known}
+use Rattle.atom_csv.specs.Values.{is_same as is_same_box}
 use Rattle.office.specs.declared.done.Done.{Done}
 use Rattle.office.specs.declared.done.Done.TheVariants as done
 use Rattle.office.specs.declared.done.Remark.{Remark}

@@ -9,7 +9,7 @@ use Rattle.tree_core.specs.Forest.{Forest, nodes, size}
 use Rattle.desk_core.specs.Checks.{most_orders}
 use Rattle.desk_core.specs.declared.reader.Place.{Place}
 use Rattle.desk_core.specs.declared.reader.Place.TheVariants.{Shelf}
-use Rattle.catalogue_store.specs.Merging.{firsts, is_same_box}
+use Rattle.atom_csv.specs.Values.{distinct, is_same as is_same_box}
 use Rattle.office.specs.Words.{numbered, some_and, stands}
 use Rattle.office.specs.State.{Reader, Order, Line, Run, Permit, End, State, has_unit, is_ticket, is_seat_of, is_seated, is_container, opens, container_of, is_by, order_out, held, placed}
 use Rattle.office.specs.Intake.{most_units, most_unit_numbers, most_containers}
@@ -129,7 +129,7 @@ pub record AreGoodPermits (s : State) : Type 0 where
 
 pub record IsSoundDesk (s : State) : Type 0 where
   -- no two containers have one name, location and kind
-  pub boxes : firsts s.boxes ≡ s.boxes
+  pub boxes : distinct s.boxes ≡ s.boxes
   pub filed : AreFiled s
   pub orders : AreGoodOrders s
   pub seats : AreGoodSeats s
