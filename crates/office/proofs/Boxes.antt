@@ -10,7 +10,7 @@ use Rattle.office.specs.State.{State, container_of}
 use Rattle.office.specs.Intake.{Taken}
 use Rattle.office.specs.Rules.{catalogue, after, step, cancelled, issued, returned, imported, taken}
 use Rattle.office.proofs.Steps.{step_at}
-use Rattle.office.proofs.Imports.{taken_is, firsts_again}
+use Rattle.office.proofs.Imports.{taken_is, distinct_again}
 
 -- no two containers have one name, location and kind
 AreApartBoxes : State → Type 0
@@ -20,7 +20,7 @@ imported_boxes : (s : State) (source file : Bytes) (t : Taken) → taken s sourc
 imported_boxes s source file (Err fault) e b = b
 imported_boxes s source file (Ok intake) e b =
     let x = ap (λ c. c.containers) (taken_is (catalogue s) source file intake e).is in
-    subst (λ bs. distinct bs ≡ bs) (sym x) (firsts_again _)
+    subst (λ bs. distinct bs ≡ bs) (sym x) (distinct_again _)
 
 cancelled_boxes : (s : State) (o : ℕ) (k : Option ℕ) → (cancelled s o k).boxes ≡ s.boxes
 cancelled_boxes s o None = refl

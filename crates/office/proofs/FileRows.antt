@@ -167,8 +167,8 @@ apart_below header above (fields ∷ rest) f =
     at (Some row) e g k a =
         let t = tells header (line_at above fields) row g e in (
           all_more (λ later. list_any (has_id header later.legacy) (above ++ fields ∷ []) ≡ false) (λ later. bytes_eq row.legacy later.legacy ≡ false)
-          (λ later h. subst (λ r. bytes_eq r.legacy later.legacy ≡ false) (sym t.is) (not_above_less header above fields later h).1)
-          (filter_map (row_told header) (lines_below (above ++ fields ∷ []) rest)) k,
+              (λ later h. subst (λ r. bytes_eq r.legacy later.legacy ≡ false) (sym t.is) (not_above_less header above fields later h).1)
+              (filter_map (row_told header) (lines_below (above ++ fields ∷ []) rest)) k,
           a,
         )
 

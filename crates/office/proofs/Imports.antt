@@ -80,11 +80,11 @@ or_not : (a b : Bool) → (not a && not b) ≡ not (a || b)
 or_not true b = refl
 or_not false b = refl
 
-pub firsts_append : (xs ys : List BoxKey) → distinct (xs ++ ys) ≡ distinct xs ++ filter (λ b. not (list_any (λ x. is_same_box x b) xs)) (distinct ys)
-firsts_append [] ys = sym (filter_keeps (λ b. true) (λ b. refl) (distinct ys))
-firsts_append (x ∷ xs) ys =
+pub distinct_append : (xs ys : List BoxKey) → distinct (xs ++ ys) ≡ distinct xs ++ filter (λ b. not (list_any (λ x. is_same_box x b) xs)) (distinct ys)
+distinct_append [] ys = sym (filter_keeps (λ b. true) (λ b. refl) (distinct ys))
+distinct_append (x ∷ xs) ys =
     ap (λ l. x ∷ l)
-    (ap (filter (λ later. not (is_same_box x later))) (firsts_append xs ys)
+    (ap (filter (λ later. not (is_same_box x later))) (distinct_append xs ys)
     ∙ (filter_append (λ later. not (is_same_box x later)) (distinct xs) (filter (λ b. not (list_any (λ x. is_same_box x b) xs)) (distinct ys))
     ∙ ap (λ l. filter (λ later. not (is_same_box x later)) (distinct xs) ++ l)
     (filter_both (λ later. not (is_same_box x later)) (λ b. not (list_any (λ x. is_same_box x b) xs)) (λ b. not (is_same_box x b || list_any (λ x. is_same_box x b) xs)) (λ b. or_not (is_same_box x b) (list_any (λ x. is_same_box x b) xs)) (distinct ys))))
@@ -94,7 +94,7 @@ abbrev pub new_boxes : List BoxKey → List Row → List BoxKey
 new_boxes boxes rows = filter (λ b. not (list_any (λ x. is_same_box x b) boxes)) (distinct (flat_map (λ row. row.values.boxes) rows))
 
 pub boxes_grow : (boxes : List BoxKey) (rows : List Row) → distinct boxes ≡ boxes → merged_boxes rows boxes ≡ boxes ++ new_boxes boxes rows
-boxes_grow boxes rows e = firsts_append boxes (flat_map (λ row. row.values.boxes) rows) ∙ ap (λ l. l ++ new_boxes boxes rows) e
+boxes_grow boxes rows e = distinct_append boxes (flat_map (λ row. row.values.boxes) rows) ∙ ap (λ l. l ++ new_boxes boxes rows) e
 
 same_texts : (a b : List ℕ) → bytes_eq a b ≡ true → a ≡ b
 same_texts a b e = grind (arith, bytes_eq-Decides a b)
@@ -133,9 +133,9 @@ kept_alone p y b e = at (is_same_box y b) refl
         right_true true = refl
         right_true false = refl
 
-pub firsts_filter : (p : BoxKey → Bool) (ys : List BoxKey) → distinct (filter p ys) ≡ filter p (distinct ys)
-firsts_filter p [] = refl
-firsts_filter p (y ∷ ys) = at (p y) refl (firsts_filter p ys)
+pub distinct_filter : (p : BoxKey → Bool) (ys : List BoxKey) → distinct (filter p ys) ≡ filter p (distinct ys)
+distinct_filter p [] = refl
+distinct_filter p (y ∷ ys) = at (p y) refl (distinct_filter p ys)
   where
     at : (b : Bool) → p y ≡ b → distinct (filter p ys) ≡ filter p (distinct ys) → distinct (cond b (y ∷ filter p ys) (filter p ys)) ≡ cond b (y ∷ filter p (filter (λ later. not (is_same_box y later)) (distinct ys))) (filter p (filter (λ later. not (is_same_box y later)) (distinct ys)))
     at true e ih =
@@ -146,12 +146,12 @@ firsts_filter p (y ∷ ys) = at (p y) refl (firsts_filter p ys)
     at false e ih = ih ∙ sym (filter_both p (λ later. not (is_same_box y later)) p (λ b. kept_alone p y b e) (distinct ys))
 
 -- the containers are still distinct
-pub firsts_again : (xs : List BoxKey) → distinct (distinct xs) ≡ distinct xs
-firsts_again [] = refl
-firsts_again (x ∷ xs) =
+pub distinct_again : (xs : List BoxKey) → distinct (distinct xs) ≡ distinct xs
+distinct_again [] = refl
+distinct_again (x ∷ xs) =
     let p : BoxKey → Bool = λ later. not (is_same_box x later) in
     ap (λ l. x ∷ l)
-    (ap (filter p) (firsts_filter p (distinct xs) ∙ ap (filter p) (firsts_again xs))
+    (ap (filter p) (distinct_filter p (distinct xs) ∙ ap (filter p) (distinct_again xs))
     ∙ filter_both p p p (λ b. and_twice (not (is_same_box x b))) (distinct xs))
 
 pub boxes_after : (c : Catalogue) (source file : Bytes) (intake : Intake) → take c source file ≡ Ok intake → distinct c.containers ≡ c.containers → intake.catalogue.containers ≡ c.containers ++ new_boxes c.containers intake.file.rows

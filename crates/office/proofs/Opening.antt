@@ -10,7 +10,6 @@ use Rattle.catalogue_store.specs.Units.{Unit, is_closed}
 use Rattle.catalogue_store.specs.Housing.{contents, is_withheld_from, is_some_there, is_open}
 use Rattle.office.specs.State.{Permit, is_permitted, granted}
 
-
 any_weaker : {X : Type 0} (p q : X → Bool) → ((x : X) → p x ≡ true → q x ≡ true) → (xs : List X) → list_any p xs ≡ true → list_any q xs ≡ true
 any_weaker p q f [] h = h
 any_weaker p q f (x ∷ xs) h = at (p x) (q x) (f x) (any_weaker p q f xs) h

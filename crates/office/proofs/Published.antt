@@ -85,9 +85,9 @@ published_below day w (Node unit c o) h k =
     at false d p q = (
       here day w unit (paths_below (w ++ unit ∷ []) c ++ paths_below w o) d h k,
       all_both (IsPublished day (paths_below w (Node unit c o))) (nodes (each public_unit (cond (is_closed day unit) Empty (public (λ (u : Unit). u.draft) (is_closed day) c)))) (nodes (public_of day o))
-      (all_weaker (IsPublished day (paths_below (w ++ unit ∷ []) c)) (IsPublished day (paths_below w (Node unit c o))) (wider day (paths_below (w ++ unit ∷ []) c) (paths_below w (Node unit c o)) (λ way s. inr (stands_left way (paths_below (w ++ unit ∷ []) c) (paths_below w o) s))) (nodes (each public_unit (cond (is_closed day unit) Empty (public (λ (u : Unit). u.draft) (is_closed day) c))))
-      (below_at day w unit c (is_closed day unit) refl (q d)))
-      (beside p),
+          (all_weaker (IsPublished day (paths_below (w ++ unit ∷ []) c)) (IsPublished day (paths_below w (Node unit c o))) (wider day (paths_below (w ++ unit ∷ []) c) (paths_below w (Node unit c o)) (λ way s. inr (stands_left way (paths_below (w ++ unit ∷ []) c) (paths_below w o) s))) (nodes (each public_unit (cond (is_closed day unit) Empty (public (λ (u : Unit). u.draft) (is_closed day) c))))
+          (below_at day w unit c (is_closed day unit) refl (q d)))
+          (beside p),
     )
 
 same : (a b : Page) → Some a ≡ Some b → a ≡ b

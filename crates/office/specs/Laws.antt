@@ -6,6 +6,10 @@ use Rattle.office.specs.Sound.{is_out_for, IsGoodHolder}
 use Rattle.office.specs.declared.command.Command.{Command}
 use Rattle.office.specs.declared.command.Command.TheVariants as command
 use Rattle.office.specs.declared.done.Done.TheVariants as done
+use Rattle.office.specs.declared.done.Remark.{Remark}
+use Rattle.isad_core.specs.Texts.{Bytes}
+use Rattle.atom_csv.specs.FileOf.{file_of}
+use Rattle.atom_csv.specs.declared.file.File.{File}
 use Rattle.office.specs.Rules.{Reply, step}
 
 -- ---- orders
@@ -102,3 +106,16 @@ AreNumbered s = (u : ℕ) → has_unit s.forest u ≡ true → u < s.next_unit
 -- a unit that comes has one of the numbers that the command gives
 abbrev pub ComesNew : State → State → Type 0
 ComesNew s t = (u : ℕ) → has_unit t.forest u ≡ true → (has_unit s.forest u ≡ true) ⊎ ((s.next_unit ≤ u) × (u < t.next_unit))
+
+-- ---- an import that is done again
+
+-- An accepted import that is done again at once changes nothing. Its reply counts every row as one that left its unit as it
+-- was, with the same remarks and translations.
+abbrev pub ImportsAgain : State → Type 0
+ImportsAgain s =
+    (source file : Bytes) (changed new : ℕ) (remarks : List Remark) (same translations : ℕ)
+    → (step s (command.Import source file)).1 ≡ Ok (done.Import changed new remarks same translations)
+    → (read : File)
+    × (file_of file ≡ Ok read)
+    × (step (step s (command.Import source file)).0 (command.Import source file)
+    ≡ ((step s (command.Import source file)).0, Ok (done.Import 0 0 remarks (length read.rows) translations)))

@@ -7,7 +7,7 @@ ghost use Rattle.office.specs.State.{State, Settings, start};
 ghost use Rattle.office.specs.Rules.{step, state_after};
 ghost use Rattle.office.specs.Sound.{IsSoundDesk, IsAscending};
 ghost use Rattle.office.specs.Secrecy.{SamePublic, AnswersAlike, ShowsOnlyPublished};
-ghost use Rattle.office.specs.Laws.{OutApart, GoesOn, IssuesTheFirst, OpenToHolders, Kind, all_given};
+ghost use Rattle.office.specs.Laws.{OutApart, GoesOn, IssuesTheFirst, OpenToHolders, ImportsAgain, Kind, all_given};
 
 /// The reading room of a new office is sound, and it stays sound.
 pub fn desk_stays_sound()
@@ -50,4 +50,9 @@ pub fn nothing_leaks()
 /// Every unit in an answer to the public's questions is published, and is a stub where it is closed.
 pub fn only_the_published_is_shown()
     ensures { (s : State) → ShowsOnlyPublished s }
+{}
+
+/// An accepted import that is done again at once changes nothing, and its reply counts every row as the same.
+pub fn imports_again()
+    ensures { (s : State) → ImportsAgain s }
 {}
