@@ -11,7 +11,7 @@ use Rattle.atom_csv.specs.Columns.{columns}
 use Rattle.atom_csv.specs.Values.{described}
 use Rattle.catalogue_store.specs.Housing.{is_open}
 use Rattle.office.specs.Intake.{take}
-use Rattle.office.specs.AnswerRows.{Aids, Pages, AtTheDesk, Replies}
+use Rattle.office.specs.AnswerRows.{Aids, Pages, Statuses, AtTheDesk, Replies}
 
 pub aids : Aids
 unfolding is_open take is_utf8 chars encode records_from strip_bom next_record columns described digits day_text
@@ -20,6 +20,10 @@ aids = record { fonds = refl; nothing = refl; whole = refl; lower = refl; draft_
 pub pages : Pages
 unfolding is_open take is_utf8 chars encode records_from strip_bom next_record columns described digits day_text
 pages = record { found = refl; with_children = refl; own = refl; boxes_above = refl; own_boxes = refl; draft_unknown = refl; below_a_draft = refl; closed = refl; below_a_closed = refl; none_such = refl; permits_unseen = refl }
+
+pub statuses : Statuses
+unfolding is_open take is_utf8 chars encode records_from strip_bom next_record columns described digits day_text
+statuses = record { branch_drafted = refl; branch_published = refl; unit_alone = refl; one_closed = refl }
 
 pub at_the_desk : AtTheDesk
 unfolding is_open take is_utf8 chars encode records_from strip_bom next_record columns described digits day_text serde_json_on_literals

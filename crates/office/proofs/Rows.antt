@@ -8,7 +8,7 @@ use Rattle.atom_csv.specs.Columns.{columns}
 use Rattle.atom_csv.specs.Values.{described}
 use Rattle.catalogue_store.specs.Housing.{is_open}
 use Rattle.office.specs.Intake.{take}
-use Rattle.office.specs.Rows.{QueueOfTwo, GateAndDay, RunOfTwoAndOne, OrdersOfADay, Seats, ExpiryAndRenewal, HandsAndReshelving, LeastOrders, LockGates, Permits, PermitsAndDrafts, ImportAgain, FaultyFiles, Remarks, Moves, Unknown, ExpiredAtTheDesk, ClosureEnds, SeatsOvernight, LowestContainer, HeadCancelled, TwoAtOnce, WithReaderAgain, PermitsAbove, Placed}
+use Rattle.office.specs.Rows.{NamesOfReaders, AtTheCounter, QueueOfTwo, GateAndDay, RunOfTwoAndOne, OrdersOfADay, Seats, ExpiryAndRenewal, HandsAndReshelving, LeastOrders, LockGates, Permits, PermitsAndDrafts, ImportAgain, FaultyFiles, Remarks, Moves, Unknown, ExpiredAtTheDesk, ClosureEnds, SeatsOvernight, LowestContainer, HeadCancelled, TwoAtOnce, WithReaderAgain, PermitsAbove, Placed}
 
 pub queue_of_two : QueueOfTwo
 unfolding is_open take is_utf8 chars encode records_from strip_bom next_record columns described
@@ -105,6 +105,14 @@ with_reader_again = refl
 pub permits_above : PermitsAbove
 unfolding is_open take is_utf8 chars encode records_from strip_bom next_record columns described
 permits_above = refl
+
+pub names_of_readers : NamesOfReaders
+unfolding is_open take is_utf8 chars encode records_from strip_bom next_record columns described
+names_of_readers = refl
+
+pub at_the_counter : AtTheCounter
+unfolding is_open take is_utf8 chars encode records_from strip_bom next_record columns described
+at_the_counter = refl
 
 pub placed : Placed
 unfolding is_open take is_utf8 chars encode records_from strip_bom next_record columns described

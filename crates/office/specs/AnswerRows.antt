@@ -1,9 +1,9 @@
 -- What is answered in small offices, to the byte. Each expected text was written by hand.
-use Rattle.std.specs.Prelude.{◌≡◌, ◌++◌, List, [], ◌∷◌, Some, None, codes}
+use Rattle.std.specs.Prelude.{◌≡◌, true, false, List, [], ◌∷◌, None, codes}
 use Rattle.isad_core.specs.Texts.{Bytes}
 use Rattle.desk_core.specs.declared.refusal.Refusal.TheVariants.{UnknownUnit, UnknownTicket, UnknownContainer, UnknownRun, WithReader, BadFile, BadName}
 use Rattle.office.specs.declared.command.Command.{Command}
-use Rattle.office.specs.declared.command.Command.TheVariants.{OpenDay, SetClosure, Move, Remove, TakeSeat, Order, Cancel, Run, Reshelve, Issue, Return, Permit}
+use Rattle.office.specs.declared.command.Command.TheVariants.{OpenDay, SetStatus, SetClosure, Move, Remove, TakeSeat, Order, Cancel, Run, Reshelve, Issue, Return, Permit}
 use Rattle.office.specs.declared.done.Done.TheVariants as done
 use Rattle.office.specs.declared.done.Remark.TheVariants.{LacksEssential}
 use Rattle.office.specs.declared.query.Query.{Query}
@@ -46,6 +46,13 @@ pub record Pages : Type 0 where
   pub below_a_closed : Says (import smith ∷ close 2 year_2030 ∷ []) (Page 3) (Unknown UnknownUnit)
   pub none_such : Says (import smith ∷ []) (Page 99999) (Unknown UnknownUnit)
   pub permits_unseen : Says (import lock_gates ∷ ann ∷ close 2 year_2030 ∷ Permit 1 2 march_1 ∷ []) (Aid 1) (Text (codes "GB 0999 P [-] Plans\n  Container 1: Box 1\n  GB 0999 P/1 [-] closed until 2030-01-01\n"))
+
+-- a status for a branch sets all of it, and a status for a unit that unit alone
+pub record Statuses : Type 0 where
+  pub branch_drafted : Says (import docks ∷ SetStatus 1 true true ∷ publish 1 ∷ []) (Aid 1) (Text (codes "GB 0999 HUL [Fonds] Hull Dock Company\n"))
+  pub branch_published : Says (import docks ∷ draft 2 ∷ SetStatus 1 false true ∷ []) (Aid 2) (Text (codes "GB 0999 HUL/1 [Series] Minutes\n"))
+  pub unit_alone : Says (import docks ∷ draft 2 ∷ publish 1 ∷ []) (Page 2) (Unknown UnknownUnit)
+  pub one_closed : Says (import docks ∷ close 1 year_2030 ∷ SetClosure 1 None ∷ close 2 year_2030 ∷ SetClosure 1 None ∷ []) (Page 2) (Text (codes "GB 0999 HUL/1 [Series] closed until 2030-01-01\n"))
 
 -- what the desk asks
 pub record AtTheDesk : Type 0 where

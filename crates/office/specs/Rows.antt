@@ -1,5 +1,5 @@
 -- What the rules make of small offices. Each expected reply was found by the rules as they are told, by hand.
-use Rattle.std.specs.Prelude.{◌≡◌, ℕ, true, false, [], ◌∷◌, Some, None, Ok, Err, codes, map}
+use Rattle.std.specs.Prelude.{◌≡◌, ℕ, true, false, [], ◌∷◌, Some, None, Ok, Err, codes, replicate}
 use Rattle.tree_core.specs.Forest.{each}
 use Rattle.tree_core.specs.Spans.{number}
 use Rattle.tree_core.specs.Links.{siblings}
@@ -183,6 +183,20 @@ PermitsAbove =
     Answers
     (import lock_gates ∷ ann ∷ close 1 year_2030 ∷ Order 1 1 ∷ Permit 1 2 year_end ∷ Order 1 1 ∷ Permit 1 1 year_end ∷ Order 1 1 ∷ Run ∷ TakeSeat 1 ∷ Issue 1 1 ∷ Renew 1 march_1 ∷ Remove 2 ∷ draft 2 ∷ [])
     (rows 0 2 0 0 (LacksEssential 2 ∷ []) ∷ Ok (done.Register 1) ∷ Ok (done.SetClosure 1) ∷ refused NotAvailable ∷ Ok (done.Permit 1 2 year_end) ∷ refused NotAvailable ∷ Ok (done.Permit 1 1 year_end) ∷ order 1 ∷ Ok (done.Run 1 1) ∷ Ok (done.TakeSeat 1) ∷ issued 1 ∷ Ok (done.Renew 1) ∷ Ok (done.Remove 1) ∷ refused UnknownUnit ∷ [])
+
+-- a reader's name has no control character, and up to 100 bytes
+abbrev pub NamesOfReaders : Type 0
+NamesOfReaders =
+    Answers
+    (Register (codes "A\tB") year_end ∷ Register (codes "A\u{7f}B") year_end ∷ Register [] year_end ∷ Register (replicate 101 65) year_end ∷ Register (replicate 100 65) year_end ∷ Import (codes "") docks ∷ Import (codes "A-z_0.9") docks ∷ [])
+    (refused BadName ∷ refused BadName ∷ refused BadName ∷ refused BadName ∷ Ok (done.Register 1) ∷ refused BadName ∷ rows 0 2 0 0 (LacksEssential 2 ∷ []) ∷ [])
+
+-- what is not given at the desk: to one who does not sit, and what was closed since
+abbrev pub AtTheCounter : Type 0
+AtTheCounter =
+    Answers
+    (import boxes ∷ ann ∷ Order 1 1 ∷ Order 1 2 ∷ Run ∷ Issue 1 1 ∷ TakeSeat 1 ∷ close 1 april_1 ∷ Issue 1 1 ∷ Issue 2 1 ∷ close 3 april_1 ∷ Move 2 (Some 3) ∷ Return 2 ∷ Move 2 (Some 3) ∷ Issue 1 1 ∷ [])
+    (four_new ∷ Ok (done.Register 1) ∷ order 1 ∷ order 2 ∷ Ok (done.Run 1 2) ∷ refused NotSeated ∷ Ok (done.TakeSeat 1) ∷ Ok (done.SetClosure 1) ∷ refused NotAvailable ∷ issued 2 ∷ Ok (done.SetClosure 3) ∷ refused (WithReader 2) ∷ Ok (done.Return 2) ∷ Ok (done.Move 2) ∷ refused NotAvailable ∷ [])
 
 -- the rows of the places: moves renumber, and what is removed leaves no gap
 pub record Placed : Type 0 where

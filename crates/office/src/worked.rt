@@ -29,6 +29,8 @@ pub fn worked_rows()
     ensures two_at_once { row.TwoAtOnce }
     ensures with_reader_again { row.WithReaderAgain }
     ensures permits_above { row.PermitsAbove }
+    ensures names_of_readers { row.NamesOfReaders }
+    ensures at_the_counter { row.AtTheCounter }
     ensures placed { row.Placed }
 {}
 
@@ -36,6 +38,7 @@ pub fn worked_rows()
 pub fn worked_answers()
     ensures aids { answers.Aids }
     ensures pages { answers.Pages }
+    ensures statuses { answers.Statuses }
     ensures at_the_desk { answers.AtTheDesk }
     ensures replies { answers.Replies }
 {}

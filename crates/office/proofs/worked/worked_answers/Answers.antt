@@ -12,3 +12,6 @@ returns-clause-at_the_desk c = row.at_the_desk
 
 pub returns-clause-replies : goal.returns-clause-replies
 returns-clause-replies c = row.replies
+
+pub returns-clause-statuses : goal.returns-clause-statuses
+returns-clause-statuses c = row.statuses

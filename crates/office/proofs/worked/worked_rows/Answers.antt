@@ -75,3 +75,9 @@ returns-clause-permits_above c = row.permits_above
 
 pub returns-clause-placed : goal.returns-clause-placed
 returns-clause-placed c = row.placed
+
+pub returns-clause-names_of_readers : goal.returns-clause-names_of_readers
+returns-clause-names_of_readers c = row.names_of_readers
+
+pub returns-clause-at_the_counter : goal.returns-clause-at_the_counter
+returns-clause-at_the_counter c = row.at_the_counter
