@@ -127,7 +127,7 @@ nodes-join (Node a c o) g = ap (λ l. a ∷ l) (ap (λ l. nodes c ++ l) (nodes-j
 pub has-join : {A : Type 0} (is : A → Bool) (f g : Forest A) → has is (join f g) ≡ (has is f || has is g)
 has-join is f g = ap (list_any is) (nodes-join f g) ∙ list_any-append is (nodes f) (nodes g)
 
-or_each : (a b c a' b' c' : Bool) → (a ≡ true → a' ≡ true) → (b ≡ true → b' ≡ true) → (c ≡ true → c' ≡ true) → (a || (b || c)) ≡ true → (a' || (b' || c')) ≡ true
+pub or_each : (a b c a' b' c' : Bool) → (a ≡ true → a' ≡ true) → (b ≡ true → b' ≡ true) → (c ≡ true → c' ≡ true) → (a || (b || c)) ≡ true → (a' || (b' || c')) ≡ true
 or_each true b c a' b' c' f g h e = or_left a' (b' || c') (f refl)
 or_each false true c a' b' c' f g h e = or_right a' (b' || c') (or_left b' c' (g refl))
 or_each false false c a' b' c' f g h e = or_right a' (b' || c') (or_right b' c' (h e))

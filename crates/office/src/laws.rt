@@ -7,7 +7,7 @@ ghost use Rattle.office.specs.State.{State, Settings, start};
 ghost use Rattle.office.specs.Rules.{step, state_after};
 ghost use Rattle.office.specs.Sound.{IsSoundDesk, IsAscending};
 ghost use Rattle.office.specs.Secrecy.{SamePublic, AnswersAlike, ShowsOnlyPublished};
-ghost use Rattle.office.specs.Laws.{OutApart, GoesOn, IssuesTheFirst, OpenToHolders, ImportsAgain, Kind, all_given};
+ghost use Rattle.office.specs.Laws.{OutApart, GoesOn, IssuesTheFirst, OpenToHolders, ImportsAgain, Kind, all_given, ComesNew};
 
 /// The reading room of a new office is sound, and it stays sound.
 pub fn desk_stays_sound()
@@ -55,4 +55,9 @@ pub fn only_the_published_is_shown()
 /// An accepted import that is done again at once changes nothing, and its reply counts every row as the same.
 pub fn imports_again()
     ensures { (s : State) → ImportsAgain s }
+{}
+
+/// A unit that comes with a command has one of the unit numbers that the command gives.
+pub fn units_come_new()
+    ensures { (s : State) (asked : Command) → ComesNew s (step s asked).0 }
 {}
