@@ -1,5 +1,6 @@
 -- The worked rows, computed.
 use Rattle.std.proofs.Common.{refl}
+use Rattle.std.specs.Fmt.{digits}
 use Rattle.std.specs.Str.{is_utf8, chars}
 use Rattle.std.proofs.Math.Utf8.{encode}
 use Rattle.csv.specs.Reading.{records_from, strip_bom}
@@ -8,7 +9,7 @@ use Rattle.atom_csv.specs.Columns.{columns}
 use Rattle.atom_csv.specs.Values.{described}
 use Rattle.catalogue_store.specs.Housing.{is_open}
 use Rattle.office.specs.Intake.{take}
-use Rattle.office.specs.Rows.{NamesOfReaders, AtTheCounter, QueueOfTwo, GateAndDay, RunOfTwoAndOne, OrdersOfADay, Seats, ExpiryAndRenewal, HandsAndReshelving, LeastOrders, LockGates, Permits, PermitsAndDrafts, ImportAgain, FaultyFiles, Remarks, Moves, Unknown, ExpiredAtTheDesk, ClosureEnds, SeatsOvernight, LowestContainer, HeadCancelled, TwoAtOnce, WithReaderAgain, PermitsAbove, Placed}
+use Rattle.office.specs.Rows.{Depths, NamesOfReaders, AtTheCounter, QueueOfTwo, GateAndDay, RunOfTwoAndOne, OrdersOfADay, Seats, ExpiryAndRenewal, HandsAndReshelving, LeastOrders, LockGates, Permits, PermitsAndDrafts, ImportAgain, FaultyFiles, Remarks, Moves, Unknown, ExpiredAtTheDesk, ClosureEnds, SeatsOvernight, LowestContainer, HeadCancelled, TwoAtOnce, WithReaderAgain, PermitsAbove, Placed}
 
 pub queue_of_two : QueueOfTwo
 unfolding is_open take is_utf8 chars encode records_from strip_bom next_record columns described
@@ -113,6 +114,10 @@ names_of_readers = refl
 pub at_the_counter : AtTheCounter
 unfolding is_open take is_utf8 chars encode records_from strip_bom next_record columns described
 at_the_counter = refl
+
+pub depths : Depths
+unfolding is_open take is_utf8 chars encode records_from strip_bom next_record columns described digits
+depths = refl
 
 pub placed : Placed
 unfolding is_open take is_utf8 chars encode records_from strip_bom next_record columns described

@@ -16,3 +16,4 @@ pub mod Pages
 pub mod Queries
 pub mod AnswerRows
 pub mod Secrecy
+pub mod Soundness

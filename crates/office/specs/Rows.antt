@@ -4,13 +4,13 @@ use Rattle.tree_core.specs.Forest.{each}
 use Rattle.tree_core.specs.Spans.{number}
 use Rattle.tree_core.specs.Links.{siblings}
 use Rattle.tree_core.specs.Worked.{span, link}
-use Rattle.desk_core.specs.declared.refusal.Refusal.TheVariants.{UnknownUnit, UnknownTicket, UnknownContainer, TicketExpired, NotAvailable, AlreadyOrdered, DailyLimit, NoSeatFree, AlreadySeated, NotSeated, HoldsContainers, UnknownOrder, OrderNotWaiting, NotAtDesk, NotFirst, HandsFull, NotIssued, DayNotLater, StillIssued, IntoItself, WithReader, BadFile, NothingToMove, BadName, NoPermit}
+use Rattle.desk_core.specs.declared.refusal.Refusal.TheVariants.{UnknownUnit, UnknownTicket, UnknownContainer, TicketExpired, NotAvailable, AlreadyOrdered, DailyLimit, NoSeatFree, AlreadySeated, NotSeated, HoldsContainers, UnknownOrder, OrderNotWaiting, NotAtDesk, NotFirst, HandsFull, NotIssued, DayNotLater, StillIssued, IntoItself, WithReader, BadFile, NothingToMove, TooDeep, BadName, NoPermit}
 use Rattle.office.specs.declared.command.Command.TheVariants.{OpenDay, Import, SetStatus, SetClosure, Move, Remove, Register, Renew, TakeSeat, LeaveSeat, Order, Cancel, Run, Reshelve, Issue, Return, Permit, Revoke}
 use Rattle.office.specs.declared.done.Done.TheVariants as done
 use Rattle.office.specs.declared.done.Remark.TheVariants.{LevelTooHigh, LacksEssential}
 use Rattle.catalogue_store.specs.Units.{Unit}
 use Rattle.office.specs.Rules.{Reply, state_after}
-use Rattle.office.specs.Worked.{Answers, office, import, publish, draft, close, ann, bob, order, issued, refused, rows, february_1, march_1, march_2, march_31, april_1, year_end, year_2030, docks, boxes, boxes_with_9, boxes_with_draft, lock_gates, lock_gates_apart, parent_later, translated, told_twice, upside_down}
+use Rattle.office.specs.Worked.{Answers, office, import, publish, draft, close, ann, bob, order, issued, refused, rows, february_1, march_1, march_2, march_31, april_1, year_end, year_2030, docks, boxes, boxes_with_9, boxes_with_draft, lock_gates, lock_gates_apart, parent_later, translated, told_twice, upside_down, chain}
 
 -- what is told of the import of four boxes: none has all six essential elements
 abbrev pub four_new : Reply
@@ -197,6 +197,13 @@ AtTheCounter =
     Answers
     (import boxes ∷ ann ∷ Order 1 1 ∷ Order 1 2 ∷ Run ∷ Issue 1 1 ∷ TakeSeat 1 ∷ close 1 april_1 ∷ Issue 1 1 ∷ Issue 2 1 ∷ close 3 april_1 ∷ Move 2 (Some 3) ∷ Return 2 ∷ Move 2 (Some 3) ∷ Issue 1 1 ∷ [])
     (four_new ∷ Ok (done.Register 1) ∷ order 1 ∷ order 2 ∷ Ok (done.Run 1 2) ∷ refused NotSeated ∷ Ok (done.TakeSeat 1) ∷ Ok (done.SetClosure 1) ∷ refused NotAvailable ∷ issued 2 ∷ Ok (done.SetClosure 3) ∷ refused (WithReader 2) ∷ Ok (done.Return 2) ∷ Ok (done.Move 2) ∷ refused NotAvailable ∷ [])
+
+-- no unit lies deeper than 64, by an import or a move
+abbrev pub Depths : Type 0
+Depths =
+    Answers
+    (import (chain 65) ∷ import (chain 64) ∷ Import (codes "b") docks ∷ Move 1 (Some 65) ∷ Move 2 (Some 65) ∷ Move 3 (Some 66) ∷ Move 65 (Some 62) ∷ Move 65 (Some 61) ∷ [])
+    (refused (BadFile 66 12) ∷ rows 0 64 0 0 (LacksEssential 2 ∷ []) ∷ rows 0 2 0 0 (LacksEssential 2 ∷ []) ∷ refused TooDeep ∷ Ok (done.Move 2) ∷ Ok (done.Move 3) ∷ refused IntoItself ∷ refused IntoItself ∷ [])
 
 -- the rows of the places: moves renumber, and what is removed leaves no gap
 pub record Placed : Type 0 where

@@ -1,5 +1,5 @@
 -- A small office, worked by hand: two seats, three orders a day, one container in hand, runs of two.
-use Rattle.std.specs.Prelude.{◌≡◌, ℕ, ℤ, pos, Bool, true, false, List, [], ◌∷◌, Option, Some, None, Ok, Err, codes}
+use Rattle.std.specs.Prelude.{◌≡◌, ◌++◌, ℕ, zero, suc, ℤ, pos, Bool, true, false, List, [], ◌∷◌, Option, Some, None, Ok, Err, codes, decimal}
 use Rattle.isad_core.specs.Texts.{Bytes}
 use Rattle.desk_core.specs.declared.refusal.Refusal.{Refusal}
 use Rattle.office.specs.declared.command.Command.{Command}
@@ -127,3 +127,15 @@ smith =
 -- a series above a fonds
 abbrev pub upside_down : Bytes
 upside_down = codes "legacyId,parentId,title,levelOfDescription\n1,,Top,Series\n2,1,Low,Fonds\n"
+
+-- units one below another, n of them: `1,` then `2,1` and so on
+abbrev pub chain_lines : ℕ → Bytes
+chain_lines zero = []
+chain_lines (suc n) = chain_lines n ++ (decimal (suc n) ++ 44 ∷ (number_or_none n ++ 10 ∷ []))
+  where
+    number_or_none : ℕ → Bytes
+    number_or_none zero = []
+    number_or_none (suc m) = decimal (suc m)
+
+abbrev pub chain : ℕ → Bytes
+chain n = codes "legacyId,parentId\n" ++ chain_lines n

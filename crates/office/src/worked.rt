@@ -31,6 +31,7 @@ pub fn worked_rows()
     ensures permits_above { row.PermitsAbove }
     ensures names_of_readers { row.NamesOfReaders }
     ensures at_the_counter { row.AtTheCounter }
+    ensures depths { row.Depths }
     ensures placed { row.Placed }
 {}
 

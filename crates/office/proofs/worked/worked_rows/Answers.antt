@@ -81,3 +81,6 @@ returns-clause-names_of_readers c = row.names_of_readers
 
 pub returns-clause-at_the_counter : goal.returns-clause-at_the_counter
 returns-clause-at_the_counter c = row.at_the_counter
+
+pub returns-clause-depths : goal.returns-clause-depths
+returns-clause-depths c = row.depths
