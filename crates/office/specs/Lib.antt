@@ -17,3 +17,4 @@ pub mod Queries
 pub mod AnswerRows
 pub mod Secrecy
 pub mod Soundness
+pub mod Tables

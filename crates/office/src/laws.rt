@@ -6,6 +6,7 @@ ghost use Rattle.office.specs.declared.command.Command.{Command};
 ghost use Rattle.office.specs.State.{State, Settings, start};
 ghost use Rattle.office.specs.Rules.{step, state_after};
 ghost use Rattle.office.specs.Sound.{IsSoundDesk, IsAscending};
+ghost use Rattle.office.specs.Tables.{ReadsBack, OneRowChanges};
 ghost use Rattle.office.specs.Secrecy.{SamePublic, AnswersAlike, ShowsOnlyPublished};
 ghost use Rattle.office.specs.Laws.{OutApart, GoesOn, IssuesTheFirst, OpenToHolders, ImportsAgain, Kind, all_given, ComesNew};
 
@@ -60,4 +61,15 @@ pub fn imports_again()
 /// A unit that comes with a command has one of the unit numbers that the command gives.
 pub fn units_come_new()
     ensures { (s : State) (asked : Command) → ComesNew s (step s asked).0 }
+{}
+
+/// The rows of a sound desk say who the readers are, what was ordered, where each container is, who waits
+/// for it and how each order ended.
+pub fn rows_read_back()
+    ensures { (s : State) → IsSoundDesk s → ReadsBack s }
+{}
+
+/// An accepted Issue changes the state of one row of orders, to out, and no other row.
+pub fn one_row_changes()
+    ensures { (s : State) → IsSoundDesk s → OneRowChanges s }
 {}
