@@ -5,7 +5,7 @@ use Rattle.std.specs.List.{list_any, flat_map, AllByRecursion}
 use Rattle.std.specs.Option.{option_eq}
 use Rattle.std.specs.Str.{bytes_eq}
 use Rattle.std.specs.Cmp.Lexicographic.{pointwise}
-use Rattle.std.proofs.lemmas.Bool.{false≢true, not-false, cases_Bool, and_parts, and_from, or_left, or_right, or_cases}
+use Rattle.std.proofs.lemmas.Bool.{false≢true, not-false, cases_Bool, and_parts, and_from, or_left, or_right}
 use Rattle.std.proofs.lemmas.List.Folds.{list_any-append}
 use Rattle.std.proofs.lemmas.List.Sums.{length-filter}
 use Rattle.std.proofs.lemmas.Slice.Eq.{bytes_eq-Decides}
@@ -17,7 +17,7 @@ use Rattle.atom_csv.specs.Values.{distinct, is_same as is_same_box}
 use Rattle.atom_csv.specs.declared.file.File.{File}
 use Rattle.atom_csv.specs.declared.file.Row.{Row}
 use Rattle.tree_core.specs.Forest.{Forest, Empty, Node, nodes, each, has, join}
-use Rattle.desk_core.specs.Refusals.{Check, first_that_holds}
+use Rattle.desk_core.specs.Refusals.{first_that_holds}
 use Rattle.desk_core.specs.declared.refusal.Refusal.{Refusal}
 use Rattle.desk_core.specs.declared.refusal.Refusal.TheVariants.{BadName, BadFile, Full, WithReader}
 use Rattle.catalogue_store.specs.Units.{Unit, is_from}
@@ -29,11 +29,11 @@ use Rattle.office.specs.declared.done.Remark.{Remark}
 use Rattle.office.specs.Words.{some_and}
 use Rattle.office.specs.State.{State}
 use Rattle.office.specs.Intake.{Intake, Taken, take, take_rows, with_file, bad_file, too_much, is_full, same_values, unit_of, is_same, is_new, is_changed, remarks, told_of}
-use Rattle.office.specs.Rules.{Reply, catalogue, taken, imported, is_source, kept, gate, checks, after, told, decided, step}
+use Rattle.office.specs.Rules.{Reply, catalogue, taken, imported, is_source, kept, gate, decided, step}
 use Rattle.office.specs.Laws.{ImportsAgain}
-use Rattle.office.proofs.Steps.{Passes, step_at}
+use Rattle.office.proofs.Steps.{step_at}
 use Rattle.office.proofs.FileRows.{AreApartRows, apart_rows}
-use Rattle.office.proofs.Imports.{new_rows, IsTaken, taken_is, distinct_append, same_box, boxes_grow, distinct_again}
+use Rattle.office.proofs.Imports.{new_rows, IsTaken, taken_is, same_box, boxes_grow, distinct_again}
 use Rattle.office.proofs.Rooted.{has-each, has-join, nodes-join, grown_keeps, new_there}
 
 -- ---- texts and values that are the same

@@ -19,7 +19,7 @@ aids = record { fonds = refl; nothing = refl; whole = refl; lower = refl; draft_
 
 pub pages : Pages
 unfolding is_open take is_utf8 chars encode records_from strip_bom next_record columns described digits day_text
-pages = record { found = refl; with_children = refl; own = refl; boxes_above = refl; own_boxes = refl; draft_unknown = refl; below_a_draft = refl; closed = refl; below_a_closed = refl; none_such = refl; permits_unseen = refl }
+pages = record { found = refl; with_children = refl; not_all_above = refl; own = refl; boxes_above = refl; own_boxes = refl; draft_unknown = refl; below_a_draft = refl; closed = refl; below_a_closed = refl; none_such = refl; permits_unseen = refl }
 
 pub statuses : Statuses
 unfolding is_open take is_utf8 chars encode records_from strip_bom next_record columns described digits day_text

@@ -1,22 +1,22 @@
 -- Units that come have new numbers.
-use Rattle.std.proofs.Common.{◌≡◌, ℕ, ◌+◌, ◌<◌, ◌≤◌, Bool, true, false, cond, ◌||◌, List, [], ◌∷◌, ◌++◌, length, Option, Some, None, Ok, Err, refl, sym, ap, ◌∙◌, subst, inl, inr, ◌⊎◌, arith}
+use Rattle.std.proofs.Common.{◌≡◌, ℕ, ◌+◌, ◌<◌, ◌≤◌, Bool, true, false, cond, ◌||◌, List, [], ◌∷◌, length, Option, Some, None, Ok, Err, refl, sym, ap, ◌∙◌, subst, inl, inr, ◌⊎◌, arith}
 use Rattle.std.specs.Prelude.{ℤ, nat_eq, is_some}
 use Rattle.std.specs.List.{list_any, AllByRecursion}
 use Rattle.std.proofs.lemmas.Bool.{false≢true, eqb-true, eq-eqb, or_cases, or_left, or_right, cases_Bool}
 use Rattle.isad_core.specs.Texts.{Bytes}
 use Rattle.atom_csv.specs.declared.file.Row.{Row}
-use Rattle.tree_core.specs.Forest.{Forest, Empty, Node, nodes, each, has, join, path, tree, cut, put_below, put_last, move_last}
+use Rattle.tree_core.specs.Forest.{Forest, Empty, Node, nodes, each, has, join, tree, cut, put_below, put_last, move_last}
 use Rattle.desk_core.specs.declared.reader.Place.{Place}
 use Rattle.desk_core.specs.declared.reader.Place.TheVariants.{Shelf, Desk, Out}
 use Rattle.catalogue_store.specs.Units.{Unit, has_id}
-use Rattle.catalogue_store.specs.Merging.{Catalogue, New, numbered_from, new_unit, revised, merged_forest}
+use Rattle.catalogue_store.specs.Merging.{Catalogue, New, numbered_from, revised, merged_forest}
 use Rattle.office.specs.declared.command.Command.{Command}
 use Rattle.office.specs.declared.command.Command.TheVariants as command
 use Rattle.office.specs.State.{State, has_unit, container_of}
 use Rattle.office.specs.Intake.{Taken}
-use Rattle.office.specs.Rules.{catalogue, taken, imported, after, step, cancelled, issued, returned, is_chosen, with_status, with_closure}
-use Rattle.office.specs.Laws.{ComesNew, AreNumbered}
-use Rattle.office.proofs.Steps.{Passes, step_at, run_keeps}
+use Rattle.office.specs.Rules.{catalogue, taken, imported, after, step, cancelled, issued, returned, is_chosen}
+use Rattle.office.specs.Laws.{ComesNew}
+use Rattle.office.proofs.Steps.{step_at}
 use Rattle.office.proofs.Imports.{new_rows, taken_is}
 use Rattle.office.proofs.Rooted.{or_each, has_node, has-each, has-join, revised_id}
 use Rattle.office.proofs.Again.{all_merged}

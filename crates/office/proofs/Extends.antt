@@ -1,5 +1,5 @@
 -- What only grows: tickets, containers, orders and the day.
-use Rattle.std.proofs.Common.{◌≡◌, ◌≢◌, ℕ, zero, suc, ◌≤◌, true, List, [], ◌∷◌, ◌++◌, length, Option, Some, None, Ok, Err, refl, sym, ◌∙◌, subst, arith}
+use Rattle.std.proofs.Common.{◌≡◌, ◌≢◌, ℕ, zero, suc, true, List, [], ◌∷◌, ◌++◌, length, Option, Some, None, Ok, Err, refl, sym, ◌∙◌, subst, arith}
 use Rattle.std.specs.Prelude.{ℤ, int_lt, ◌≤ℤ◌, is_some}
 use Rattle.std.proofs.lemmas.Int.{ints}
 use Rattle.isad_core.specs.Texts.{Bytes}
@@ -12,7 +12,7 @@ use Rattle.office.specs.State.{State, Reader, Order, is_ticket, is_container, co
 use Rattle.office.specs.declared.command.Command.{Command}
 use Rattle.office.specs.declared.command.Command.TheVariants as command
 use Rattle.office.specs.Intake.{Taken}
-use Rattle.office.specs.Rules.{catalogue, checks, after, renewed, cancelled, issued, returned, imported, taken, removed}
+use Rattle.office.specs.Rules.{catalogue, checks, after, renewed, cancelled, issued, returned, imported, taken}
 use Rattle.office.proofs.Words.{numbered_within, numbered-push}
 use Rattle.office.proofs.Steps.{Passes}
 use Rattle.office.proofs.Imports.{new_boxes, boxes_after}

@@ -1,13 +1,13 @@
 -- What holds of the rows of a file that was read.
-use Rattle.std.proofs.Common.{◌≡◌, ℕ, ◌<◌, ◌≤◌, Bool, true, false, not, cond, ◌&&◌, ◌||◌, List, [], ◌∷◌, ◌++◌, length, Option, Some, None, Ok, Err, refl, sym, ap, ◌∙◌, subst, inl, inr, arith}
-use Rattle.std.specs.Prelude.{Result, filter_map, find, is_some, option_map, slice_get}
+use Rattle.std.proofs.Common.{◌≡◌, ℕ, Bool, true, false, cond, ◌||◌, List, [], ◌∷◌, ◌++◌, Option, Some, None, Ok, Err, refl, sym, ◌∙◌, subst}
+use Rattle.std.specs.Prelude.{filter_map, find, is_some, option_map, slice_get}
 use Rattle.std.specs.List.{list_any, AllByRecursion, cons_option}
 use Rattle.std.specs.Str.{bytes_eq, is_utf8}
-use Rattle.std.proofs.lemmas.Bool.{false≢true, or_parts, cases_Bool}
+use Rattle.std.proofs.lemmas.Bool.{false≢true, or_parts}
 use Rattle.std.proofs.lemmas.List.Folds.{list_any-append}
 use Rattle.isad_core.specs.Texts.{Bytes}
 use Rattle.atom_csv.specs.Fields.{Fields, is_blank, is_empty}
-use Rattle.atom_csv.specs.FileOf.{Line, lines_below, lines, row_number, when, header_causes, legacy, culture, first_culture, stood_above, is_translation, has_other_width, names_slug, is_late, is_long, row_causes, causes, row_of, is_told_again, row_told, lowest, fault_of, faults, rows, translations, or_fault, below, under, of_records, records_of, file_of}
+use Rattle.atom_csv.specs.FileOf.{Line, lines_below, row_number, when, header_causes, legacy, culture, first_culture, stood_above, has_other_width, names_slug, is_late, is_long, causes, row_of, is_told_again, row_told, fault_of, faults, rows, translations, or_fault, under, of_records, records_of, file_of}
 use Rattle.atom_csv.specs.Causes.{number_of}
 use Rattle.atom_csv.specs.declared.cause.Cause.{Cause}
 use Rattle.atom_csv.specs.declared.cause.Cause.TheVariants as cause

@@ -10,7 +10,7 @@ use Rattle.desk_core.specs.declared.reader.Place.{Place}
 use Rattle.office.specs.State.{State, Order, Line, Run, End, Done, Cancelled, container_of, order_out, is_shelf, is_desk, waits, is_due, picked, line_for, next_run, brings, is_idle, idle, containers, opens}
 use Rattle.office.specs.declared.command.Command.{Command}
 use Rattle.office.specs.declared.command.Command.TheVariants as command
-use Rattle.office.specs.Rules.{checks, after, ordered, cancelled, fetched, reshelved, issued, returned, state_after, imported, taken, removed}
+use Rattle.office.specs.Rules.{checks, after, ordered, cancelled, fetched, reshelved, issued, returned, state_after, imported, taken}
 use Rattle.office.specs.Intake.{Taken}
 use Rattle.office.specs.Sound.{ExactlyOne, IsFiled, is_out_for, IsAscending, AreFiled}
 use Rattle.office.proofs.Words.{same_number, other_number, put_here, put_there, put_each, stands-push, stands-without_other, stands-without_same, below_none, ascending-without, ascending-push, all_from_stands, numbered_within, numbered-push, numbered-push_last, numbered_past}

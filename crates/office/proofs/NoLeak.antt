@@ -1,28 +1,26 @@
 -- Equal public parts give equal public answers.
-use Rattle.std.proofs.Common.{◌≡◌, ℕ, ◌+◌, Bool, true, false, cond, List, [], ◌∷◌, ◌++◌, Option, Some, None, refl, sym, ap, ◌∙◌, subst}
+use Rattle.std.proofs.Common.{◌≡◌, ℕ, ◌+◌, Bool, true, false, cond, List, [], ◌∷◌, ◌++◌, Option, Some, None, refl, ap, ◌∙◌}
 use Rattle.std.specs.Prelude.{map, filter_map, decimal}
 use Rattle.std.specs.List.{flat_map, AllByRecursion}
 use Rattle.isad_core.specs.Texts.{Bytes}
 use Rattle.isad_core.specs.Values.{line_elements, own_lines, title}
 use Rattle.isad_core.specs.Codes.{code_of}
-use Rattle.isad_core.specs.Printed.{aid, head_line, line, page}
+use Rattle.isad_core.specs.Printed.{aid, head_line, line}
 use Rattle.isad_core.specs.declared.shown.Shown.{Shown}
 use Rattle.isad_core.specs.declared.shown.Page.{Page}
-use Rattle.isad_core.specs.declared.shown.Body.TheVariants.{Full, Closed}
+use Rattle.isad_core.specs.declared.shown.Body.TheVariants.{Full}
 use Rattle.isad_core.specs.declared.values.BoxKey.{BoxKey}
-use Rattle.isad_core.specs.declared.values.Values.{Values}
 use Rattle.tree_core.specs.Forest.{Forest, Empty, Node, nodes, has, path, tree}
 use Rattle.catalogue_store.specs.Merging.{box_number}
 use Rattle.catalogue_store.specs.Publishing.{PublicUnit, Told, Stub}
-use Rattle.office.specs.declared.query.Answer.{Answer}
 use Rattle.office.specs.declared.query.Answer.TheVariants.{Text, Unknown}
 use Rattle.office.specs.declared.query.Query.{Query}
 use Rattle.office.specs.declared.query.Query.TheVariants as query
 use Rattle.desk_core.specs.declared.refusal.Refusal.TheVariants.{UnknownUnit}
 use Rattle.office.specs.State.{State}
 use Rattle.office.specs.Aids.{Repository, identifier_of, numbered_boxes, shown_unit, shown_below}
-use Rattle.office.specs.Pages.{Press, Coded, PageBox, number_of, is_numbered, side_by_side, fonds_text, aid_of, above_last, coded_below, coded, page_line, page_boxes, boxes_or, nearest_boxes, boxes_on_page, page_at, page_of}
-use Rattle.office.specs.Queries.{answer, press, public_forest, public_answer, page_answer}
+use Rattle.office.specs.Pages.{Press, Coded, PageBox, number_of, is_numbered, side_by_side, above_last, coded_below, coded, page_line, page_boxes, boxes_or, nearest_boxes, boxes_on_page, page_at}
+use Rattle.office.specs.Queries.{public_forest, public_answer, page_answer}
 use Rattle.office.specs.Secrecy.{boxes_told, SamePublic, AnswersAlike}
 
 -- the containers have the same numbers in both lists

@@ -7,7 +7,7 @@ use Rattle.desk_core.specs.declared.reader.Place.{Place}
 use Rattle.office.specs.State.{State, Reader}
 use Rattle.office.specs.declared.command.Command.{Command}
 use Rattle.office.specs.declared.command.Command.TheVariants as command
-use Rattle.office.specs.Rules.{catalogue, after, told, step, renewed, cancelled, issued, returned, imported, taken, removed}
+use Rattle.office.specs.Rules.{catalogue, after, told, step, renewed, cancelled, issued, returned, imported, taken}
 use Rattle.isad_core.specs.Texts.{Bytes}
 use Rattle.atom_csv.specs.Values.{distinct}
 use Rattle.desk_core.specs.declared.refusal.Refusal.{Refusal}

@@ -1,6 +1,6 @@
 -- A permit closes nothing: the one fact on the catalogue that the desk needs.
 use Rattle.std.proofs.Common.{◌≡◌, ℕ, Bool, true, false, not, cond, ◌&&◌, ◌||◌, List, [], ◌∷◌, refl, subst, arith}
-use Rattle.std.specs.Prelude.{ℤ, int_lt, int_le, ◌≤ℤ◌, nat_eq, nat_lt}
+use Rattle.std.specs.Prelude.{ℤ, int_lt, int_le, nat_eq, nat_lt}
 use Rattle.std.specs.List.{list_any, list_all}
 use Rattle.std.proofs.lemmas.Bool.{eqb-true, false≢true, and_parts}
 use Rattle.std.proofs.lemmas.Int.{ints}

@@ -10,7 +10,7 @@ use Rattle.desk_core.specs.declared.reader.Place.{Place}
 use Rattle.office.specs.State.{State, End, Done, Cancelled, container_of, order_out, is_desk, is_by, waits}
 use Rattle.office.specs.declared.command.Command.{Command}
 use Rattle.office.specs.declared.command.Command.TheVariants as command
-use Rattle.office.specs.Rules.{Reply, checks, after, step, ordered, cancelled, fetched, reshelved, issued, returned, imported, taken, removed}
+use Rattle.office.specs.Rules.{Reply, checks, after, step, ordered, cancelled, fetched, reshelved, issued, returned, imported, taken}
 use Rattle.office.specs.declared.done.Done.TheVariants as done
 use Rattle.office.specs.Intake.{Taken}
 use Rattle.office.specs.Sound.{is_out_for, IsAscending, AreFiled}

@@ -1,6 +1,6 @@
 -- The orders stay good.
 use Rattle.std.proofs.Common.{◌≡◌, ◌≢◌, ℕ, suc, ◌+◌, ◌<◌, ◌≤◌, Bool, true, false, cond, ◌&&◌, ◌||◌, List, [], ◌∷◌, ◌++◌, length, Option, Some, None, Ok, Err, refl, sym, ap, ◌∙◌, subst, inl, inr, ◌⊎◌, arith, length-append}
-use Rattle.std.specs.Prelude.{ℤ, ◌≤ℤ◌, nat_eq, nat_lt, is_some, option_map, count_by}
+use Rattle.std.specs.Prelude.{ℤ, ◌≤ℤ◌, nat_eq, is_some, option_map, count_by}
 use Rattle.std.specs.List.{list_any}
 use Rattle.std.proofs.lemmas.List.Sums.{sum_by_push}
 use Rattle.std.proofs.lemmas.Bool.{eqb-true, leb-false, cases_eq, false≢true, not-false, and_parts, or_cases}
@@ -10,7 +10,7 @@ use Rattle.desk_core.specs.declared.reader.Place.{Place}
 use Rattle.office.specs.State.{State, Order, End, Done, Cancelled, is_ticket, is_container, container_of, order_out, is_by, is_out_with, has_ordered, opens, placed, is_permitted}
 use Rattle.office.specs.declared.command.Command.{Command}
 use Rattle.office.specs.declared.command.Command.TheVariants as command
-use Rattle.office.specs.Rules.{checks, after, ordered, cancelled, issued, returned, imported, taken, removed}
+use Rattle.office.specs.Rules.{checks, after, ordered, cancelled, issued, returned, imported, taken}
 use Rattle.std.specs.Ordering.{int_eq}
 use Rattle.std.proofs.lemmas.Bool.Decides.{Decides-int_eq}
 use Rattle.isad_core.specs.declared.values.BoxKey.{BoxKey}

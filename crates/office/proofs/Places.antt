@@ -1,9 +1,9 @@
 -- Who has a container sits, has no more than fills the hands, and may see what lies in it.
-use Rattle.std.proofs.Common.{◌≡◌, ◌≢◌, ℕ, suc, ◌<◌, ◌≤◌, Bool, true, false, not, cond, List, [], ◌∷◌, ◌++◌, length, Option, Some, None, Ok, Err, refl, sym, ap, ◌∙◌, subst, inl, inr, arith}
-use Rattle.std.specs.Prelude.{ℤ, nat_eq, nat_lt, is_some, option_map, filter_map}
+use Rattle.std.proofs.Common.{◌≡◌, ◌≢◌, ℕ, suc, ◌<◌, ◌≤◌, Bool, true, false, not, cond, List, [], ◌∷◌, length, Option, Some, None, Ok, Err, refl, sym, ap, ◌∙◌, subst, inl, inr, arith}
+use Rattle.std.specs.Prelude.{ℤ, nat_eq, is_some, option_map, filter_map}
 use Rattle.std.specs.List.{list_any, cons_option}
 use Rattle.std.proofs.lemmas.Bool.{eqb-true, ltb-false, leb-false, cases_eq, cases_Bool, false≢true, not-false, or_cases}
-use Rattle.office.specs.Words.{numbered, put, some_and, stands, first, first_that}
+use Rattle.office.specs.Words.{numbered, put, some_and, stands, first}
 use Rattle.isad_core.specs.declared.values.BoxKey.{BoxKey}
 use Rattle.catalogue_store.specs.Housing.{is_open}
 use Rattle.atom_csv.specs.Values.{distinct}
@@ -12,7 +12,7 @@ use Rattle.desk_core.specs.declared.reader.Place.{Place}
 use Rattle.office.specs.State.{State, Permit, is_permitted, is_seat_of, Order, Line, Run, is_seated, containers, is_container, opens, container_of, is_by, order_out, is_out, is_out_with, held, picked, line_for, next_run, brings, idle, granted}
 use Rattle.office.specs.declared.command.Command.{Command}
 use Rattle.office.specs.declared.command.Command.TheVariants as command
-use Rattle.office.specs.Rules.{is_kept_from_holder, kept, checks, after, ordered, cancelled, fetched, reshelved, issued, returned, imported, taken, removed}
+use Rattle.office.specs.Rules.{is_kept_from_holder, kept, checks, after, ordered, cancelled, fetched, reshelved, issued, returned, imported, taken}
 use Rattle.office.specs.Intake.{Taken}
 use Rattle.office.specs.Sound.{is_out_for, AreFiled, AreGoodOrders, IsGoodHolder, AreGoodPlaces}
 use Rattle.office.proofs.Words.{same_number, put_here, put_there, put_each, numbered_within}

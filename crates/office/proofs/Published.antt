@@ -1,20 +1,18 @@
 -- Every unit that the public is shown is published.
-use Rattle.std.proofs.Common.{◌≡◌, ℕ, ◌+◌, Bool, true, false, cond, ◌||◌, List, [], ◌∷◌, ◌++◌, Option, Some, None, refl, sym, ap, ◌∙◌, subst, inl, inr, ◌⊎◌}
+use Rattle.std.proofs.Common.{◌≡◌, ℕ, ◌+◌, Bool, true, false, cond, ◌||◌, List, [], ◌∷◌, ◌++◌, Some, refl, sym, ap, ◌∙◌, subst, inl, inr}
 use Rattle.std.specs.Prelude.{ℤ, map}
 use Rattle.std.specs.List.{list_any, AllByRecursion}
 use Rattle.std.proofs.lemmas.List.Folds.{list_any-append}
 use Rattle.isad_core.specs.Texts.{Bytes}
-use Rattle.isad_core.specs.declared.shown.Shown.{Shown}
 use Rattle.isad_core.specs.declared.shown.Page.{Page}
-use Rattle.isad_core.specs.declared.values.BoxKey.{BoxKey}
-use Rattle.tree_core.specs.Forest.{Forest, Empty, Node, nodes, each, has, path, tree}
+use Rattle.tree_core.specs.Forest.{Forest, Empty, Node, nodes, each, path, tree}
 use Rattle.tree_core.specs.Withheld.{public}
 use Rattle.catalogue_store.specs.Units.{Unit, is_closed}
 use Rattle.catalogue_store.specs.Housing.{paths, paths_below}
 use Rattle.catalogue_store.specs.Publishing.{PublicUnit, Told, Stub, public_unit, public_of, stub_of}
 use Rattle.office.specs.State.{State}
-use Rattle.office.specs.Aids.{Repository, identifier_of, shown_unit, shown_below}
-use Rattle.office.specs.Pages.{Press, number_of, is_numbered, before_last, above_last, side_by_side, aid_units, page_at, page_of}
+use Rattle.office.specs.Aids.{identifier_of, shown_unit, shown_below}
+use Rattle.office.specs.Pages.{is_numbered, before_last, above_last, side_by_side, page_at}
 use Rattle.office.specs.Queries.{press, public_forest}
 use Rattle.office.specs.Secrecy.{StandsIn, last_of, TellsOf, IsPublished, ShowsPublished, ShowsOnlyPublished}
 use Rattle.office.proofs.NoLeak.{all_parts, all_both, tree_alike}

@@ -2,7 +2,7 @@
 use Rattle.std.proofs.Common.{◌≡◌, ℕ, zero, suc, ◌<◌, ◌≤◌, Bool, true, false, not, cond, ◌&&◌, ◌||◌, List, [], ◌∷◌, ◌++◌, length, Option, Some, None, Ok, Err, refl, sym, ap, ◌∙◌, subst, inl, inr, arith, length-append}
 use Rattle.std.specs.Prelude.{ℤ, int_lt, nat_eq, nat_lt, nat_le, filter}
 use Rattle.std.specs.List.{list_any, AllByRecursion}
-use Rattle.std.proofs.lemmas.Bool.{eqb-true, eqb-false, ltb-true, ltb-false, leb-false, not-false, and_cases, cases_eq, cases_Bool, false≢true, or_cases}
+use Rattle.std.proofs.lemmas.Bool.{eqb-true, eqb-false, ltb-true, ltb-false, leb-false, not-false, and_cases, cases_eq, cases_Bool, false≢true}
 use Rattle.office.specs.Words.{numbered}
 use Rattle.tree_core.specs.Forest.{cut}
 use Rattle.catalogue_store.specs.Units.{has_id}

@@ -4,7 +4,7 @@ use Rattle.std.specs.Prelude.{nat_eq, find, option_map, option_and_then}
 use Rattle.std.specs.List.{list_any, AllByRecursion}
 use Rattle.std.specs.Option.{option_eq}
 use Rattle.std.specs.Str.{bytes_eq}
-use Rattle.std.proofs.lemmas.Bool.{false≢true, eq-eqb, or_cases, or_left, or_right}
+use Rattle.std.proofs.lemmas.Bool.{false≢true, eq-eqb, or_left, or_right}
 use Rattle.std.proofs.lemmas.List.Folds.{list_any-append}
 use Rattle.isad_core.specs.Texts.{Bytes}
 use Rattle.atom_csv.specs.declared.file.Row.{Row}

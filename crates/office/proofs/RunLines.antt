@@ -1,6 +1,6 @@
 -- The runs stay good.
 use Rattle.std.proofs.Common.{◌≡◌, ◌≢◌, ℕ, zero, suc, ◌<◌, ◌≤◌, Bool, true, false, cond, ◌&&◌, List, [], ◌∷◌, ◌++◌, length, take, Option, Some, None, Ok, Err, refl, sym, ap, ◌∙◌, subst, inl, inr, arith, length-append, length-take}
-use Rattle.std.specs.Prelude.{nat_eq, nat_lt, option_map, filter, filter_map}
+use Rattle.std.specs.Prelude.{nat_eq, option_map, filter, filter_map}
 use Rattle.std.specs.List.{AllByRecursion, cons_option}
 use Rattle.std.proofs.lemmas.Bool.{eqb-true, leb-false, cases_eq, false≢true, and_parts}
 use Rattle.office.specs.Words.{numbered, numbers_to, some_and, first, is_empty}
@@ -9,7 +9,7 @@ use Rattle.desk_core.specs.declared.reader.Place.{Place}
 use Rattle.office.specs.State.{State, Order, Line, Run, container_of, is_shelf, opens, is_due, picked, line_for, next_run}
 use Rattle.office.specs.declared.command.Command.{Command}
 use Rattle.office.specs.declared.command.Command.TheVariants as command
-use Rattle.office.specs.Rules.{most_runs, checks, after, fetched, cancelled, issued, returned, imported, taken, removed}
+use Rattle.office.specs.Rules.{most_runs, checks, after, fetched, cancelled, issued, returned, imported, taken}
 use Rattle.atom_csv.specs.Values.{distinct}
 use Rattle.office.specs.Intake.{Taken}
 use Rattle.office.specs.Sound.{IsAscending, IsGoodLine, AreApart, IsGoodRun, AreGoodRuns}

@@ -6,10 +6,10 @@ use Rattle.std.proofs.lemmas.List.{length-map, length-replicate}
 use Rattle.std.proofs.lemmas.Bool.{eqb-true, cases_Bool, false≢true, not-false, or_cases, or_parts}
 use Rattle.desk_core.specs.declared.reader.Place.TheVariants.{Shelf, Desk, Out}
 use Rattle.desk_core.specs.declared.reader.Place.{Place}
-use Rattle.office.specs.State.{State, container_of, is_ticket, is_seat_of, is_seated, sit, rise}
+use Rattle.office.specs.State.{State, container_of, is_ticket, is_seat_of, sit, rise}
 use Rattle.office.specs.declared.command.Command.{Command}
 use Rattle.office.specs.declared.command.Command.TheVariants as command
-use Rattle.office.specs.Rules.{checks, after, cancelled, issued, returned, imported, taken, removed}
+use Rattle.office.specs.Rules.{checks, after, cancelled, issued, returned, imported, taken}
 use Rattle.atom_csv.specs.Values.{distinct}
 use Rattle.office.specs.Intake.{Taken}
 use Rattle.office.specs.Sound.{SitOnce, AreGoodSeats}

@@ -1,5 +1,5 @@
 -- What each accepted command keeps, a run of commands keeps.
-use Rattle.std.proofs.Common.{◌≡◌, Bool, true, false, List, [], ◌∷◌, Option, Some, None, Ok, Err, refl}
+use Rattle.std.proofs.Common.{◌≡◌, true, false, List, [], ◌∷◌, Option, Some, None, Ok, Err, refl}
 use Rattle.std.specs.List.{AllByRecursion}
 use Rattle.desk_core.specs.Refusals.{Check, first_that_holds}
 use Rattle.desk_core.specs.declared.refusal.Refusal.{Refusal}

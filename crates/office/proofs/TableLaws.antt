@@ -1,5 +1,5 @@
 -- What the desk's commands do to the rows of orders, and what the rows say.
-use Rattle.std.proofs.Common.{◌≡◌, ◌≢◌, ℕ, zero, suc, ◌+◌, ◌<◌, ◌≤◌, Bool, true, false, cond, ◌&&◌, ◌||◌, List, [], ◌∷◌, ◌++◌, length, Option, Some, None, Ok, Err, refl, sym, ap, ◌∙◌, subst, inl, inr, arith}
+use Rattle.std.proofs.Common.{◌≡◌, ◌≢◌, ℕ, zero, suc, ◌+◌, ◌<◌, ◌≤◌, Bool, true, false, cond, ◌&&◌, ◌||◌, List, [], ◌∷◌, ◌++◌, length, Option, Some, None, Ok, refl, sym, ap, ◌∙◌, subst, inl, inr, arith}
 use Rattle.std.specs.Prelude.{nat_eq, map, filter, is_some, option_map, slice_get}
 use Rattle.std.specs.Prelude.{filter_map, option_and_then, unwrap_or}
 use Rattle.std.specs.List.{AllByRecursion, cons_option}
@@ -14,7 +14,7 @@ use Rattle.office.specs.declared.done.Done.TheVariants as done
 use Rattle.office.specs.Rules.{Reply, step, ordered, issued}
 use Rattle.office.specs.Sound.{ExactlyOne, IsFiled, IsAscending, AreFiled, AreGoodPlaces, IsSoundDesk, is_out_for}
 use Rattle.office.specs.Laws.{Standing, Waiting, WithItsReader, Ended, stands_as, standing}
-use Rattle.office.specs.Tables.{ReaderRow, reader_row, reader_from, order_from, OneRowChanges, HoldingRow, holding_row, holding_rows, place_in, end_of, past_in, ReadsBack, OrderRow, state_number, rows_from, order_row, order_rows, with_state, waiting_for}
+use Rattle.office.specs.Tables.{reader_row, reader_from, order_from, OneRowChanges, HoldingRow, holding_row, holding_rows, place_in, end_of, past_in, ReadsBack, OrderRow, state_number, rows_from, order_row, order_rows, with_state, waiting_for}
 use Rattle.office.proofs.Words.{same_number, other_number, below_none, numbered_within}
 use Rattle.office.proofs.Steps.{step_at}
 use Rattle.office.proofs.Counts.{none_to, numbered_from_one}

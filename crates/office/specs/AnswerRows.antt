@@ -1,10 +1,8 @@
 -- What is answered in small offices, to the byte. Each expected text was written by hand.
 use Rattle.std.specs.Prelude.{◌≡◌, true, false, List, [], ◌∷◌, None, codes}
-use Rattle.isad_core.specs.Texts.{Bytes}
 use Rattle.desk_core.specs.declared.refusal.Refusal.TheVariants.{UnknownUnit, UnknownTicket, UnknownContainer, UnknownRun, WithReader, BadFile, BadName}
 use Rattle.office.specs.declared.command.Command.{Command}
 use Rattle.office.specs.declared.command.Command.TheVariants.{OpenDay, SetStatus, SetClosure, Move, Remove, TakeSeat, Order, Cancel, Run, Reshelve, Issue, Return, Permit}
-use Rattle.office.specs.declared.done.Done.TheVariants as done
 use Rattle.office.specs.declared.done.Remark.TheVariants.{LacksEssential}
 use Rattle.office.specs.declared.query.Query.{Query}
 use Rattle.office.specs.declared.query.Query.TheVariants.{Fonds, Aid, Page, ReaderOrders, Queue, RunSlip, IssuedNow, ReaderPermits}
@@ -13,7 +11,7 @@ use Rattle.office.specs.declared.query.Answer.TheVariants.{Text, Json, Unknown}
 use Rattle.office.specs.Json.{reply_text}
 use Rattle.office.specs.Queries.{answer}
 use Rattle.office.specs.Rules.{state_after}
-use Rattle.office.specs.Worked.{office, import, publish, draft, close, ann, bob, order, refused, rows, february_1, march_1, march_2, year_end, year_2030, docks, boxes, lock_gates, smith}
+use Rattle.office.specs.Worked.{office, import, publish, draft, close, ann, order, refused, rows, february_1, march_1, march_2, year_2030, docks, boxes, lock_gates, smith, harbour}
 
 -- the answer after these commands
 abbrev pub Says : List Command → Query → Answer → Type 0
@@ -37,6 +35,7 @@ pub record Aids : Type 0 where
 pub record Pages : Type 0 where
   pub found : Says (import smith ∷ []) (Page 4) (Text (codes "GB 0999 HUL/1/A/7 [File] 1901\n  3.2.1 Name of creator(s): Smith (from GB 0999 HUL)\n"))
   pub with_children : Says (import smith ∷ []) (Page 3) (Text (codes "GB 0999 HUL/1/A [Sub-series] Board\n  3.2.1 Name of creator(s): Smith (from GB 0999 HUL)\n  Unit 4: GB 0999 HUL/1/A/7 [File] 1901\n"))
+  pub not_all_above : Says (import harbour ∷ []) (Page 2) (Text (codes "GB 0999 HUL/1 [Series] Minutes\n  3.4.1 Conditions governing access: Open (from GB 0999 HUL)\n"))
   pub own : Says (import smith ∷ []) (Page 1) (Text (codes "GB 0999 HUL [Fonds] Docks\n  3.2.1 Name of creator(s): Smith\n  Unit 2: GB 0999 HUL/1 [Series] Minutes\n"))
   pub boxes_above : Says (import lock_gates ∷ []) (Page 2) (Text (codes "GB 0999 P/1 [-] Lock gates\n  Container 1: Box 1 (from GB 0999 P)\n"))
   pub own_boxes : Says (import lock_gates ∷ []) (Page 1) (Text (codes "GB 0999 P [-] Plans\n  Container 1: Box 1\n  Unit 2: GB 0999 P/1 [-] Lock gates\n"))

@@ -1,5 +1,5 @@
 -- What the rules keep.
-use Rattle.std.specs.Prelude.{◌≡◌, ◌≢◌, ℕ, zero, suc, ◌+◌, ◌-◌, ◌<◌, ◌≤◌, Bool, true, cond, List, [], ◌∷◌, ◌++◌, length, Option, Some, None, Ok, Err, option_map, option_to_list, ◌⊎◌}
+use Rattle.std.specs.Prelude.{◌≡◌, ◌≢◌, ℕ, zero, suc, ◌-◌, ◌<◌, ◌≤◌, Bool, true, cond, List, [], ◌∷◌, ◌++◌, length, Option, Some, None, Ok, option_map, option_to_list, ◌⊎◌}
 use Rattle.office.specs.Words.{numbered, stands}
 use Rattle.office.specs.State.{Order, End, Done, Cancelled, State, has_unit, container_of, order_out, is_by}
 use Rattle.office.specs.Sound.{is_out_for, IsGoodHolder}

@@ -1,12 +1,12 @@
 -- What the public is shown of units: the tops, the finding aid of a unit, and its page (ISAD(G) 2.1 to 2.4).
-use Rattle.std.specs.Prelude.{ℕ, ◌+◌, ◌++◌, Bool, nat_eq, List, [], ◌∷◌, Option, Some, None, map, filter_map, reverse, codes, cond}
+use Rattle.std.specs.Prelude.{ℕ, ◌++◌, Bool, nat_eq, List, [], ◌∷◌, Option, Some, None, map, filter_map, cond}
 use Rattle.std.specs.List.{flat_map}
 use Rattle.std.specs.Fmt.{decimal}
 use Rattle.isad_core.specs.Texts.{Bytes}
 use Rattle.isad_core.specs.Codes.{code_of}
 use Rattle.isad_core.specs.Elements.{is_found_above}
 use Rattle.isad_core.specs.Values.{line_elements, text_of}
-use Rattle.isad_core.specs.Printed.{aid, head_line, line, page}
+use Rattle.isad_core.specs.Printed.{aid, head_line, line}
 use Rattle.isad_core.specs.declared.element.Element.{Element}
 use Rattle.isad_core.specs.declared.shown.Page.{Page}
 use Rattle.isad_core.specs.declared.shown.Shown.{Shown}

@@ -1,5 +1,5 @@
 -- What the office answers. A question changes nothing.
-use Rattle.std.specs.Prelude.{ℕ, ℤ, Bool, true, false, not, ◌&&◌, ◌||◌, cond, List, [], ◌∷◌, length, filter, filter_map, map, Option, Some, None, option_map, is_some, nat_eq, codes}
+use Rattle.std.specs.Prelude.{ℕ, Bool, ◌&&◌, ◌||◌, cond, List, [], ◌∷◌, length, filter, filter_map, map, Option, Some, None, option_map, nat_eq, codes}
 use Rattle.serde_json.specs.Data.{Data, string}
 use Rattle.serde_json.specs.Written.{compact_text}
 use Rattle.isad_core.specs.Texts.{Bytes}
@@ -19,7 +19,7 @@ use Rattle.office.specs.declared.query.Query.TheVariants as query
 use Rattle.office.specs.declared.query.Answer.{Answer}
 use Rattle.office.specs.declared.query.Answer.TheVariants.{Text, Json, Unknown}
 use Rattle.office.specs.Words.{numbered, numbers_to, some_and}
-use Rattle.office.specs.State.{Settings, Reader, Order, Line, Run, Permit, State, is_by, is_out, waits, container_of, order_out, seat_of, containers}
+use Rattle.office.specs.State.{Reader, Line, Run, Permit, State, is_by, waits, container_of, order_out, seat_of, containers}
 use Rattle.office.specs.Json.{count, date, list, or_null, fields}
 use Rattle.office.specs.Pages.{Press, is_numbered, fonds_text, aid_of, page_of}
 

@@ -1,5 +1,5 @@
 -- What the rules make of small offices. Each expected reply was found by the rules as they are told, by hand.
-use Rattle.std.specs.Prelude.{◌≡◌, ℕ, true, false, [], ◌∷◌, Some, None, Ok, Err, codes, replicate}
+use Rattle.std.specs.Prelude.{◌≡◌, true, false, [], ◌∷◌, Some, None, Ok, codes, replicate}
 use Rattle.tree_core.specs.Forest.{each}
 use Rattle.tree_core.specs.Spans.{number}
 use Rattle.tree_core.specs.Links.{siblings}
@@ -10,7 +10,7 @@ use Rattle.office.specs.declared.done.Done.TheVariants as done
 use Rattle.office.specs.declared.done.Remark.TheVariants.{LevelTooHigh, LacksEssential}
 use Rattle.catalogue_store.specs.Units.{Unit}
 use Rattle.office.specs.Rules.{Reply, state_after}
-use Rattle.office.specs.Worked.{Answers, office, import, publish, draft, close, ann, bob, order, issued, refused, rows, february_1, march_1, march_2, march_31, april_1, year_end, year_2030, docks, boxes, boxes_with_9, boxes_with_draft, lock_gates, lock_gates_apart, parent_later, translated, told_twice, upside_down, chain}
+use Rattle.office.specs.Worked.{Answers, office, import, draft, close, ann, bob, order, issued, refused, rows, february_1, march_1, march_2, march_31, april_1, year_end, year_2030, docks, boxes, boxes_with_9, boxes_with_draft, lock_gates, lock_gates_apart, parent_later, translated, told_twice, upside_down, chain, harbour}
 
 -- what is told of the import of four boxes: none has all six essential elements
 abbrev pub four_new : Reply
@@ -111,8 +111,8 @@ FaultyFiles =
 abbrev pub Remarks : Type 0
 Remarks =
     Answers
-    (import upside_down ∷ [])
-    (rows 0 2 0 0 (LacksEssential 2 ∷ LevelTooHigh 3 ∷ []) ∷ [])
+    (import upside_down ∷ import harbour ∷ Import (codes "b") harbour ∷ [])
+    (rows 0 2 0 0 (LacksEssential 2 ∷ LevelTooHigh 3 ∷ []) ∷ rows 2 0 0 0 (LacksEssential 2 ∷ []) ∷ rows 0 2 0 0 (LacksEssential 2 ∷ []) ∷ [])
 
 -- moving into itself, and removing: numbers are not given again
 abbrev pub Moves : Type 0

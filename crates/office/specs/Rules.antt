@@ -1,9 +1,8 @@
 -- The rules of the office: what each command asks for, in order, what it does, and what is told of it.
-use Rattle.std.specs.Prelude.{ℕ, ℤ, int_lt, zero, suc, ◌+◌, Bool, true, false, not, ◌&&◌, ◌||◌, cond, List, [], ◌∷◌, ◌++◌, length, filter, replicate, Option, Some, None, Result, Ok, Err, option_map, unwrap_or, is_some, nat_eq, nat_lt, nat_le, max}
+use Rattle.std.specs.Prelude.{ℕ, ℤ, int_lt, zero, suc, ◌+◌, Bool, true, false, not, ◌&&◌, ◌||◌, cond, List, [], ◌∷◌, ◌++◌, length, filter, replicate, Option, Some, None, Result, Ok, Err, unwrap_or, is_some, nat_eq, nat_lt, nat_le, max}
 use Rattle.std.specs.List.{list_any, list_all}
 use Rattle.isad_core.specs.Texts.{Bytes, is_blank_text}
-use Rattle.isad_core.specs.declared.values.BoxKey.{BoxKey}
-use Rattle.tree_core.specs.Forest.{Forest, Empty, Node, nodes, each, path, tree, branch, cut, move_last, has_place}
+use Rattle.tree_core.specs.Forest.{Forest, Empty, Node, each, path, tree, branch, cut, move_last, has_place}
 use Rattle.desk_core.specs.Checks.{order_checks, issue_checks, take_seat_checks, leave_seat_checks}
 use Rattle.desk_core.specs.Refusals.{Check, first_that_holds}
 use Rattle.desk_core.specs.declared.reader.Place.{Place}

@@ -1,5 +1,5 @@
 -- What the public cannot learn, and what it is shown of what.
-use Rattle.std.specs.Prelude.{◌≡◌, ◌⊎◌, ℕ, ℤ, Bool, false, cond, List, [], ◌∷◌, Option, Some, None}
+use Rattle.std.specs.Prelude.{◌≡◌, ◌⊎◌, ℕ, ℤ, false, cond, List, [], ◌∷◌, Option, Some, None}
 use Rattle.std.specs.List.{flat_map, list_any, AllByRecursion}
 use Rattle.isad_core.specs.Texts.{Bytes}
 use Rattle.isad_core.specs.declared.shown.Page.{Page}
@@ -10,7 +10,6 @@ use Rattle.catalogue_store.specs.Merging.{box_number}
 use Rattle.catalogue_store.specs.Units.{Unit, is_closed}
 use Rattle.catalogue_store.specs.Housing.{paths}
 use Rattle.catalogue_store.specs.Publishing.{PublicUnit, Told, Stub, stub_of}
-use Rattle.office.specs.declared.query.Query.{Query}
 use Rattle.office.specs.declared.query.Query.TheVariants as query
 use Rattle.office.specs.State.{State}
 use Rattle.office.specs.Aids.{shown_unit}

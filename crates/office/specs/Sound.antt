@@ -1,19 +1,13 @@
 -- When a state is sound.
-use Rattle.std.specs.Prelude.{◌≡◌, ◌≢◌, ℕ, ℤ, ◌+◌, ◌<◌, ◌≤◌, ◌≤ℤ◌, Bool, true, false, not, ◌&&◌, List, [], ◌∷◌, length, Option, Some, None, is_some, nat_eq, nat_le, map}
-use Rattle.std.specs.List.{list_any, list_all, AllByRecursion, IsDistinct}
-use Rattle.isad_core.specs.Texts.{Bytes, is_blank_text}
-use Rattle.isad_core.specs.Days.{IsDayNumber}
-use Rattle.isad_core.specs.declared.values.BoxKey.{BoxKey}
-use Rattle.isad_core.specs.declared.values.Values.{Values}
-use Rattle.tree_core.specs.Forest.{Forest, nodes, size}
+use Rattle.std.specs.Prelude.{◌≡◌, ◌≢◌, ℕ, ℤ, ◌<◌, ◌≤◌, ◌≤ℤ◌, Bool, true, false, List, [], ◌∷◌, length, Option, Some, None, is_some, nat_eq}
+use Rattle.std.specs.List.{list_any, AllByRecursion}
 use Rattle.desk_core.specs.Checks.{most_orders}
 use Rattle.desk_core.specs.declared.reader.Place.{Place}
 use Rattle.desk_core.specs.declared.reader.Place.TheVariants.{Shelf}
-use Rattle.atom_csv.specs.Values.{distinct, is_same as is_same_box}
+use Rattle.atom_csv.specs.Values.{distinct}
 use Rattle.office.specs.Words.{numbered, some_and, stands}
-use Rattle.office.specs.State.{Reader, Order, Line, Run, Permit, End, State, has_unit, is_ticket, is_seat_of, is_seated, is_container, opens, container_of, is_by, order_out, held, placed}
-use Rattle.office.specs.Intake.{most_units, most_unit_numbers, most_containers}
-use Rattle.office.specs.Rules.{is_name, is_source, is_between, height, most_deep, most_tickets, most_runs, most_permits}
+use Rattle.office.specs.State.{Reader, Order, Line, Run, Permit, End, State, is_ticket, is_seat_of, is_seated, is_container, opens, container_of, is_by, order_out, held, placed}
+use Rattle.office.specs.Rules.{is_name, most_tickets, most_runs, most_permits}
 
 -- ---- orders
 

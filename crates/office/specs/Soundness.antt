@@ -1,15 +1,13 @@
 -- When a state is sound, whole: the office's settings and days, its catalogue and its desk.
-use Rattle.std.specs.Prelude.{◌≡◌, ◌≢◌, ℕ, ℤ, ◌+◌, ◌<◌, ◌≤◌, Bool, true, false, not, ◌&&◌, List, [], ◌∷◌, length, map, Option, Some, None, nat_eq, nat_le}
+use Rattle.std.specs.Prelude.{◌≡◌, ℕ, ℤ, ◌+◌, ◌<◌, ◌≤◌, Bool, true, false, not, ◌&&◌, List, length, map, Option, Some, None, nat_eq}
 use Rattle.std.specs.List.{list_any, list_all, AllByRecursion, IsDistinct}
 use Rattle.isad_core.specs.Texts.{Bytes, is_blank_text}
 use Rattle.isad_core.specs.Days.{IsDayNumber}
 use Rattle.isad_core.specs.declared.values.BoxKey.{BoxKey}
-use Rattle.isad_core.specs.declared.values.Values.{Values}
 use Rattle.atom_csv.specs.Values.{distinct, is_same as is_same_box}
-use Rattle.tree_core.specs.Forest.{Forest, nodes, size}
+use Rattle.tree_core.specs.Forest.{nodes, size}
 use Rattle.catalogue_store.specs.Units.{Unit, is_from}
-use Rattle.office.specs.Words.{numbered}
-use Rattle.office.specs.State.{Settings, Reader, Order, Run, Permit, State, has_unit}
+use Rattle.office.specs.State.{Settings, State, has_unit}
 use Rattle.office.specs.Intake.{most_units, most_unit_numbers, most_containers}
 use Rattle.office.specs.Rules.{is_source, is_between, height, most_deep}
 use Rattle.office.specs.Sound.{IsSoundDesk}

@@ -1,5 +1,5 @@
 -- The rows of the desk's tables that show a state, and what is read back from rows.
-use Rattle.std.specs.Prelude.{◌≡◌, ℕ, ℤ, suc, ◌&&◌, ◌++◌, Ok, cond, List, [], ◌∷◌, map, filter, filter_map, length, Option, Some, None, option_map, option_and_then, unwrap_or, nat_eq}
+use Rattle.std.specs.Prelude.{◌≡◌, ℕ, ℤ, suc, ◌&&◌, ◌++◌, Ok, cond, List, [], ◌∷◌, map, filter, filter_map, length, Option, Some, None, option_and_then, unwrap_or, nat_eq}
 use Rattle.std.specs.List.{flat_map}
 use Rattle.isad_core.specs.Texts.{Bytes}
 use Rattle.desk_core.specs.declared.reader.Place.{Place}
@@ -7,7 +7,7 @@ use Rattle.desk_core.specs.declared.reader.Place.TheVariants.{Shelf, Desk, Out}
 use Rattle.office.specs.declared.command.Command.TheVariants as command
 use Rattle.office.specs.declared.done.Done.TheVariants as done
 use Rattle.office.specs.Words.{numbered, numbers_to}
-use Rattle.office.specs.State.{State, Reader, Order, Line, Run, Permit, End, Done, Cancelled, containers}
+use Rattle.office.specs.State.{State, Reader, Order, Line, Run, End, Done, Cancelled, containers}
 use Rattle.office.specs.Rules.{step}
 use Rattle.office.specs.Laws.{Standing, Waiting, WithItsReader, Ended, standing}
 

@@ -1,5 +1,5 @@
 -- A small office, worked by hand: two seats, three orders a day, one container in hand, runs of two.
-use Rattle.std.specs.Prelude.{◌≡◌, ◌++◌, ℕ, zero, suc, ℤ, pos, Bool, true, false, List, [], ◌∷◌, Option, Some, None, Ok, Err, codes, decimal}
+use Rattle.std.specs.Prelude.{◌≡◌, ◌++◌, ℕ, zero, suc, ℤ, pos, true, false, List, [], ◌∷◌, Some, Ok, Err, codes, decimal}
 use Rattle.isad_core.specs.Texts.{Bytes}
 use Rattle.desk_core.specs.declared.refusal.Refusal.{Refusal}
 use Rattle.office.specs.declared.command.Command.{Command}
@@ -139,3 +139,8 @@ chain_lines (suc n) = chain_lines n ++ (decimal (suc n) ++ 44 ∷ (number_or_non
 
 abbrev pub chain : ℕ → Bytes
 chain n = codes "legacyId,parentId\n" ++ chain_lines n
+
+-- a series in a series, the higher with a scope and with conditions of access
+abbrev pub harbour : Bytes
+harbour =
+    codes "legacyId,parentId,identifier,title,levelOfDescription,publicationStatus,scopeAndContent,accessConditions\n1,,HUL,Docks,Series,Published,Ships,Open\n2,1,1,Minutes,Series,Published,,\n"
