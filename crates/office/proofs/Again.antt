@@ -73,11 +73,11 @@ all_true : {X : Type 0} (P : X → Type 0) → ((x : X) → P x) → (xs : List 
 all_true P f [] = tt
 all_true P f (x ∷ xs) = (f x, all_true P f xs)
 
-all_append : {X : Type 0} (P : X → Type 0) (xs ys : List X) → AllByRecursion P xs → AllByRecursion P ys → AllByRecursion P (xs ++ ys)
+pub all_append : {X : Type 0} (P : X → Type 0) (xs ys : List X) → AllByRecursion P xs → AllByRecursion P ys → AllByRecursion P (xs ++ ys)
 all_append P [] ys h k = k
 all_append P (x ∷ xs) ys h k = (h.0, all_append P xs ys h.1 k)
 
-all_split : {X : Type 0} (P : X → Type 0) (xs ys : List X) → AllByRecursion P (xs ++ ys) → AllByRecursion P xs × AllByRecursion P ys
+pub all_split : {X : Type 0} (P : X → Type 0) (xs ys : List X) → AllByRecursion P (xs ++ ys) → AllByRecursion P xs × AllByRecursion P ys
 all_split P [] ys h = (tt, h)
 all_split P (x ∷ xs) ys h = let r = all_split P xs ys h.1 in ((h.0, r.0), r.1)
 
@@ -85,7 +85,7 @@ none_kept : {X : Type 0} (p : X → Bool) (xs : List X) → AllByRecursion (λ x
 none_kept p [] h = refl
 none_kept p (x ∷ xs) h = ap (λ b. cond b (x ∷ filter p xs) (filter p xs)) h.0 ∙ none_kept p xs h.1
 
-all_filtered : {X : Type 0} (P : X → Type 0) (p : X → Bool) (xs : List X) → AllByRecursion P xs → AllByRecursion P (filter p xs)
+pub all_filtered : {X : Type 0} (P : X → Type 0) (p : X → Bool) (xs : List X) → AllByRecursion P xs → AllByRecursion P (filter p xs)
 all_filtered P p [] h = tt
 all_filtered P p (x ∷ xs) h = at (p x) (all_filtered P p xs h.1)
   where
@@ -216,13 +216,13 @@ all_branches P p (x ∷ ns) h = at (option_eq Rattle.std.specs.Prelude.nat_eq x.
     at true a c = (h.0, all_append P (nodes (branches (Some x.id) ns)) (nodes (branches p ns)) a c)
     at false a c = c
 
-all_each : {A B : Type 0} (P : B → Type 0) (g : A → B) (f : Forest A) → AllByRecursion (λ a. P (g a)) (nodes f) → AllByRecursion P (nodes (each g f))
+pub all_each : {A B : Type 0} (P : B → Type 0) (g : A → B) (f : Forest A) → AllByRecursion (λ a. P (g a)) (nodes f) → AllByRecursion P (nodes (each g f))
 all_each P g Empty h = tt
 all_each P g (Node a c o) h =
     let r = all_split (λ a. P (g a)) (nodes c) (nodes o) h.1 in
     (h.0, all_append P (nodes (each g c)) (nodes (each g o)) (all_each P g c r.0) (all_each P g o r.1))
 
-all_join : {A : Type 0} (P : A → Type 0) (f g : Forest A) → AllByRecursion P (nodes f) → AllByRecursion P (nodes g) → AllByRecursion P (nodes (join f g))
+pub all_join : {A : Type 0} (P : A → Type 0) (f g : Forest A) → AllByRecursion P (nodes f) → AllByRecursion P (nodes g) → AllByRecursion P (nodes (join f g))
 all_join P f g h k = subst (AllByRecursion P) (sym (nodes-join f g)) (all_append P (nodes f) (nodes g) h k)
 
 all_grown : (P : Unit → Type 0) (source : Bytes) (new : List New) (f : Forest Unit) → AllByRecursion (λ x. P (new_unit source x)) new → AllByRecursion P (nodes f) → AllByRecursion P (nodes (grown source new f))

@@ -7,6 +7,8 @@ use Rattle.isad_core.specs.declared.values.BoxKey.{BoxKey}
 use Rattle.atom_csv.specs.Values.{distinct, is_same as is_same_box}
 use Rattle.tree_core.specs.Forest.{nodes, size}
 use Rattle.catalogue_store.specs.Units.{Unit, is_from}
+use Rattle.office.specs.declared.command.Command.{Command}
+use Rattle.office.specs.declared.command.Command.TheVariants as command
 use Rattle.office.specs.State.{Settings, State, has_unit}
 use Rattle.office.specs.Intake.{most_units, most_unit_numbers, most_containers}
 use Rattle.office.specs.Rules.{is_source, is_between, height, most_deep}
@@ -101,3 +103,14 @@ pub record IsSound (s : State) : Type 0 where
   pub containers : AreGoodContainers s
   pub permits : ArePermitsOfUnits s
   pub desk : IsSoundDesk s
+
+-- ---- commands
+
+-- the days that a command names are days of the calendar, as every `Day` is
+abbrev pub NamesDays : Command → Type 0
+NamesDays (command.OpenDay day) = IsDayNumber day
+NamesDays (command.SetClosure u until) = IsSomeDay until
+NamesDays (command.Register name until) = IsDayNumber until
+NamesDays (command.Renew t until) = IsDayNumber until
+NamesDays (command.Permit t u until) = IsDayNumber until
+NamesDays _ = Prim.Unit {0}

@@ -2,11 +2,13 @@
 //! nothing: its contract is the law.
 
 ghost use Rattle.std.specs.Prelude.{◌≡◌, ℕ, ℤ, List};
+ghost use Rattle.std.specs.List.{AllByRecursion};
 ghost use Rattle.office.specs.declared.command.Command.{Command};
 ghost use Rattle.office.specs.State.{State, Settings, start};
 ghost use Rattle.office.specs.Rules.{step, state_after};
 ghost use Rattle.office.specs.Sound.{IsSoundDesk, IsAscending};
 ghost use Rattle.office.specs.Tables.{ReadsBack, OneRowChanges};
+ghost use Rattle.office.specs.Soundness.{AreGoodDays, NamesDays};
 ghost use Rattle.office.specs.Secrecy.{SamePublic, AnswersAlike, ShowsOnlyPublished};
 ghost use Rattle.office.specs.Laws.{OutApart, GoesOn, IssuesTheFirst, OpenToHolders, ImportsAgain, Kind, all_given, ComesNew};
 
@@ -72,4 +74,14 @@ pub fn rows_read_back()
 /// An accepted Issue changes the state of one row of orders, to out, and no other row.
 pub fn one_row_changes()
     ensures { (s : State) → IsSoundDesk s → OneRowChanges s }
+{}
+
+/// Every day that is kept stays a day of the calendar, where the commands name such days.
+pub fn days_stay_days()
+    ensures { (s : State) (commands : List Command) → AllByRecursion NamesDays commands → AreGoodDays s → AreGoodDays (state_after s commands) }
+{}
+
+/// No command changes the settings.
+pub fn settings_stay()
+    ensures { (s : State) (asked : Command) → IsSoundDesk s → (step s asked).0.settings ≡ s.settings }
 {}
