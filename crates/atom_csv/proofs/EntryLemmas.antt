@@ -20,7 +20,7 @@ joined_more e (d ∷ es) f =
 some_length : (n : ℕ) → (suc n == 0) ≡ false
 some_length n = ne_eqb (suc n) 0 (λ e. omega arith)
 
-cons_there : (b : ℕ) (text : Bytes) → is_empty (b ∷ text) ≡ false
+pub cons_there : (b : ℕ) (text : Bytes) → is_empty (b ∷ text) ≡ false
 cons_there b text = some_length (length text)
 
 front_there : (a b : Bytes) → is_empty a ≡ false → is_empty (a ++ b) ≡ false

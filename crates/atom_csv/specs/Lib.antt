@@ -7,4 +7,10 @@ pub mod Findings
 pub mod Known
 pub mod Reads
 pub mod Source
+pub mod Told
 pub mod Values
+pub use Rattle.csv.specs.Machine
+pub use Rattle.csv.specs.Reading
+pub use Rattle.csv.specs.Records
+pub use Rattle.isad_core.specs.Elements
+pub use Rattle.isad_core.specs.Texts

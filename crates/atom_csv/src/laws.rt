@@ -5,7 +5,9 @@ ghost use Rattle.atom_csv.specs.Entries.{entries, filled, joined};
 ghost use Rattle.atom_csv.specs.Fields.{is_empty, trimmed};
 ghost use Rattle.atom_csv.specs.FileOf.{file_of};
 ghost use Rattle.atom_csv.specs.Known.{key};
+ghost use Rattle.atom_csv.specs.Told.{IsTold};
 ghost use Rattle.atom_csv.specs.Values.{boxes_of};
+ghost use Rattle.atom_csv.specs.declared.file.File.{File};
 
 /// A file without a record has no header.
 pub fn an_empty_file_has_no_header()
@@ -84,4 +86,10 @@ pub fn a_fonds_and_a_series()
           } ∷ [];
           translations = 0;
         }) }
+{}
+
+/// No legacyId of a file is blank, and none stands twice; no text or name of a container is blank,
+/// and no container stands twice in a row.
+pub fn a_file_is_sound()
+    ensures { (bytes : Bytes) (file : File) → file_of bytes ≡ Ok file → IsTold file }
 {}

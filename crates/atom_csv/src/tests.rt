@@ -107,7 +107,7 @@ fn the_first_fault_is_told(rt: HostRuntime) -> Result<(), Fail> {
 #[test]
 fn files_are_told(rt: HostRuntime) -> Result<(), Fail> {
     let alloc = rt.alloc();
-    let cases: [(&[u8], &str); 13] = [
+    let cases: [(&[u8], &str); 14] = [
         (
             b"legacyId,parentId,title,publicationStatus\n",
             "translations 0",
@@ -148,6 +148,8 @@ fn files_are_told(rt: HostRuntime) -> Result<(), Fail> {
               7,,,,MB,Mill Board,Fonds,\"Line one\r\nline \"\"two\"\"\",Published,en\r\n",
             "2 7 - published [Fonds] 1=MB 2=Mill Board 10=Line one\r\nline \"two\"\ntranslations 0",
         ),
+        // The mark is skipped before quotes are read.
+        (b"\xef\xbb\xbf\"legacyId\",,\n", "translations 0"),
         // Containers go by their places: a blank name makes none and shifts none.
         (
             b"legacyId,physicalObjectName,physicalObjectLocation,physicalObjectType\n\
@@ -213,13 +215,15 @@ fn every_prefix_is_told(rt: HostRuntime) -> Result<(), Fail> {
     Ok(())
 }
 
-fn with_title(alloc: Global, length: usize) -> Result<Vec<u8>, AllocError> {
-    let mut bytes = Vec::from_slice(alloc, b"legacyId,title\n1, ")?;
+// Rows whose last field is a text of so many bytes between spaces.
+fn with_last(alloc: Global, rows: &str, length: usize) -> Result<String, AllocError> {
+    let mut text = String::from_str(alloc, rows)?;
+    text.push(' ')?;
     for _ in 0..length {
-        bytes.push(b'a')?;
+        text.push('a')?;
     }
-    bytes.extend_from_slice(b" \n")?;
-    Ok(bytes)
+    text.push_str(" \n")?;
+    Ok(text)
 }
 
 fn with_rows(alloc: Global, rows: u32) -> Result<String, AllocError> {
@@ -233,10 +237,25 @@ fn with_rows(alloc: Global, rows: u32) -> Result<String, AllocError> {
 #[test]
 fn limits_are_kept(rt: HostRuntime) -> Result<(), Fail> {
     let alloc = rt.alloc();
-    assert_eq!(rt; fault(alloc, with_title(alloc, 65_535)?.as_slice()), None);
+    let title = "legacyId,title\n1,";
     assert_eq!(rt;
-        fault(alloc, with_title(alloc, 65_536)?.as_slice()),
+        fault(alloc, with_last(alloc, title, 65_535)?.as_bytes()),
+        None
+    );
+    assert_eq!(rt;
+        fault(alloc, with_last(alloc, title, 65_536)?.as_bytes()),
         bad(2, 10)
+    );
+    // Neither a column that is not read nor a translation can be too long.
+    let unread = "legacyId,other\n1,";
+    assert_eq!(rt;
+        fault(alloc, with_last(alloc, unread, 65_536)?.as_bytes()),
+        None
+    );
+    let again = "legacyId,culture,title\n1,en,a\n1,fr,";
+    assert_eq!(rt;
+        fault(alloc, with_last(alloc, again, 65_536)?.as_bytes()),
+        None
     );
     let most = read_file(alloc, with_rows(alloc, 20_000)?.as_bytes());
     assert_eq!(rt; most.ok().ok_or("refused")?.rows.len(), 20_000);

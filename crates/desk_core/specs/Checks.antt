@@ -1,7 +1,7 @@
 -- What the desk looks at before an order, an issue, a seat taken and a seat left, in order.
-use Rattle.std.specs.Prelude.{ℕ, Bool, not, nat_le, nat_lt, List, [], ◌∷◌, Option, is_none}
+use Rattle.std.specs.Prelude.{ℕ, Bool, nat_le, nat_lt, List, [], ◌∷◌, Option, is_none}
 use Rattle.desk_core.specs.declared.refusal.Refusal.TheVariants.{UnknownTicket, UnknownContainer, TicketExpired, NotAvailable, AlreadyOrdered, DailyLimit, NoSeatFree, AlreadySeated, NotSeated, HoldsContainers, NotAtDesk, NotFirst, HandsFull, Full}
-use Rattle.desk_core.specs.Refusals.{Check}
+use Rattle.desk_core.specs.Refusals.{Check, when, unless}
 
 -- how many orders there may ever be
 abbrev pub most_orders : ℕ
@@ -20,12 +20,12 @@ pub record OrderFacts : Type 0 where
 
 abbrev pub order_checks : OrderFacts → List Check
 order_checks o =
-    (not o.known, UnknownTicket)
-    ∷ (o.expired, TicketExpired)
-    ∷ (not o.available, NotAvailable)
-    ∷ (o.ordered, AlreadyOrdered)
-    ∷ (nat_le o.daily o.placed, DailyLimit)
-    ∷ (nat_le most_orders o.orders, Full)
+    unless o.known UnknownTicket
+    ∷ when o.expired TicketExpired
+    ∷ unless o.available NotAvailable
+    ∷ when o.ordered AlreadyOrdered
+    ∷ when (nat_le o.daily o.placed) DailyLimit
+    ∷ when (nat_le most_orders o.orders) Full
     ∷ []
 
 -- ---- a container is issued to a ticket
@@ -42,13 +42,13 @@ pub record IssueFacts : Type 0 where
 
 abbrev pub issue_checks : IssueFacts → List Check
 issue_checks i =
-    (not i.known, UnknownContainer)
-    ∷ (not i.at_desk, NotAtDesk)
-    ∷ (not i.first, NotFirst)
-    ∷ (i.expired, TicketExpired)
-    ∷ (not i.seated, NotSeated)
-    ∷ (nat_le i.hands i.held, HandsFull)
-    ∷ (not i.available, NotAvailable)
+    unless i.known UnknownContainer
+    ∷ unless i.at_desk NotAtDesk
+    ∷ unless i.first NotFirst
+    ∷ when i.expired TicketExpired
+    ∷ unless i.seated NotSeated
+    ∷ when (nat_le i.hands i.held) HandsFull
+    ∷ unless i.available NotAvailable
     ∷ []
 
 -- ---- a ticket takes a seat
@@ -61,10 +61,10 @@ pub record TakeSeatFacts : Type 0 where
 
 abbrev pub take_seat_checks : TakeSeatFacts → List Check
 take_seat_checks s =
-    (not s.known, UnknownTicket)
-    ∷ (s.expired, TicketExpired)
-    ∷ (s.seated, AlreadySeated)
-    ∷ (is_none s.free, NoSeatFree)
+    unless s.known UnknownTicket
+    ∷ when s.expired TicketExpired
+    ∷ when s.seated AlreadySeated
+    ∷ when (is_none s.free) NoSeatFree
     ∷ []
 
 -- ---- a ticket leaves its seat
@@ -76,7 +76,7 @@ pub record LeaveSeatFacts : Type 0 where
 
 abbrev pub leave_seat_checks : LeaveSeatFacts → List Check
 leave_seat_checks l =
-    (not l.known, UnknownTicket)
-    ∷ (not l.seated, NotSeated)
-    ∷ (nat_lt 0 l.held, HoldsContainers)
+    unless l.known UnknownTicket
+    ∷ unless l.seated NotSeated
+    ∷ when (nat_lt 0 l.held) HoldsContainers
     ∷ []

@@ -4,3 +4,4 @@ pub mod Orders
 pub mod Refusals
 pub mod Runs
 pub mod Slips
+pub mod Worked

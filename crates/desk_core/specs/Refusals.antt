@@ -65,13 +65,21 @@ name_of UnknownRun = codes "UnknownRun"
 name_of BadName = codes "BadName"
 name_of NoPermit = codes "NoPermit"
 
--- a check of a command: what is looked for, and what is told where it is found
+-- a check of a command: the refusal that it tells, where what it looks for holds
 abbrev pub Check : Type 0
-Check = Bool × Refusal
+Check = Option Refusal
+
+abbrev pub when : Bool → Refusal → Check
+when true refusal = Some refusal
+when false refusal = None
+
+abbrev pub unless : Bool → Refusal → Check
+unless true refusal = None
+unless false refusal = Some refusal
 
 -- A command looks at its checks in order. The first that holds is the refusal; where none holds, the
 -- command is done.
 abbrev pub first_that_holds : List Check → Option Refusal
 first_that_holds [] = None
-first_that_holds ((true, refusal) ∷ checks) = Some refusal
-first_that_holds ((false, refusal) ∷ checks) = first_that_holds checks
+first_that_holds (Some refusal ∷ checks) = Some refusal
+first_that_holds (None ∷ checks) = first_that_holds checks

@@ -1,8 +1,9 @@
 -- The slip of a run: what the fetcher goes along the shelves with.
-use Rattle.std.specs.Prelude.{ℕ, ◌-◌, ◌||◌, Bool, nat_lt, nat_le, List, [], ◌∷◌, ◌++◌, length, filter, replicate, codes, ℤ}
+use Rattle.std.specs.Prelude.{◌≡◌, ℕ, ◌-◌, ◌||◌, Bool, nat_lt, nat_le, List, [], ◌∷◌, ◌++◌, length, filter, replicate, codes, ℤ}
 use Rattle.std.specs.Fmt.{decimal}
 use Rattle.std.specs.List.{flat_map}
 use Rattle.std.specs.Ordering.{is_lt, nat_cmp, ordering_then}
+use Rattle.std.specs.Str.{IsUtf8, chars}
 use Rattle.std.specs.declared.cmp.Ordering.{Ordering}
 use Rattle.std.specs.Cmp.Lexicographic.{slice_cmp}
 use Rattle.isad_core.specs.Days.{day_text}
@@ -65,3 +66,12 @@ slip_line c =
 abbrev pub slip : ℕ → ℤ → List Candidate → Bytes
 slip run day candidates =
     slip_head run day ++ flat_map slip_line (in_order is_shelved_before candidates)
+
+-- in a text, as many as it has Unicode scalar values
+abbrev pub CountsCharacters : Type 0
+CountsCharacters = (text : Bytes) → IsUtf8 text → characters text ≡ length (chars text)
+
+-- and on one line as many as are left where a carriage return and a line feed together are one
+abbrev pub CountsPrintedCharacters : Type 0
+CountsPrintedCharacters =
+    (text : Bytes) → IsUtf8 text → characters (one_line text) ≡ length (one_line (chars text))

@@ -34,7 +34,8 @@ pub fn may_order(
     limits: &Limits,
 ) -> Result<(), Refusal>
     ensures { result_err result
-        ≡ first_that_holds (order_checks (order_facts (option_copied reader.entry) today ask.now limits.now)) }
+        ≡ first_that_holds (order_checks
+        (order_facts (option_copied reader.entry) today ask.now limits.now)) }
 {
     let Some(reader) = reader else {
         return Err(Refusal::UnknownTicket);

@@ -44,8 +44,7 @@ fn shelf_order(a: &Candidate, b: &Candidate) -> Ordering
 fn slip_head(alloc: Global, run: u64, day: Day) -> Result<Vec<u8>, AllocError>
     ensures { IfOk result (λ head. head.items ≡ spec.slip_head run day) }
 {
-    let name = format!(in alloc; "Run {run}  ")?;
-    let mut head = name.as_bytes().to_vec(alloc)?;
+    let mut head = format!(in alloc; "Run {run}  ")?.into_bytes();
     head.extend_from_slice(&day.text())?;
     head.push(b'\n')?;
     Ok(head)

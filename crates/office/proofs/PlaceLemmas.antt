@@ -10,7 +10,7 @@ use Rattle.isad_core.specs.Texts.{Bytes}
 use Rattle.atom_csv.specs.declared.file.Row.{Row}
 use Rattle.tree_core.specs.Forest.{Empty}
 use Rattle.catalogue_store.specs.Merging.{cause_at, faults_below, has_legacy}
-use Rattle.office.specs.declared.preview.places.Place.{Place}
+use Rattle.office.specs.declared.previews.places.Place.{Place}
 use Rattle.office.specs.Places.{AllPlaced, IsPlaced, IsPlacing, depth_below, faults, index_of, place_at, place_of}
 
 -- the place with this index, in a list that has the last place first

@@ -2,6 +2,8 @@ pub mod Aids
 pub mod Numbers
 pub mod Places
 pub mod Planting
+pub mod Preview
+pub mod Printing
 pub mod Slots
 pub mod Words
 pub mod State

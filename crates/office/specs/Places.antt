@@ -5,7 +5,7 @@ use Rattle.isad_core.specs.Texts.{Bytes}
 use Rattle.atom_csv.specs.declared.file.Row.{Row}
 use Rattle.tree_core.specs.Forest.{Empty}
 use Rattle.catalogue_store.specs.Merging.{depth_under, faults_below, has_legacy}
-use Rattle.office.specs.declared.preview.places.Place.{Place}
+use Rattle.office.specs.declared.previews.places.Place.{Place}
 
 -- the index of the nearest row above with this legacyId; `above` has the nearest first
 abbrev pub index_of : Bytes → List Row → Option ℕ

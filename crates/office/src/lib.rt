@@ -4,11 +4,12 @@
 mod command;
 mod done;
 pub mod laws;
-mod preview;
+mod previews;
 mod query;
 pub mod worked;
 
 pub use command::Command;
 pub use desk_core::Refusal;
 pub use done::{Done, Remark};
+pub use previews::preview;
 pub use query::{Answer, Query};

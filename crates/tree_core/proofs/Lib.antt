@@ -1,7 +1,7 @@
 pub mod Lists
 pub mod Ways
 pub mod Adding
-pub mod Places
+pub mod Lookups
 pub mod Walk
 pub mod Shifts
 pub mod OneForest
@@ -10,3 +10,13 @@ pub mod Members
 pub mod Moving
 pub mod Below
 pub mod MarkWalks
+pub mod PlaceOrder
+pub mod Repeats
+pub mod Seen
+pub mod Crossing
+pub mod Reading
+pub mod Growing
+pub mod Linking
+pub mod Adjacent
+pub mod Climbing
+pub mod Orders

@@ -1,11 +1,7 @@
-use lib.Utf8.{encode}
 use Rattle.std.proofs.Common.{refl}
-use Rattle.std.specs.Str.{chars, is_utf8}
-use Rattle.csv.proofs.OnLiterals.{csv_on_literals}
-use Rattle.atom_csv.specs.Columns.{columns}
-use Rattle.atom_csv.specs.Values.{described}
+use Rattle.atom_csv.proofs.OnLiterals.{files_on_literals}
 use Rattle.atom_csv.proofs.laws.an_empty_file_has_no_header.Goals as goal
 
 pub returns : goal.returns
-unfolding csv_on_literals is_utf8 chars encode columns described
+unfolding files_on_literals
 returns c = refl
