@@ -1,3 +1,4 @@
 pub mod Units
 pub mod Merging
 pub mod Publishing
+pub mod Housing
