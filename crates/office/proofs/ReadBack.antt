@@ -10,8 +10,9 @@ use Rattle.std.proofs.lemmas.Bool.{cases_eq, cases_Bool, false≢true, eq-eqb}
 use Rattle.office.specs.Words.{numbered, numbers_to, stands}
 use Rattle.office.specs.State.{Line, Run, Permit, State}
 use Rattle.office.specs.Tables.{rows_from, SeatRow, seat_rows_from, RunRow, run_row, RunLineRow, run_line_row, lines_from, PermitRow, permit_row, permit_rows}
-use Rattle.office.specs.Reading.{seats_said, line_from, run_from, permits_said}
-use Rattle.office.specs.Sound.{AreGoodPermits, AreGoodSeats}
+use Rattle.office.specs.Reading.{seats_said, line_from, run_from, permits_said, container_row, box_from, Version, SaysAllButUnits}
+use Rattle.office.proofs.TableLaws.{rows_back, reads_back}
+use Rattle.office.specs.Sound.{AreGoodPermits, IsSoundDesk}
 use Rattle.office.proofs.Words.{same_number, other_number, stands-push, numbered_within}
 use Rattle.office.proofs.Counts.{none_to, numbered_from_one}
 
@@ -188,3 +189,23 @@ ticket_permits s t false e g = none_either (stands t (numbers_to (length s.reade
 pub permits_back : (s : State) → AreGoodPermits s → permits_said (permit_rows s) ≡ s.permits
 unfolding permits_of
 permits_back s g = fun_ext (λ t. permits_all s.permits (length s.readers) t ∙ ticket_permits s t (is_some (numbered s.readers t)) refl g)
+
+-- ---- all of it but the forest
+
+pub says_all_but_units : (version : Version) (s : State) → IsSoundDesk s → SaysAllButUnits version s
+says_all_but_units version s g =
+    let r = reads_back s g in
+    record {
+      settings = refl;
+      day = refl;
+      next = refl;
+      boxes = rows_back container_row box_from (λ n box. refl) 1 s.boxes;
+      readers = r.readers;
+      seats = ap (λ n. seats_said n 1 (seat_rows_from 1 s.seats)) (sym g.seats.count) ∙ seats_back 1 s.seats;
+      orders = r.orders;
+      runs = runs_back s.runs;
+      places = r.places;
+      queues = r.queues;
+      past = r.past;
+      permits = permits_back s g.permits;
+    }

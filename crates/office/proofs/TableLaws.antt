@@ -287,7 +287,7 @@ past_is s f (suc j) =
     ap (option_and_then (λ row. end_of row.state)) (rows_get (order_row s) 1 s.orders j ∙ ap (λ k. option_map (order_row s k) (slice_get s.orders j)) e)
     ∙ past_row s (suc j) (numbered s.orders (suc j)) f refl
 
-rows_back : {X Y : Type 0} (row : ℕ → X → Y) (back : Y → X) → ((n : ℕ) (x : X) → back (row n x) ≡ x) → (n : ℕ) (xs : List X) → map back (rows_from row n xs) ≡ xs
+pub rows_back : {X Y : Type 0} (row : ℕ → X → Y) (back : Y → X) → ((n : ℕ) (x : X) → back (row n x) ≡ x) → (n : ℕ) (xs : List X) → map back (rows_from row n xs) ≡ xs
 rows_back row back h n [] = refl
 rows_back row back h n (x ∷ xs) = ap (λ y. y ∷ map back (rows_from row (suc n) xs)) (h n x) ∙ ap (λ l. x ∷ l) (rows_back row back h (suc n) xs)
 

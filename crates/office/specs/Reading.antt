@@ -1,5 +1,5 @@
 -- All the rows that show a state, in either version, and the state that rows say.
-use Rattle.std.specs.Prelude.{ℕ, ℤ, zero, suc, ◌+◌, ◌&&◌, ◌++◌, Bool, false, not, cond, List, [], ◌∷◌, length, map, filter, filter_map, find, Option, Some, None, option_map, unwrap_or, nat_eq, nat_lt}
+use Rattle.std.specs.Prelude.{◌≡◌, ℕ, ℤ, zero, suc, ◌+◌, ◌&&◌, ◌++◌, Bool, false, not, cond, List, [], ◌∷◌, length, map, filter, filter_map, find, Option, Some, None, option_map, unwrap_or, nat_eq, nat_lt}
 use Rattle.std.specs.List.{flat_map}
 use Rattle.isad_core.specs.Texts.{Bytes}
 use Rattle.isad_core.specs.declared.values.BoxKey.{BoxKey}
@@ -259,3 +259,19 @@ state_of t =
       past = past_in t.orders;
       permits = permits_said t.permits;
     }
+
+-- ---- what is read back from the rows of a state: all of it but the forest
+
+pub record SaysAllButUnits (version : Version) (s : State) : Type 0 where
+  pub settings : (state_of (tables version s)).settings ≡ s.settings
+  pub day : (state_of (tables version s)).day ≡ s.day
+  pub next : (state_of (tables version s)).next_unit ≡ s.next_unit
+  pub boxes : (state_of (tables version s)).boxes ≡ s.boxes
+  pub readers : (state_of (tables version s)).readers ≡ s.readers
+  pub seats : (state_of (tables version s)).seats ≡ s.seats
+  pub orders : (state_of (tables version s)).orders ≡ s.orders
+  pub runs : (state_of (tables version s)).runs ≡ s.runs
+  pub places : (state_of (tables version s)).place ≡ s.place
+  pub queues : (state_of (tables version s)).queue ≡ s.queue
+  pub past : (state_of (tables version s)).past ≡ s.past
+  pub permits : (state_of (tables version s)).permits ≡ s.permits
