@@ -17,7 +17,7 @@ use Rattle.atom_csv.specs.Values.{distinct, is_same as is_same_box}
 use Rattle.atom_csv.specs.declared.file.File.{File}
 use Rattle.atom_csv.specs.declared.file.Row.{Row}
 use Rattle.tree_core.specs.Forest.{Forest, Empty, Node, nodes, each, has, join}
-use Rattle.desk_core.specs.Refusals.{first_that_holds}
+use Rattle.desk_core.specs.Refusals.{Check, when, unless, first_that_holds}
 use Rattle.desk_core.specs.declared.refusal.Refusal.{Refusal}
 use Rattle.desk_core.specs.declared.refusal.Refusal.TheVariants.{BadName, BadFile, Full, WithReader}
 use Rattle.catalogue_store.specs.Units.{Unit, is_from}
@@ -398,13 +398,13 @@ none_changed source rows f apart t =
 -- what an import does, once its file was taken
 abbrev stepped : State → Bytes → Taken → State × Reply
 stepped t source r =
-    decided (first_that_holds ((not (is_source source), BadName) ∷ bad_file r ∷ too_much r ∷ gate (imported t r) ∷ [])) t (imported t r) (told_of t.forest source r)
+    decided (first_that_holds (unless (is_source source) BadName ∷ bad_file r ∷ too_much r ∷ gate (imported t r) ∷ [])) t (imported t r) (told_of t.forest source r)
 
-none_holds : (t new : State) (d : Done) (a b c : Bool) (x y z w : Refusal) → a ≡ false → b ≡ false → c ≡ false → decided (first_that_holds ((a, x) ∷ (false, y) ∷ (b, z) ∷ (c, w) ∷ [])) t new d ≡ (new, Ok d)
-none_holds t new d true b c x y z w ea eb ec = absurd (false≢true (sym ea))
-none_holds t new d false true c x y z w ea eb ec = absurd (false≢true (sym eb))
-none_holds t new d false false true x y z w ea eb ec = absurd (false≢true (sym ec))
-none_holds t new d false false false x y z w ea eb ec = refl
+none_holds : (t new : State) (d : Done) (a b c : Check) → a ≡ None → b ≡ None → c ≡ None → decided (first_that_holds (a ∷ None ∷ b ∷ c ∷ [])) t new d ≡ (new, Ok d)
+none_holds t new d (Some why) b c ea eb ec = absurd (cc)
+none_holds t new d None (Some why) c ea eb ec = absurd (cc)
+none_holds t new d None None (Some why) ea eb ec = absurd (cc)
+none_holds t new d None None None ea eb ec = refl
 
 abbrev done_reply : Done → Reply
 done_reply d = Ok d
@@ -448,13 +448,13 @@ module _ (s : State) (source file : Bytes) (intake : Intake) (e : taken s source
       ∙ (ap (λ n. done.Import 0 n marks (count_by (is_same f source) intake.file.rows) intake.file.translations) (none_new source intake.file.rows f after_it)
       ∙ ap (λ n. done.Import 0 0 marks n intake.file.translations) (count_all (is_same f source) intake.file.rows (rows_same source intake.file.rows f apart after_it)))
 
-  step_again : not (is_source source) ≡ false → is_full intake.catalogue ≡ false → is_some (kept (imported s (Ok intake))) ≡ false → DoneAgain (imported s (Ok intake)) source file (remarks intake.catalogue.forest source intake.file.rows) intake.file.translations
+  step_again : unless (is_source source) BadName ≡ None → when (is_full intake.catalogue) Full ≡ None → gate (imported s (Ok intake)) ≡ None → DoneAgain (imported s (Ok intake)) source file (remarks intake.catalogue.forest source intake.file.rows) intake.file.translations
   step_again a b c =
       let t = imported s (Ok intake) in (
         intake.file,
         it.read,
         ap (stepped t source) taken_same
-            ∙ (none_holds t (imported t (Ok intake)) (told_of t.forest source (Ok intake)) (not (is_source source)) (is_full intake.catalogue) (is_some (kept t)) BadName (BadFile 0 0) Full (WithReader (unwrap_or (kept t) 0)) a b c
+            ∙ (none_holds t (imported t (Ok intake)) (told_of t.forest source (Ok intake)) (unless (is_source source) BadName) (when (is_full intake.catalogue) Full) (gate t) a b c
             ∙ ap (replied t) told_same),
       )
 
@@ -464,8 +464,8 @@ same_reply a b e = cc
 same_marks : (c n s t c' n' s' t' : ℕ) (m m' : List Remark) → done.Import c n m s t ≡ done.Import c' n' m' s' t' → (m ≡ m') × (t ≡ t')
 same_marks c n s t c' n' s' t' m m' e = (cc, cc)
 
-accepted : (s : State) (source file : Bytes) (r : Taken) → taken s source file ≡ r → not (is_source source) ≡ false → (bad_file r).0 ≡ false → (too_much r).0 ≡ false → is_some (kept (imported s r)) ≡ false → (changed new : ℕ) (marks : List Remark) (same translations : ℕ) → done_reply (told_of s.forest source r) ≡ done_reply (done.Import changed new marks same translations) → DoneAgain (imported s r) source file marks translations
-accepted s source file (Err fault) e a b c d changed new marks same translations t = absurd (false≢true (sym b))
+accepted : (s : State) (source file : Bytes) (r : Taken) → taken s source file ≡ r → unless (is_source source) BadName ≡ None → bad_file r ≡ None → too_much r ≡ None → gate (imported s r) ≡ None → (changed new : ℕ) (marks : List Remark) (same translations : ℕ) → done_reply (told_of s.forest source r) ≡ done_reply (done.Import changed new marks same translations) → DoneAgain (imported s r) source file marks translations
+accepted s source file (Err fault) e a b c d changed new marks same translations t = absurd (cc)
 accepted s source file (Ok intake) e a b c d changed new marks same translations t =
     let x = same_marks _ _ _ _ changed new same translations _ marks (same_reply _ _ t) in
     subst (λ m. DoneAgain (imported s (Ok intake)) source file m translations) x.0

@@ -14,7 +14,7 @@ use Rattle.office.specs.declared.command.Command.TheVariants as command
 use Rattle.office.specs.Intake.{Taken}
 use Rattle.office.specs.Rules.{catalogue, checks, after, renewed, cancelled, issued, returned, imported, taken}
 use Rattle.office.proofs.Words.{numbered_within, numbered-push}
-use Rattle.office.proofs.Steps.{Passes}
+use Rattle.office.proofs.Steps.{held_so, Passes}
 use Rattle.office.proofs.Imports.{new_boxes, boxes_after}
 
 pub some_is : {X : Type 0} (o : Option X) (x : X) → o ≡ Some x → is_some o ≡ true
@@ -102,7 +102,7 @@ imported_extends s source file (Ok intake) e b =
     }
 
 pub extends_after : (s : State) (asked : Command) → distinct s.boxes ≡ s.boxes → Passes (checks s asked) → Extends s (after s asked)
-extends_after s (command.OpenDay day) b ok = record { settings = refl; day = after_today s.day day (not-false (int_lt s.day day) ok.0); tickets = λ n h. h; containers = λ n h. h; orders = λ o order h. h }
+extends_after s (command.OpenDay day) b ok = record { settings = refl; day = after_today s.day day (held_so (int_lt s.day day) _ ok.0); tickets = λ n h. h; containers = λ n h. h; orders = λ o order h. h }
 extends_after s (command.Register name until) b ok = record { settings = refl; day = same_day s.day; tickets = λ n. some_kept s.readers _ n; containers = λ n h. h; orders = λ o order h. h }
 extends_after s (command.Renew t until) b ok = record { settings = refl; day = same_day s.day; tickets = λ n. some-renewed until s.readers t n; containers = λ n h. h; orders = λ o order h. h }
 extends_after s (command.TakeSeat t) b ok = same_lists s (after s (command.TakeSeat t)) refl refl refl refl refl

@@ -14,7 +14,7 @@ use Rattle.office.specs.Rules.{checks, after, ordered, cancelled, fetched, reshe
 use Rattle.office.specs.Intake.{Taken}
 use Rattle.office.specs.Sound.{ExactlyOne, IsFiled, is_out_for, IsAscending, AreFiled}
 use Rattle.office.proofs.Words.{same_number, other_number, put_here, put_there, put_each, stands-push, stands-without_other, stands-without_same, below_none, ascending-without, ascending-push, all_from_stands, numbered_within, numbered-push, numbered-push_last, numbered_past}
-use Rattle.office.proofs.Steps.{Passes, run_keeps}
+use Rattle.office.proofs.Steps.{held_so, Passes, run_keeps}
 
 -- One order, by where it stands
 
@@ -360,10 +360,10 @@ filed_after s (command.Renew t until) f ok = record { each = f.each; queues = f.
 filed_after s (command.TakeSeat t) f ok = record { each = f.each; queues = f.queues }
 filed_after s (command.LeaveSeat t) f ok = record { each = f.each; queues = f.queues }
 filed_after s (command.Order t c) f ok = order_filed s t c f
-filed_after s (command.Cancel o) f ok = cancel_filed s o (container_of s o) refl (not-false (waits s o) ok.1.0) f
+filed_after s (command.Cancel o) f ok = cancel_filed s o (container_of s o) refl (held_so (waits s o) _ ok.1.0) f
 filed_after s command.Run f ok = same_out s (fetched s).place (fetched s).runs (fetched_out s) f
 filed_after s command.Reshelve f ok = same_out s (reshelved s).place s.runs (reshelved_out s) f
-filed_after s (command.Issue c t) f ok = issue_filed s c (s.queue c) refl (not-false (is_desk (s.place c)) ok.1.0) f
+filed_after s (command.Issue c t) f ok = issue_filed s c (s.queue c) refl (held_so (is_desk (s.place c)) _ ok.1.0) f
 filed_after s (command.Return c) f ok = return_filed s c (s.place c) refl f
 filed_after s (command.Permit t u until) f ok = record { each = f.each; queues = f.queues }
 filed_after s (command.Revoke t u) f ok = record { each = f.each; queues = f.queues }

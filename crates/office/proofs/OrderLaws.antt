@@ -16,7 +16,7 @@ use Rattle.office.specs.Intake.{Taken}
 use Rattle.office.specs.Sound.{is_out_for, IsAscending, AreFiled}
 use Rattle.office.specs.Laws.{Standing, Waiting, WithItsReader, Ended, stands_as, standing, OutApart, Goes, GoesOn, IsFirstWaiting, IssuesTheFirst}
 use Rattle.office.proofs.Words.{same_number}
-use Rattle.office.proofs.Steps.{Passes, step_at}
+use Rattle.office.proofs.Steps.{held_so, Passes, step_at}
 use Rattle.office.proofs.Filed.{IsOutWith, IsPast, OnlyMoves, waiting, out_with, next_is_none, only_cancels, is_cancelled, only_orders, is_ordered, only_issues, is_issued, only_returns, is_returned, fetched_out, reshelved_out}
 
 -- What an order's standing says
@@ -149,10 +149,10 @@ goes_after s (command.Renew t until) f ok = stays s (after s (command.Renew t un
 goes_after s (command.TakeSeat t) f ok = stays s (after s (command.TakeSeat t)) (λ o. refl)
 goes_after s (command.LeaveSeat t) f ok = stays s (after s (command.LeaveSeat t)) (λ o. refl)
 goes_after s (command.Order t c) f ok = order_goes s t c f
-goes_after s (command.Cancel o) f ok = cancel_goes s o (container_of s o) refl (not-false (waits s o) ok.1.0) f
+goes_after s (command.Cancel o) f ok = cancel_goes s o (container_of s o) refl (held_so (waits s o) _ ok.1.0) f
 goes_after s command.Run f ok = places_go s (fetched s) (λ o. refl) (λ c. refl) (fetched_out s) (λ o. refl)
 goes_after s command.Reshelve f ok = places_go s (reshelved s) (λ o. refl) (λ c. refl) (reshelved_out s) (λ o. refl)
-goes_after s (command.Issue c t) f ok = issue_goes s c (s.queue c) refl (not-false (is_desk (s.place c)) ok.1.0) f
+goes_after s (command.Issue c t) f ok = issue_goes s c (s.queue c) refl (held_so (is_desk (s.place c)) _ ok.1.0) f
 goes_after s (command.Return c) f ok = return_goes s c (s.place c) refl f
 goes_after s (command.Permit t u until) f ok = stays s (after s (command.Permit t u until)) (λ o. refl)
 goes_after s (command.Revoke t u) f ok = stays s (after s (command.Revoke t u)) (λ o. refl)
@@ -211,4 +211,4 @@ pub issues_the_first : (s : State) → AreFiled s → IssuesTheFirst s
 issues_the_first s f c t o =
     step_at (λ u reply. reply ≡ Ok (done.Issue o) → IsFirstWaiting s c o × (is_by s t o ≡ true) × (standing u o ≡ Some WithItsReader)) s (command.Issue c t)
     (λ why r. absurd (cc))
-    (λ ok r. issue_first s c t o (s.queue c) refl (not-false (is_desk (s.place c)) ok.1.0) (not-false (some_and (is_by s t) (first (s.queue c))) ok.1.1.0) f r)
+    (λ ok r. issue_first s c t o (s.queue c) refl (held_so (is_desk (s.place c)) _ ok.1.0) (held_so (some_and (is_by s t) (first (s.queue c))) _ ok.1.1.0) f r)

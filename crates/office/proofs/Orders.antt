@@ -1,6 +1,6 @@
 -- The orders stay good.
 use Rattle.std.proofs.Common.{◌≡◌, ◌≢◌, ℕ, suc, ◌+◌, ◌<◌, ◌≤◌, Bool, true, false, cond, ◌&&◌, ◌||◌, List, [], ◌∷◌, ◌++◌, length, Option, Some, None, Ok, Err, refl, sym, ap, ◌∙◌, subst, inl, inr, ◌⊎◌, arith, length-append}
-use Rattle.std.specs.Prelude.{ℤ, ◌≤ℤ◌, nat_eq, is_some, option_map, count_by}
+use Rattle.std.specs.Prelude.{nat_le, ℤ, ◌≤ℤ◌, nat_eq, is_some, option_map, count_by}
 use Rattle.std.specs.List.{list_any}
 use Rattle.std.proofs.lemmas.List.Sums.{sum_by_push}
 use Rattle.std.proofs.lemmas.Bool.{eqb-true, leb-false, cases_eq, false≢true, not-false, and_parts, or_cases}
@@ -20,7 +20,7 @@ use Rattle.atom_csv.specs.Values.{distinct}
 use Rattle.office.specs.Intake.{Taken}
 use Rattle.office.specs.Sound.{ExactlyOne, IsFiled, is_out_for, AreFiled, IsGoodOrder, AreGoodOrders}
 use Rattle.office.proofs.Words.{same_number, put_each, numbered-push, numbered-push_last}
-use Rattle.office.proofs.Steps.{Passes}
+use Rattle.office.proofs.Steps.{held_so, held_not, Passes}
 use Rattle.office.proofs.Extends.{Extends, extends_after, same_day, no_later_than}
 
 pub good_order : (s t : State) (order : Order) → Extends s t → IsGoodOrder s order → IsGoodOrder t order
@@ -170,10 +170,10 @@ few_after s t c l =
 pub order_good : (s : State) (t c : ℕ) → AreFiled s → AreGoodOrders s → Passes (checks s (command.Order t c)) → AreGoodOrders (ordered s t c)
 order_good s t c f g ok =
     record {
-      each = each_after s t c f g (not-false (is_ticket s t) ok.0) (opens_known s t c (not-false (opens s t c) ok.1.1.0));
-      daily = daily_after s t c f g (leb-false s.settings.daily (placed s t s.day) ok.1.1.1.1.0);
-      once = once_after s t c f g ok.1.1.1.0;
-      few = few_after s t c (leb-false most_orders (length s.orders) ok.1.1.1.1.1.0);
+      each = each_after s t c f g (held_so (is_ticket s t) _ ok.0) (opens_known s t c (held_so (opens s t c) _ ok.1.1.0));
+      daily = daily_after s t c f g (leb-false s.settings.daily (placed s t s.day) (held_not (nat_le s.settings.daily (placed s t s.day)) _ ok.1.1.1.1.0));
+      once = once_after s t c f g (held_not (has_ordered s t c) _ ok.1.1.1.0);
+      few = few_after s t c (leb-false most_orders (length s.orders) (held_not (nat_le most_orders (length s.orders)) _ ok.1.1.1.1.1.0));
     }
 
 -- the others

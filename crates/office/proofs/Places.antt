@@ -1,6 +1,6 @@
 -- Who has a container sits, has no more than fills the hands, and may see what lies in it.
 use Rattle.std.proofs.Common.{◌≡◌, ◌≢◌, ℕ, suc, ◌<◌, ◌≤◌, Bool, true, false, not, cond, List, [], ◌∷◌, length, Option, Some, None, Ok, Err, refl, sym, ap, ◌∙◌, subst, inl, inr, arith}
-use Rattle.std.specs.Prelude.{ℤ, nat_eq, is_some, option_map, filter_map}
+use Rattle.std.specs.Prelude.{nat_lt, nat_le, ℤ, nat_eq, is_some, option_map, filter_map}
 use Rattle.std.specs.List.{list_any, cons_option}
 use Rattle.std.proofs.lemmas.Bool.{eqb-true, ltb-false, leb-false, cases_eq, cases_Bool, false≢true, not-false, or_cases}
 use Rattle.office.specs.Words.{numbered, put, some_and, stands, first}
@@ -16,7 +16,7 @@ use Rattle.office.specs.Rules.{is_kept_from_holder, kept, checks, after, ordered
 use Rattle.office.specs.Intake.{Taken}
 use Rattle.office.specs.Sound.{is_out_for, AreFiled, AreGoodOrders, IsGoodHolder, AreGoodPlaces}
 use Rattle.office.proofs.Words.{same_number, put_here, put_there, put_each, numbered_within}
-use Rattle.office.proofs.Steps.{Passes}
+use Rattle.office.proofs.Steps.{held_so, held_not, passes_gate, Passes}
 use Rattle.office.proofs.Filed.{out_with, fetched_out, reshelved_out}
 use Rattle.office.proofs.Extends.{Extends, extends_after}
 use Rattle.office.proofs.Seats.{sit_keeps, rise_keeps}
@@ -280,7 +280,7 @@ grant_places s t u until g =
     }
 
 pub places_after : (s : State) (asked : Command) → distinct s.boxes ≡ s.boxes → AreFiled s → AreGoodOrders s → AreGoodPlaces s → Passes (checks s asked) → AreGoodPlaces (after s asked)
-places_after s (command.OpenDay day) b f gs g ok = record { holders = λ c o order e n. absurd (none_out s f gs ok.1.0 c o e); known = g.known }
+places_after s (command.OpenDay day) b f gs g ok = record { holders = λ c o order e n. absurd (none_out s f gs (held_not (list_any (is_out s) (containers s)) _ ok.1.0) c o e); known = g.known }
 places_after s (command.Register name until) b f gs g ok = record { holders = λ c o order e n. (let y = g.holders c o order e n in record { seated = y.seated; few = y.few; may_see = y.may_see }); known = g.known }
 places_after s (command.Renew t until) b f gs g ok = record { holders = λ c o order e n. (let y = g.holders c o order e n in record { seated = y.seated; few = y.few; may_see = y.may_see }); known = g.known }
 places_after s (command.TakeSeat t) b f gs g ok = record { holders = λ c o order e n. (let y = g.holders c o order e n in record { seated = sit_keeps order.ticket t s.seats y.seated; few = y.few; may_see = y.may_see }); known = g.known }
@@ -288,7 +288,7 @@ places_after s (command.LeaveSeat t) b f gs g ok =
     record {
       holders = λ c o order e n.
           let y = g.holders c o order e n in
-          let none = ltb-false 0 (held s t) ok.1.1.0 in
+          let none = ltb-false 0 (held s t) (held_not (nat_lt 0 (held s t)) _ ok.1.1.0) in
           let z : held s t ≡ 0 = omega (arith, none) in
           record { seated = rise_keeps order.ticket t s.seats (holds_none s t c o order f gs z e n) y.seated; few = y.few; may_see = y.may_see };
       known = g.known;
@@ -298,13 +298,13 @@ places_after s (command.Cancel o) b f gs g ok = cancel_places s o (container_of 
 places_after s command.Run b f gs g ok = record { holders = moved_holders s (fetched s).place (fetched s).runs (fetched_out s) g; known = λ c h. fetched_known s c (brings (next_run s) c) refl gs g h }
 places_after s command.Reshelve b f gs g ok = record { holders = moved_holders s (reshelved s).place s.runs (reshelved_out s) g; known = λ c h. reshelved_known s c (stands c (idle s)) g h }
 places_after s (command.Issue c t) b f gs g ok =
-    issue_places s c t (s.queue c) (not-false (some_and (is_by s t) (first (s.queue c))) ok.1.1.0) (not-false (is_container s c) ok.0) (not-false (is_seated s t) ok.1.1.1.1.0)
-    (leb-false s.settings.hands (held s t) ok.1.1.1.1.1.0) (not-false (opens s t c) ok.1.1.1.1.1.1.0) g
-places_after s (command.Return c) b f gs g ok = return_places s c (s.place c) (not-false (is_container s c) ok.0) g
+    issue_places s c t (s.queue c) (held_so (some_and (is_by s t) (first (s.queue c))) _ ok.1.1.0) (held_so (is_container s c) _ ok.0) (held_so (is_seated s t) _ ok.1.1.1.1.0)
+    (leb-false s.settings.hands (held s t) (held_not (nat_le s.settings.hands (held s t)) _ ok.1.1.1.1.1.0)) (held_so (opens s t c) _ ok.1.1.1.1.1.1.0) g
+places_after s (command.Return c) b f gs g ok = return_places s c (s.place c) (held_so (is_container s c) _ ok.0) g
 places_after s (command.Permit t u until) b f gs g ok = grant_places s t u until g
-places_after s (command.Revoke t u) b f gs g ok = revoke_places s t u f gs ok.1.1.1.0 g
-places_after s (command.Import source file) b f gs g ok = imported_places s (taken s source file) (extends_after s (command.Import source file) b ok) f gs ok.1.1.1.0 g
-places_after s (command.SetStatus u draft whole) b f gs g ok = changed_places s (after s (command.SetStatus u draft whole)) (extends_after s (command.SetStatus u draft whole) b ok) f gs refl refl refl ok.1.0 g
-places_after s (command.SetClosure u until) b f gs g ok = changed_places s (after s (command.SetClosure u until)) (extends_after s (command.SetClosure u until) b ok) f gs refl refl refl ok.1.0 g
-places_after s (command.Move u parent) b f gs g ok = changed_places s (after s (command.Move u parent)) (extends_after s (command.Move u parent) b ok) f gs refl refl refl ok.1.1.1.1.0 g
-places_after s (command.Remove u) b f gs g ok = changed_places s (after s (command.Remove u)) (extends_after s (command.Remove u) b ok) f gs refl refl refl ok.1.0 g
+places_after s (command.Revoke t u) b f gs g ok = revoke_places s t u f gs (passes_gate (after s (command.Revoke t u)) ok.1.1.1.0) g
+places_after s (command.Import source file) b f gs g ok = imported_places s (taken s source file) (extends_after s (command.Import source file) b ok) f gs (passes_gate (after s (command.Import source file)) ok.1.1.1.0) g
+places_after s (command.SetStatus u draft whole) b f gs g ok = changed_places s (after s (command.SetStatus u draft whole)) (extends_after s (command.SetStatus u draft whole) b ok) f gs refl refl refl (passes_gate (after s (command.SetStatus u draft whole)) ok.1.0) g
+places_after s (command.SetClosure u until) b f gs g ok = changed_places s (after s (command.SetClosure u until)) (extends_after s (command.SetClosure u until) b ok) f gs refl refl refl (passes_gate (after s (command.SetClosure u until)) ok.1.0) g
+places_after s (command.Move u parent) b f gs g ok = changed_places s (after s (command.Move u parent)) (extends_after s (command.Move u parent) b ok) f gs refl refl refl (passes_gate (after s (command.Move u parent)) ok.1.1.1.1.0) g
+places_after s (command.Remove u) b f gs g ok = changed_places s (after s (command.Remove u)) (extends_after s (command.Remove u) b ok) f gs refl refl refl (passes_gate (after s (command.Remove u)) ok.1.0) g

@@ -16,7 +16,7 @@ use Rattle.office.specs.Rules.{most_tickets, most_permits, is_name, renewed, che
 use Rattle.office.specs.Intake.{Taken}
 use Rattle.office.specs.Sound.{AreGoodReaders, ByUnit, AreGoodPermits}
 use Rattle.office.proofs.Words.{put_each, numbered-push, numbered-push_last, other_number}
-use Rattle.office.proofs.Steps.{Passes}
+use Rattle.office.proofs.Steps.{held_so, held_not, Passes}
 use Rattle.office.proofs.Extends.{Extends, extends_after}
 
 -- readers
@@ -207,7 +207,7 @@ imported_readers s (Err fault) = (refl, refl)
 imported_readers s (Ok intake) = (refl, refl)
 
 pub readers_after : (s : State) (asked : Command) → AreGoodReaders s → Passes (checks s asked) → AreGoodReaders (after s asked)
-readers_after s (command.Register name until) g ok = register_readers s name until (not-false (is_name name) ok.0) (leb-false most_tickets (length s.readers) ok.1.0) g
+readers_after s (command.Register name until) g ok = register_readers s name until (held_so (is_name name) _ ok.0) (leb-false most_tickets (length s.readers) (held_not (nat_le most_tickets (length s.readers)) _ ok.1.0)) g
 readers_after s (command.Renew t until) g ok = renew_readers s t until g
 readers_after s (command.OpenDay day) g ok = readers_same s (after s (command.OpenDay day)) refl g
 readers_after s (command.TakeSeat t) g ok = readers_same s (after s (command.TakeSeat t)) refl g
@@ -238,8 +238,8 @@ permits_after s command.Run b g ok = permits_same s (after s command.Run) (exten
 permits_after s command.Reshelve b g ok = permits_same s (after s command.Reshelve) (extends_after s command.Reshelve b ok) refl g
 permits_after s (command.Issue c t) b g ok = let e = issued_same s c (s.queue c) in permits_same s (after s (command.Issue c t)) (extends_after s (command.Issue c t) b ok) e.1 g
 permits_after s (command.Return c) b g ok = let e = returned_same s c (s.place c) in permits_same s (after s (command.Return c)) (extends_after s (command.Return c) b ok) e.1 g
-permits_after s (command.Permit t u until) b g ok = grant_permits s t u until (not-false (is_ticket s t) ok.0) ok.1.1.0 g
-permits_after s (command.Revoke t u) b g ok = revoke_permits s t u (not-false (is_ticket s t) ok.0) g
+permits_after s (command.Permit t u until) b g ok = grant_permits s t u until (held_so (is_ticket s t) _ ok.0) (held_not (not (has_permit s t u) && nat_le most_permits (length (s.permits t))) _ ok.1.1.0) g
+permits_after s (command.Revoke t u) b g ok = revoke_permits s t u (held_so (is_ticket s t) _ ok.0) g
 permits_after s (command.Import source file) b g ok = permits_same s (after s (command.Import source file)) (extends_after s (command.Import source file) b ok) (imported_readers s (taken s source file)).1 g
 permits_after s (command.SetStatus u draft whole) b g ok = permits_same s (after s (command.SetStatus u draft whole)) (extends_after s (command.SetStatus u draft whole) b ok) refl g
 permits_after s (command.SetClosure u until) b g ok = permits_same s (after s (command.SetClosure u until)) (extends_after s (command.SetClosure u until) b ok) refl g

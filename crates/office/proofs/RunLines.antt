@@ -1,6 +1,6 @@
 -- The runs stay good.
 use Rattle.std.proofs.Common.{◌≡◌, ◌≢◌, ℕ, zero, suc, ◌<◌, ◌≤◌, Bool, true, false, cond, ◌&&◌, List, [], ◌∷◌, ◌++◌, length, take, Option, Some, None, Ok, Err, refl, sym, ap, ◌∙◌, subst, inl, inr, arith, length-append, length-take}
-use Rattle.std.specs.Prelude.{nat_eq, option_map, filter, filter_map}
+use Rattle.std.specs.Prelude.{nat_le, nat_eq, option_map, filter, filter_map}
 use Rattle.std.specs.List.{AllByRecursion, cons_option}
 use Rattle.std.proofs.lemmas.Bool.{eqb-true, leb-false, cases_eq, false≢true, and_parts}
 use Rattle.office.specs.Words.{numbered, numbers_to, some_and, first, is_empty}
@@ -14,7 +14,7 @@ use Rattle.atom_csv.specs.Values.{distinct}
 use Rattle.office.specs.Intake.{Taken}
 use Rattle.office.specs.Sound.{IsAscending, IsGoodLine, AreApart, IsGoodRun, AreGoodRuns}
 use Rattle.office.proofs.Words.{same_number, all-push, ascending-push, numbered-push, numbered-push_last}
-use Rattle.office.proofs.Steps.{Passes}
+use Rattle.office.proofs.Steps.{held_not, Passes}
 use Rattle.office.proofs.Filed.{all_taken, picked_due}
 use Rattle.office.proofs.Extends.{Extends, extends_after, same_day, no_later_than}
 
@@ -195,7 +195,7 @@ runs_after s (command.TakeSeat t) b g ok = runs_same s (after s (command.TakeSea
 runs_after s (command.LeaveSeat t) b g ok = runs_same s (after s (command.LeaveSeat t)) (extends_after s (command.LeaveSeat t) b ok) refl g
 runs_after s (command.Order t c) b g ok = runs_same s (after s (command.Order t c)) (extends_after s (command.Order t c) b ok) refl g
 runs_after s (command.Cancel o) b g ok = runs_same s (after s (command.Cancel o)) (extends_after s (command.Cancel o) b ok) (cancelled_runs s o (container_of s o)) g
-runs_after s command.Run b g ok = fetched_runs s (extends_after s command.Run b ok) ok.0 (leb-false most_runs (length s.runs) ok.1.0) g
+runs_after s command.Run b g ok = fetched_runs s (extends_after s command.Run b ok) (held_not (is_empty (picked s)) _ ok.0) (leb-false most_runs (length s.runs) (held_not (nat_le most_runs (length s.runs)) _ ok.1.0)) g
 runs_after s command.Reshelve b g ok = runs_same s (after s command.Reshelve) (extends_after s command.Reshelve b ok) refl g
 runs_after s (command.Issue c t) b g ok = runs_same s (after s (command.Issue c t)) (extends_after s (command.Issue c t) b ok) (issued_runs s c (s.queue c)) g
 runs_after s (command.Return c) b g ok = runs_same s (after s (command.Return c)) (extends_after s (command.Return c) b ok) (returned_runs s c (s.place c)) g

@@ -6,7 +6,7 @@ use Rattle.std.proofs.lemmas.List.{length-map, length-replicate}
 use Rattle.std.proofs.lemmas.Bool.{eqb-true, cases_Bool, false≢true, not-false, or_cases, or_parts}
 use Rattle.desk_core.specs.declared.reader.Place.TheVariants.{Shelf, Desk, Out}
 use Rattle.desk_core.specs.declared.reader.Place.{Place}
-use Rattle.office.specs.State.{State, container_of, is_ticket, is_seat_of, sit, rise}
+use Rattle.office.specs.State.{is_seated, State, container_of, is_ticket, is_seat_of, sit, rise}
 use Rattle.office.specs.declared.command.Command.{Command}
 use Rattle.office.specs.declared.command.Command.TheVariants as command
 use Rattle.office.specs.Rules.{checks, after, cancelled, issued, returned, imported, taken}
@@ -14,7 +14,7 @@ use Rattle.atom_csv.specs.Values.{distinct}
 use Rattle.office.specs.Intake.{Taken}
 use Rattle.office.specs.Sound.{SitOnce, AreGoodSeats}
 use Rattle.office.proofs.Words.{same_number, other_number}
-use Rattle.office.proofs.Steps.{Passes}
+use Rattle.office.proofs.Steps.{held_so, held_not, Passes}
 use Rattle.office.proofs.Extends.{Extends, extends_after}
 
 sits : ℕ → List (Option ℕ) → Bool
@@ -149,8 +149,8 @@ seats_after s (command.Renew t until) b g ok = seats_same s (after s (command.Re
 seats_after s (command.TakeSeat t) b g ok =
     record {
       count = length-sit t s.seats ∙ g.count;
-      known = λ u h. sit_known s t u g (not-false (is_ticket s t) ok.0) h;
-      once = sit_once t s.seats (ok.1.1.0) g.once;
+      known = λ u h. sit_known s t u g (held_so (is_ticket s t) _ ok.0) h;
+      once = sit_once t s.seats (held_not (is_seated s t) _ ok.1.1.0) g.once;
     }
 seats_after s (command.LeaveSeat t) b g ok =
     record {

@@ -16,7 +16,7 @@ use Rattle.office.specs.Sound.{ExactlyOne, IsFiled, IsAscending, AreFiled, AreGo
 use Rattle.office.specs.Laws.{Standing, Waiting, WithItsReader, Ended, stands_as, standing}
 use Rattle.office.specs.Tables.{reader_row, reader_from, order_from, OneRowChanges, HoldingRow, holding_row, holding_rows, place_in, end_of, past_in, ReadsBack, OrderRow, state_number, rows_from, order_row, order_rows, with_state, waiting_for}
 use Rattle.office.proofs.Words.{same_number, other_number, below_none, numbered_within}
-use Rattle.office.proofs.Steps.{step_at}
+use Rattle.office.proofs.Steps.{held_so, step_at}
 use Rattle.office.proofs.Counts.{none_to, numbered_from_one}
 use Rattle.office.proofs.Filed.{only_issues, is_issued, no_order, OnlyMoves, waiting, only_orders}
 use Rattle.office.proofs.OrderLaws.{stands_out, waiting_stands, stands_waiting, goes_same}
@@ -287,7 +287,7 @@ past_is s f (suc j) =
     ap (option_and_then (λ row. end_of row.state)) (rows_get (order_row s) 1 s.orders j ∙ ap (λ k. option_map (order_row s k) (slice_get s.orders j)) e)
     ∙ past_row s (suc j) (numbered s.orders (suc j)) f refl
 
-rows_back : {X Y : Type 0} (row : ℕ → X → Y) (back : Y → X) → ((n : ℕ) (x : X) → back (row n x) ≡ x) → (n : ℕ) (xs : List X) → map back (rows_from row n xs) ≡ xs
+pub rows_back : {X Y : Type 0} (row : ℕ → X → Y) (back : Y → X) → ((n : ℕ) (x : X) → back (row n x) ≡ x) → (n : ℕ) (xs : List X) → map back (rows_from row n xs) ≡ xs
 rows_back row back h n [] = refl
 rows_back row back h n (x ∷ xs) = ap (λ y. y ∷ map back (rows_from row (suc n) xs)) (h n x) ∙ ap (λ l. x ∷ l) (rows_back row back h (suc n) xs)
 
@@ -314,7 +314,7 @@ pub issue_rows : (s : State) (c t o : ℕ) → AreFiled s → (step s (command.I
 issue_rows s c t o f =
     step_at (λ u reply. reply ≡ Ok (done.Issue o) → order_rows u ≡ with_state o 2 (order_rows s)) s (command.Issue c t)
     (λ why r. absurd (cc))
-    (λ ok r. issue_rows_at s c t o (s.queue c) refl (not-false (is_desk (s.place c)) ok.1.0) (not-false (some_and (is_by s t) (first (s.queue c))) ok.1.1.0) f r)
+    (λ ok r. issue_rows_at s c t o (s.queue c) refl (held_so (is_desk (s.place c)) _ ok.1.0) (held_so (some_and (is_by s t) (first (s.queue c))) _ ok.1.1.0) f r)
 
 pub one_row_changes : (s : State) → IsSoundDesk s → OneRowChanges s
 one_row_changes s g = record { issue = λ c t o. issue_rows s c t o g.filed }

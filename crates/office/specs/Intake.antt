@@ -1,5 +1,5 @@
 -- What an import makes of the catalogue, and what is told of it.
-use Rattle.std.specs.Prelude.{ℕ, ◌+◌, Bool, true, false, not, ◌&&◌, ◌||◌, List, [], ◌∷◌, length, find, Option, Some, Result, Ok, Err, is_some, nat_lt, count_by}
+use Rattle.std.specs.Prelude.{None, ℕ, ◌+◌, Bool, true, false, not, ◌&&◌, ◌||◌, List, [], ◌∷◌, length, find, Option, Some, Result, Ok, Err, is_some, nat_lt, count_by}
 use Rattle.std.specs.List.{list_all, flat_map}
 use Rattle.std.specs.Option.{option_eq}
 use Rattle.std.specs.Str.{bytes_eq}
@@ -13,7 +13,7 @@ use Rattle.atom_csv.specs.FileOf.{file_of}
 use Rattle.atom_csv.specs.declared.file.File.{File}
 use Rattle.atom_csv.specs.declared.file.Row.{Row}
 use Rattle.tree_core.specs.Forest.{Forest, nodes, size, path}
-use Rattle.desk_core.specs.Refusals.{Check}
+use Rattle.desk_core.specs.Refusals.{Check, when}
 use Rattle.desk_core.specs.declared.refusal.Refusal.TheVariants.{BadFile, Full}
 use Rattle.catalogue_store.specs.Units.{Unit, is_from}
 use Rattle.catalogue_store.specs.Merging.{Catalogue, merge, is_known}
@@ -65,12 +65,12 @@ unfoldable pub take : Catalogue → Bytes → Bytes → Taken
 take catalogue source file = take_rows catalogue source (file_of file)
 
 abbrev pub bad_file : Taken → Check
-bad_file (Ok intake) = (false, BadFile 0 0)
-bad_file (Err (row, cause)) = (true, BadFile row cause)
+bad_file (Ok intake) = None
+bad_file (Err (row, cause)) = Some (BadFile row cause)
 
 abbrev pub too_much : Taken → Check
-too_much (Ok intake) = (is_full intake.catalogue, Full)
-too_much (Err fault) = (false, Full)
+too_much (Ok intake) = when (is_full intake.catalogue) Full
+too_much (Err fault) = None
 
 -- ---- rows that change nothing
 

@@ -20,3 +20,5 @@ pub mod AnswerRows
 pub mod Secrecy
 pub mod Soundness
 pub mod Tables
+pub mod Reading
+pub mod ReadingRows

@@ -1,10 +1,10 @@
 -- The rules of the office: what each command asks for, in order, what it does, and what is told of it.
-use Rattle.std.specs.Prelude.{ℕ, ℤ, int_lt, zero, suc, ◌+◌, Bool, true, false, not, ◌&&◌, ◌||◌, cond, List, [], ◌∷◌, ◌++◌, length, filter, replicate, Option, Some, None, Result, Ok, Err, unwrap_or, is_some, nat_eq, nat_lt, nat_le, max}
+use Rattle.std.specs.Prelude.{option_map, ℕ, ℤ, int_lt, zero, suc, ◌+◌, Bool, true, false, not, ◌&&◌, ◌||◌, cond, List, [], ◌∷◌, ◌++◌, length, filter, replicate, Option, Some, None, Result, Ok, Err, unwrap_or, is_some, nat_eq, nat_lt, nat_le, max}
 use Rattle.std.specs.List.{list_any, list_all}
 use Rattle.isad_core.specs.Texts.{Bytes, is_blank_text}
 use Rattle.tree_core.specs.Forest.{Forest, Empty, Node, each, path, tree, branch, cut, move_last, has_place}
 use Rattle.desk_core.specs.Checks.{order_checks, issue_checks, take_seat_checks, leave_seat_checks}
-use Rattle.desk_core.specs.Refusals.{Check, first_that_holds}
+use Rattle.desk_core.specs.Refusals.{Check, when, unless, first_that_holds}
 use Rattle.desk_core.specs.declared.reader.Place.{Place}
 use Rattle.desk_core.specs.declared.reader.Place.TheVariants.{Shelf, Desk, Out}
 use Rattle.desk_core.specs.declared.refusal.Refusal.{Refusal}
@@ -54,7 +54,7 @@ kept s = first_that (is_kept_from_holder s) (containers s)
 -- After a change of the catalogue, or a permit that is revoked, nothing that is out may be withheld from
 -- the reader who has it.
 abbrev pub gate : State → Check
-gate s = (is_some (kept s), WithReader (unwrap_or (kept s) 0))
+gate s = option_map WithReader (kept s)
 
 -- ---- changes of the catalogue
 
@@ -196,39 +196,39 @@ most_permits = 100
 
 abbrev pub checks : State → Command → List Check
 checks s (command.OpenDay day) =
-    (not (int_lt s.day day), DayNotLater)
-    ∷ (list_any (is_out s) (containers s), StillIssued)
+    unless (int_lt s.day day) DayNotLater
+    ∷ when (list_any (is_out s) (containers s)) StillIssued
     ∷ []
 checks s (command.Import source file) =
-    (not (is_source source), BadName)
+    unless (is_source source) BadName
     ∷ bad_file (taken s source file)
     ∷ too_much (taken s source file)
     ∷ gate (after s (command.Import source file))
     ∷ []
 checks s (command.SetStatus u draft whole) =
-    (not (has_unit s.forest u), UnknownUnit)
+    unless (has_unit s.forest u) UnknownUnit
     ∷ gate (after s (command.SetStatus u draft whole))
     ∷ []
 checks s (command.SetClosure u until) =
-    (not (has_unit s.forest u), UnknownUnit)
+    unless (has_unit s.forest u) UnknownUnit
     ∷ gate (after s (command.SetClosure u until))
     ∷ []
 checks s (command.Move u parent) =
-    (not (has_unit s.forest u), UnknownUnit)
-    ∷ (not (has_place has_id parent s.forest), UnknownUnit)
-    ∷ (is_into_itself u parent s.forest, IntoItself)
-    ∷ (nat_lt most_deep (depth_after u parent s.forest), TooDeep)
+    unless (has_unit s.forest u) UnknownUnit
+    ∷ unless (has_place has_id parent s.forest) UnknownUnit
+    ∷ when (is_into_itself u parent s.forest) IntoItself
+    ∷ when (nat_lt most_deep (depth_after u parent s.forest)) TooDeep
     ∷ gate (after s (command.Move u parent))
     ∷ []
 checks s (command.Remove u) =
-    (not (has_unit s.forest u), UnknownUnit)
+    unless (has_unit s.forest u) UnknownUnit
     ∷ gate (after s (command.Remove u))
     ∷ []
 checks s (command.Register name until) =
-    (not (is_name name), BadName)
-    ∷ (nat_le most_tickets (length s.readers), Full)
+    unless (is_name name) BadName
+    ∷ when (nat_le most_tickets (length s.readers)) Full
     ∷ []
-checks s (command.Renew t until) = (not (is_ticket s t), UnknownTicket) ∷ []
+checks s (command.Renew t until) = unless (is_ticket s t) UnknownTicket ∷ []
 checks s (command.TakeSeat t) =
     take_seat_checks
     (record {
@@ -251,14 +251,14 @@ checks s (command.Order t c) =
       orders = length s.orders;
     })
 checks s (command.Cancel o) =
-    (not (is_some (container_of s o)), UnknownOrder)
-    ∷ (not (waits s o), OrderNotWaiting)
+    unless (is_some (container_of s o)) UnknownOrder
+    ∷ unless (waits s o) OrderNotWaiting
     ∷ []
 checks s command.Run =
-    (is_empty (picked s), NothingToMove)
-    ∷ (nat_le most_runs (length s.runs), Full)
+    when (is_empty (picked s)) NothingToMove
+    ∷ when (nat_le most_runs (length s.runs)) Full
     ∷ []
-checks s command.Reshelve = (is_empty (idle s), NothingToMove) ∷ []
+checks s command.Reshelve = when (is_empty (idle s)) NothingToMove ∷ []
 checks s (command.Issue c t) =
     issue_checks
     (record {
@@ -272,18 +272,18 @@ checks s (command.Issue c t) =
       available = opens s t c;
     })
 checks s (command.Return c) =
-    (not (is_container s c), UnknownContainer)
-    ∷ (not (is_out s c), NotIssued)
+    unless (is_container s c) UnknownContainer
+    ∷ unless (is_out s c) NotIssued
     ∷ []
 checks s (command.Permit t u until) =
-    (not (is_ticket s t), UnknownTicket)
-    ∷ (not (has_unit s.forest u), UnknownUnit)
-    ∷ (not (has_permit s t u) && nat_le most_permits (length (s.permits t)), Full)
+    unless (is_ticket s t) UnknownTicket
+    ∷ unless (has_unit s.forest u) UnknownUnit
+    ∷ when (not (has_permit s t u) && nat_le most_permits (length (s.permits t))) Full
     ∷ []
 checks s (command.Revoke t u) =
-    (not (is_ticket s t), UnknownTicket)
-    ∷ (not (has_unit s.forest u), UnknownUnit)
-    ∷ (not (has_permit s t u), NoPermit)
+    unless (is_ticket s t) UnknownTicket
+    ∷ unless (has_unit s.forest u) UnknownUnit
+    ∷ unless (has_permit s t u) NoPermit
     ∷ gate (after s (command.Revoke t u))
     ∷ []
 

@@ -7,7 +7,7 @@ use Rattle.desk_core.specs.declared.reader.Place.TheVariants.{Shelf, Desk, Out}
 use Rattle.office.specs.declared.command.Command.TheVariants as command
 use Rattle.office.specs.declared.done.Done.TheVariants as done
 use Rattle.office.specs.Words.{numbered, numbers_to}
-use Rattle.office.specs.State.{State, Reader, Order, Line, Run, End, Done, Cancelled, containers}
+use Rattle.office.specs.State.{Permit, State, Reader, Order, Line, Run, End, Done, Cancelled, containers}
 use Rattle.office.specs.Rules.{step}
 use Rattle.office.specs.Laws.{Standing, Waiting, WithItsReader, Ended, standing}
 
@@ -112,12 +112,12 @@ run_rows s = rows_from run_row 1 s.runs
 abbrev pub run_line_row : ℕ → Line → RunLineRow
 run_line_row n line = record { run = n; container = line.container; order_no = line.order; ticket = line.ticket }
 
+abbrev pub lines_from : ℕ → List Run → List RunLineRow
+lines_from n [] = []
+lines_from n (run ∷ runs) = map (run_line_row n) run.lines ++ lines_from (suc n) runs
+
 abbrev pub run_line_rows : State → List RunLineRow
 run_line_rows s = lines_from 1 s.runs
-  where
-    lines_from : ℕ → List Run → List RunLineRow
-    lines_from n [] = []
-    lines_from n (run ∷ runs) = map (run_line_row n) run.lines ++ lines_from (suc n) runs
 
 -- ---- permit
 
@@ -126,11 +126,11 @@ pub record PermitRow : Type 0 where
   pub unit : ℕ
   pub until : ℤ
 
+abbrev pub permit_row : ℕ → Permit → PermitRow
+permit_row t permit = record { ticket = t; unit = permit.unit; until = permit.until }
+
 abbrev pub permit_rows : State → List PermitRow
-permit_rows s =
-    flat_map
-    (λ t. map (λ permit. record { ticket = t; unit = permit.unit; until = permit.until }) (s.permits t))
-    (numbers_to (length s.readers))
+permit_rows s = flat_map (λ t. map (permit_row t) (s.permits t)) (numbers_to (length s.readers))
 
 -- ---- what is read back
 

@@ -7,7 +7,8 @@ ghost use Rattle.office.specs.declared.command.Command.{Command};
 ghost use Rattle.office.specs.State.{State, Settings, start};
 ghost use Rattle.office.specs.Rules.{step, state_after};
 ghost use Rattle.office.specs.Sound.{IsSoundDesk, IsAscending};
-ghost use Rattle.office.specs.Tables.{ReadsBack, OneRowChanges};
+ghost use Rattle.office.specs.Tables.{OneRowChanges};
+ghost use Rattle.office.specs.Reading.{Version, SaysAllButUnits};
 ghost use Rattle.office.specs.Soundness.{AreGoodDays, NamesDays};
 ghost use Rattle.office.specs.Secrecy.{SamePublic, AnswersAlike, ShowsOnlyPublished};
 ghost use Rattle.office.specs.Laws.{OutApart, GoesOn, IssuesTheFirst, OpenToHolders, ImportsAgain, Kind, all_given, ComesNew};
@@ -65,10 +66,9 @@ pub fn units_come_new()
     ensures { (s : State) (asked : Command) → ComesNew s (step s asked).0 }
 {}
 
-/// The rows of a sound desk say who the readers are, what was ordered, where each container is, who waits
-/// for it and how each order ended.
+/// The rows of a state with a sound desk say all of it but the units, in either version.
 pub fn rows_read_back()
-    ensures { (s : State) → IsSoundDesk s → ReadsBack s }
+    ensures { (version : Version) (s : State) → IsSoundDesk s → SaysAllButUnits version s }
 {}
 
 /// An accepted Issue changes the state of one row of orders, to out, and no other row.

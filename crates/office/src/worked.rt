@@ -1,5 +1,6 @@
 //! The rules at work in small offices, worked by hand.
 
+ghost use Rattle.office.specs.ReadingRows as tables;
 ghost use Rattle.office.specs.Rows as row;
 ghost use Rattle.office.specs.AnswerRows as answers;
 
@@ -42,4 +43,9 @@ pub fn worked_answers()
     ensures statuses { answers.Statuses }
     ensures at_the_desk { answers.AtTheDesk }
     ensures replies { answers.Replies }
+{}
+
+/// The rows of small offices say the states that they show, in both versions.
+pub fn worked_tables()
+    ensures { tables.ReadAgain }
 {}

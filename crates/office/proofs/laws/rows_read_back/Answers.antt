@@ -1,5 +1,5 @@
-use Rattle.office.proofs.TableLaws.{reads_back}
+use Rattle.office.proofs.ReadBack.{says_all_but_units}
 use Rattle.office.proofs.laws.rows_read_back.Goals as goal
 
 pub returns : goal.returns
-returns c = reads_back
+returns c = says_all_but_units
