@@ -1,0 +1,3 @@
+pub mod Needs
+pub mod Rows
+pub mod StreamLemmas

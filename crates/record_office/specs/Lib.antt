@@ -1,0 +1,3 @@
+pub mod CommandLine
+pub mod Streams
+pub mod Tasks
