@@ -1,0 +1,7 @@
+pub mod Aids
+pub mod Numbers
+pub mod Places
+pub mod Planting
+pub mod Preview
+pub mod Printing
+pub mod Slots
