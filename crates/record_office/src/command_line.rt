@@ -21,7 +21,7 @@ fn file<'a>(alloc: Global) -> Arg<'a>
     ensures rule { rule_of result ≡ optional_file }
     ensures local { result.global ≡ false }
 {
-    Arg::new(alloc, "FILE").help("The CSV file; standard input where it is left out")
+    Arg::new(alloc, "FILE").help("The CSV file; standard input if it is left out")
 }
 
 fn preview<'a>(alloc: Global) -> Result<Command<'a>, AllocError>
@@ -30,8 +30,8 @@ fn preview<'a>(alloc: Global) -> Result<Command<'a>, AllocError>
 {
     Command::new(alloc, "preview")
         .about("Prints the finding aids of a CSV file's published descriptions")
-        .arg(option(alloc, "country", "The country code"))?
-        .arg(option(alloc, "repo", "The repository code"))?
+        .arg(option(alloc, "country", "The country code, such as GB"))?
+        .arg(option(alloc, "repo", "The repository code, such as 0999"))?
         .arg(file(alloc))
 }
 

@@ -15,6 +15,11 @@ use clap::error::ErrorKind;
 use clap::{ArgMatches, Error};
 use isad_core::Text;
 use std::alloc::{AllocError, Global};
+use std::rt::Env;
+use std::{env, io};
+
+// What `clap` tells of words that are no text.
+const NO_TEXT: &str = "error: invalid UTF-8 was detected in one or more arguments\n";
 
 // The value of an option that is there.
 fn text(alloc: Global, found: &ArgMatches, name: &str) -> Result<Text, AllocError>
@@ -76,6 +81,16 @@ pub fn task(alloc: Global, words: &[String]) -> Result<Task, TaskFault>
     match matches.subcommand() {
         Some((name, found)) => Ok(named(alloc, name, found)?),
         None => unreachable!(),
+    }
+}
+
+/// The words after the program's name. Words that are no text are refused like any others that the command does
+/// not take.
+pub fn given<R: Env + AllocGlobal>(rt: &R, alloc: Global) -> Result<Vec<String>, TaskFault> {
+    match env::args(rt) {
+        Ok(words) => Ok(words.skip(1).collect(alloc)?),
+        Err(error) if error.kind() == io::ErrorKind::OutOfMemory => Err(TaskFault::Memory),
+        Err(_) => Err(TaskFault::Words(Text::new(alloc, NO_TEXT)?)),
     }
 }
 

@@ -1,13 +1,13 @@
 use Rattle.std.proofs.Common.{◌∙◌, ◌++◌, List, ℕ, ap, sym, take}
 use Rattle.std.proofs.KnownBytes.{Appends-kept, Appends-trans}
 use Rattle.record_office.proofs.StreamLemmas.{moves_front}
-use Rattle.record_office.proofs.streams.write_bytes.Goals as goal
-use Rattle.record_office.proofs.streams.write_bytes.Goals.{in-Ok, in-Err+else-ne}
+use Rattle.record_office.proofs.streams.write_within.Goals as goal
+use Rattle.record_office.proofs.streams.write_within.Goals.{in-Ok, in-Err+else-ne}
 
-pub loop-turn-preserved : goal.loop-turn-preserved
-loop-turn-preserved g c =
-    let (done, split, appended) = c.loop-turn.invariant in
-    let rest = c.loop-turn.rest.now in
+pub loop-write-preserved : goal.loop-write-preserved
+loop-write-preserved g c =
+    let (done, split, appended) = c.loop-write.invariant in
+    let rest = c.loop-write.rest.now in
     elim c.match-write.branch [
       | in-Ok w ↦ (
         done ++ take w.in-Ok.n rest,
