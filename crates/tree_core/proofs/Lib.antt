@@ -21,3 +21,4 @@ pub mod Adjacent
 pub mod Climbing
 pub mod Orders
 pub mod Sharing
+pub mod MarkRows
