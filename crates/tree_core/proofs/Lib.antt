@@ -4,6 +4,7 @@ pub mod Adding
 pub mod Lookups
 pub mod NumberingWalk
 pub mod SpanShifts
+pub mod EachLemmas
 pub mod OneForest
 pub mod Cutting
 pub mod Members
@@ -21,3 +22,4 @@ pub mod Adjacent
 pub mod Climbing
 pub mod Orders
 pub mod Sharing
+pub mod MarkRows

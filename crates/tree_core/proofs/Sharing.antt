@@ -12,7 +12,7 @@ use Rattle.tree_core.specs.Marks.{is_closed, withholds, contents_paths}
 use Rattle.tree_core.proofs.Lists.{In, In-append, In-append_left, In-append_right, In-map, any_from_In}
 use Rattle.tree_core.proofs.LinkPaths.{parts, other_id}
 use Rattle.tree_core.proofs.Adding.{Here, Below, Beside, place}
-use Rattle.tree_core.proofs.OneForest.{has-each, nodes-each}
+use Rattle.tree_core.proofs.EachLemmas.{has-each, nodes-each}
 use Rattle.tree_core.proofs.MarkWalks.{is_draft, has_permit, is_seen, is_boxed, list_all-append}
 
 -- ---- by paths
