@@ -60,7 +60,7 @@ seats_back n (Some t ∷ seats) =
 abbrev of_run : ℕ → RunLineRow → Bool
 of_run n row = nat_eq row.run n
 
-filter_parts : {X : Type 0} (p : X → Bool) (xs ys : List X) → filter p (xs ++ ys) ≡ filter p xs ++ filter p ys
+pub filter_parts : {X : Type 0} (p : X → Bool) (xs ys : List X) → filter p (xs ++ ys) ≡ filter p xs ++ filter p ys
 filter_parts p [] ys = refl
 filter_parts p (x ∷ xs) ys = at (p x) (filter_parts p xs ys)
   where
@@ -82,7 +82,7 @@ all_of_run : (n m : ℕ) (ls : List Line) → nat_eq n m ≡ false → AllByRecu
 all_of_run n m [] h = tt
 all_of_run n m (l ∷ ls) h = (h, all_of_run n m ls h)
 
-all_beside : {X : Type 0} (P : X → Type 0) (xs ys : List X) → AllByRecursion P xs → AllByRecursion P ys → AllByRecursion P (xs ++ ys)
+pub all_beside : {X : Type 0} (P : X → Type 0) (xs ys : List X) → AllByRecursion P xs → AllByRecursion P ys → AllByRecursion P (xs ++ ys)
 all_beside P [] ys h k = k
 all_beside P (x ∷ xs) ys h k = (h.0, all_beside P xs ys h.1 k)
 

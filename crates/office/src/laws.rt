@@ -8,7 +8,9 @@ ghost use Rattle.office.specs.State.{State, Settings, start};
 ghost use Rattle.office.specs.Rules.{step, state_after};
 ghost use Rattle.office.specs.Sound.{IsSoundDesk, IsAscending};
 ghost use Rattle.office.specs.Tables.{OneRowChanges};
-ghost use Rattle.office.specs.Reading.{Version, SaysAllButUnits};
+ghost use Rattle.tree_core.specs.Forest.{Forest};
+ghost use Rattle.tree_core.specs.Spans.{number};
+ghost use Rattle.office.specs.Reading.{SaysAllButUnits, SpanRows, Version, places_said};
 ghost use Rattle.office.specs.Soundness.{AreGoodDays, NamesDays};
 ghost use Rattle.office.specs.Secrecy.{SamePublic, AnswersAlike, ShowsOnlyPublished};
 ghost use Rattle.office.specs.Laws.{OutApart, GoesOn, IssuesTheFirst, OpenToHolders, ImportsAgain, Kind, all_given, ComesNew};
@@ -84,4 +86,9 @@ pub fn days_stay_days()
 /// No command changes the settings.
 pub fn settings_stay()
     ensures { (s : State) (asked : Command) → IsSoundDesk s → (step s asked).0.settings ≡ s.settings }
+{}
+
+/// A forest of unit numbers is what its span rows say.
+pub fn spans_say_the_forest()
+    ensures { (f : Forest ℕ) → places_said (SpanRows (number 1 f)) ≡ f }
 {}
