@@ -146,16 +146,17 @@ tables version s =
 
 -- ---- the state that rows say
 
+-- the tree of a row, with what is below it and beside it, or nothing where there is no row
+abbrev pub grow : Option Link → (ℕ → Forest ℕ) → Forest ℕ → Forest ℕ
+grow None below beside = Empty
+grow (Some row) below beside = Node row.id (below row.id) beside
+
 -- the forest of link rows: below a parent the row at each place from k on, with those below it, until there is none. `fuel`
--- is at least the number of rows.
+-- is more than the number of rows.
 abbrev pub linked : ℕ → List Link → Option ℕ → ℕ → Forest ℕ
 linked zero links parent k = Empty
 linked (suc fuel) links parent k =
     grow (find (is_at parent k) links) (λ u. linked fuel links (Some u) 1) (linked fuel links parent (k + 1))
-  where
-    grow : Option Link → (ℕ → Forest ℕ) → Forest ℕ → Forest ℕ
-    grow None below beside = Empty
-    grow (Some row) below beside = Node row.id (below row.id) beside
 
 -- the forest of span rows in ascending lft: what lies inside the first row is below it, and the rest beside it
 abbrev pub nested : ℕ → List Span → Forest ℕ

@@ -10,7 +10,9 @@ ghost use Rattle.office.specs.Sound.{IsSoundDesk, IsAscending};
 ghost use Rattle.office.specs.Tables.{OneRowChanges};
 ghost use Rattle.tree_core.specs.Forest.{Forest};
 ghost use Rattle.tree_core.specs.Spans.{number};
-ghost use Rattle.office.specs.Reading.{SaysAllButUnits, SpanRows, Version, places_said};
+ghost use Rattle.tree_core.specs.Links.{HoldsLinks};
+ghost use Rattle.tree_core.specs.declared.rows.Link.{Link};
+ghost use Rattle.office.specs.Reading.{LinkRows, SaysAllButUnits, SpanRows, Version, places_said};
 ghost use Rattle.office.specs.Soundness.{AreGoodDays, NamesDays};
 ghost use Rattle.office.specs.Secrecy.{SamePublic, AnswersAlike, ShowsOnlyPublished};
 ghost use Rattle.office.specs.Laws.{OutApart, GoesOn, IssuesTheFirst, OpenToHolders, ImportsAgain, Kind, all_given, ComesNew};
@@ -91,4 +93,9 @@ pub fn settings_stay()
 /// A forest of unit numbers is what its span rows say.
 pub fn spans_say_the_forest()
     ensures { (f : Forest ℕ) → places_said (SpanRows (number 1 f)) ≡ f }
+{}
+
+/// A forest of unit numbers without a repeated one is what its link rows say, in whatever order they stand.
+pub fn links_say_the_forest()
+    ensures { (f : Forest ℕ) (links : List Link) → HoldsLinks f links → places_said (LinkRows links) ≡ f }
 {}
