@@ -12,8 +12,8 @@ ghost use Rattle.tree_core.specs.Forest.{Forest};
 ghost use Rattle.tree_core.specs.Spans.{number};
 ghost use Rattle.tree_core.specs.Links.{HoldsLinks};
 ghost use Rattle.tree_core.specs.declared.rows.Link.{Link};
-ghost use Rattle.office.specs.Reading.{LinkRows, SaysAllButUnits, SpanRows, Version, places_said};
-ghost use Rattle.office.specs.Soundness.{AreGoodDays, NamesDays};
+ghost use Rattle.office.specs.Reading.{LinkRows, SaysAllButUnits, SpanRows, Version, places_said, state_of, tables};
+ghost use Rattle.office.specs.Soundness.{AreGoodDays, IsSound, NamesDays};
 ghost use Rattle.office.specs.Secrecy.{SamePublic, AnswersAlike, ShowsOnlyPublished};
 ghost use Rattle.office.specs.Laws.{OutApart, GoesOn, IssuesTheFirst, OpenToHolders, ImportsAgain, Kind, all_given, ComesNew};
 
@@ -98,4 +98,9 @@ pub fn spans_say_the_forest()
 /// A forest of unit numbers without a repeated one is what its link rows say, in whatever order they stand.
 pub fn links_say_the_forest()
     ensures { (f : Forest ℕ) (links : List Link) → HoldsLinks f links → places_said (LinkRows links) ≡ f }
+{}
+
+/// The rows of a sound state say that state, in either version.
+pub fn tables_say_the_state()
+    ensures { (version : Version) (s : State) → IsSound s → state_of (tables version s) ≡ s }
 {}
