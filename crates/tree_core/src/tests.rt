@@ -271,3 +271,33 @@ fn checks_links(rt: HostRuntime) -> Result<(), Fail> {
     assert_eq!(rt; check_links(alloc, &not_from_one), Err(LinkFault::Ord));
     Ok(())
 }
+
+/// Each change either happens or, where memory is refused, leaves the rows.
+#[test]
+fn changes_or_stays(rt: HostRuntime) -> Result<(), Fail> {
+    let mut links = worked_links(rt.alloc())?;
+    if links::move_last(&mut links, 2, Some(4)).is_err() {
+        assert_eq!(rt; links.as_slice(), worked_links(rt.alloc())?.as_slice());
+    }
+    let mut links = worked_links(rt.alloc())?;
+    if links::cut(&mut links, 1).is_err() {
+        assert_eq!(rt; links.as_slice(), worked_links(rt.alloc())?.as_slice());
+    }
+    let mut links = worked_links(rt.alloc())?;
+    if links::add_last(&mut links, Some(2), 5).is_err() {
+        assert_eq!(rt; links.as_slice(), worked_links(rt.alloc())?.as_slice());
+    }
+    let mut spans = worked_spans(rt.alloc())?;
+    if spans::move_last(&mut spans, 2, Some(4)).is_err() {
+        assert_eq!(rt; spans.as_slice(), worked_spans(rt.alloc())?.as_slice());
+    }
+    let mut spans = worked_spans(rt.alloc())?;
+    if spans::cut(&mut spans, 1).is_err() {
+        assert_eq!(rt; spans.as_slice(), worked_spans(rt.alloc())?.as_slice());
+    }
+    let mut spans = worked_spans(rt.alloc())?;
+    if spans::add_last(&mut spans, Some(2), 5).is_err() {
+        assert_eq!(rt; spans.as_slice(), worked_spans(rt.alloc())?.as_slice());
+    }
+    Ok(())
+}
