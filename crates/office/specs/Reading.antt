@@ -12,7 +12,8 @@ use Rattle.tree_core.specs.declared.rows.Link.{Link}
 use Rattle.tree_core.specs.declared.rows.Span.{Span}
 use Rattle.catalogue_store.specs.Units.{Unit}
 use Rattle.catalogue_store.specs.Merging.{box_number}
-use Rattle.office.specs.Words.{numbered, numbers_to}
+use Rattle.office.specs.Words.{numbered}
+use Rattle.office.specs.Laws.{numbers_from}
 use Rattle.office.specs.State.{Settings, Line, Run, Permit, State}
 use Rattle.office.specs.Tables.{rows_from, ReaderRow, reader_rows, reader_from, SeatRow, seat_rows, OrderRow, order_rows, order_from, waiting_for, past_in, HoldingRow, holding_rows, place_in, RunRow, run_rows, RunLineRow, run_line_rows, PermitRow, permit_rows}
 
@@ -146,16 +147,17 @@ tables version s =
 
 -- ---- the state that rows say
 
+-- the tree of a row, with what is below it and beside it, or nothing where there is no row
+abbrev pub grow : Option Link → (ℕ → Forest ℕ) → Forest ℕ → Forest ℕ
+grow None below beside = Empty
+grow (Some row) below beside = Node row.id (below row.id) beside
+
 -- the forest of link rows: below a parent the row at each place from k on, with those below it, until there is none. `fuel`
--- is at least the number of rows.
+-- is more than the number of rows.
 abbrev pub linked : ℕ → List Link → Option ℕ → ℕ → Forest ℕ
 linked zero links parent k = Empty
 linked (suc fuel) links parent k =
     grow (find (is_at parent k) links) (λ u. linked fuel links (Some u) 1) (linked fuel links parent (k + 1))
-  where
-    grow : Option Link → (ℕ → Forest ℕ) → Forest ℕ → Forest ℕ
-    grow None below beside = Empty
-    grow (Some row) below beside = Node row.id (below row.id) beside
 
 -- the forest of span rows in ascending lft: what lies inside the first row is below it, and the rest beside it
 abbrev pub nested : ℕ → List Span → Forest ℕ
@@ -179,25 +181,29 @@ text_said elements u k =
     option_map (λ (row : ElementRow). row.value)
     (find (λ (row : ElementRow). nat_eq row.unit u && nat_eq row.k (after_level k)) elements)
 
+-- the rows of a unit
+abbrev pub housings_of : ℕ → List HousingRow → List HousingRow
+housings_of u housings = filter (λ (row : HousingRow). nat_eq row.unit u) housings
+
+-- the container of a row
+abbrev pub box_at : List BoxKey → Option HousingRow → Option BoxKey
+box_at boxes None = None
+box_at boxes (Some row) = numbered boxes row.container
+
+-- the containers at the places from n on, so many in all
+abbrev pub boxes_from : List BoxKey → List HousingRow → ℕ → ℕ → List BoxKey
+boxes_from boxes mine n more =
+    filter_map (λ m. box_at boxes (find (λ (row : HousingRow). nat_eq row.ord m) mine)) (numbers_from n more)
+
 -- the containers of a unit in its order
 abbrev pub boxes_said : List BoxKey → List HousingRow → ℕ → List BoxKey
-boxes_said boxes housings u = filter_map (λ n. box_at (find (is_place n) mine)) (numbers_to (length mine))
-  where
-    mine : List HousingRow
-    mine = filter (λ (row : HousingRow). nat_eq row.unit u) housings
-
-    is_place : ℕ → HousingRow → Bool
-    is_place n row = nat_eq row.ord n
-
-    box_at : Option HousingRow → Option BoxKey
-    box_at None = None
-    box_at (Some row) = numbered boxes row.container
+boxes_said boxes housings u = boxes_from boxes (housings_of u housings) 1 (length (housings_of u housings))
 
 abbrev pub values_said : Rows → ℕ → Bytes → Values
 values_said t u level =
     record {
       level = level;
-      texts = map (text_said t.elements u) (numbers_to 25);
+      texts = map (text_said t.elements u) (numbers_from 1 25);
       boxes = boxes_said (map box_from t.containers) t.housings u;
     }
 
@@ -275,3 +281,7 @@ pub record SaysAllButUnits (version : Version) (s : State) : Type 0 where
   pub queues : (state_of (tables version s)).queue ≡ s.queue
   pub past : (state_of (tables version s)).past ≡ s.past
   pub permits : (state_of (tables version s)).permits ≡ s.permits
+
+-- the rows say the units too, and so all of the state
+abbrev pub SaysUnits : Version → State → Type 0
+SaysUnits version s = (state_of (tables version s)).forest ≡ s.forest

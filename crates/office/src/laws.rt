@@ -8,10 +8,13 @@ ghost use Rattle.office.specs.State.{State, Settings, start};
 ghost use Rattle.office.specs.Rules.{step, state_after};
 ghost use Rattle.office.specs.Sound.{IsSoundDesk, IsAscending};
 ghost use Rattle.office.specs.Tables.{OneRowChanges};
+ghost use Rattle.isad_core.specs.Days.{IsDayNumber};
 ghost use Rattle.tree_core.specs.Forest.{Forest};
 ghost use Rattle.tree_core.specs.Spans.{number};
-ghost use Rattle.office.specs.Reading.{SaysAllButUnits, SpanRows, Version, places_said};
-ghost use Rattle.office.specs.Soundness.{AreGoodDays, NamesDays};
+ghost use Rattle.tree_core.specs.Links.{HoldsLinks};
+ghost use Rattle.tree_core.specs.declared.rows.Link.{Link};
+ghost use Rattle.office.specs.Reading.{LinkRows, SaysAllButUnits, SpanRows, Version, places_said, state_of, tables};
+ghost use Rattle.office.specs.Soundness.{AreGoodDays, AreGoodSettings, IsSound, NamesDays};
 ghost use Rattle.office.specs.Secrecy.{SamePublic, AnswersAlike, ShowsOnlyPublished};
 ghost use Rattle.office.specs.Laws.{OutApart, GoesOn, IssuesTheFirst, OpenToHolders, ImportsAgain, Kind, all_given, ComesNew};
 
@@ -91,4 +94,19 @@ pub fn settings_stay()
 /// A forest of unit numbers is what its span rows say.
 pub fn spans_say_the_forest()
     ensures { (f : Forest ℕ) → places_said (SpanRows (number 1 f)) ≡ f }
+{}
+
+/// A forest of unit numbers without a repeated one is what its link rows say, in whatever order they stand.
+pub fn links_say_the_forest()
+    ensures { (f : Forest ℕ) (links : List Link) → HoldsLinks f links → places_said (LinkRows links) ≡ f }
+{}
+
+/// The rows of a sound state say that state, in either version.
+pub fn tables_say_the_state()
+    ensures { (version : Version) (s : State) → IsSound s → state_of (tables version s) ≡ s }
+{}
+
+/// A new office is sound, whole, where its settings and its day are good.
+pub fn starts_sound()
+    ensures { (settings : Settings) (day : ℤ) → AreGoodSettings settings → IsDayNumber day → IsSound (start settings day) }
 {}
