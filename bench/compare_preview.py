@@ -37,7 +37,7 @@ def field(text, wild=0):
 
 def header():
     names = ["legacyId", "parentId", "publicationStatus", "identifier", "title"]
-    names += random.sample(READ[4:], random.randrange(0, 8)) + random.sample(UNREAD, random.randrange(0, 2))
+    names += random.sample(READ[2:3] + READ[4:], random.randrange(0, 8)) + random.sample(UNREAD, random.randrange(0, 2))
     names = list(dict.fromkeys(names)) if random.random() < 0.97 else names
     random.shuffle(names)
     if random.random() < 0.01:
@@ -77,6 +77,8 @@ class Made:
             return "dock" if wild or random.random() < 0.02 else ""
         if name.startswith("physicalObject"):
             return "|".join(random.choice(["Box 1", "Box 2", "Box 3", "", "NULL", " Box 1 "]) for _ in range(random.randrange(0, 4)))
+        if wild and random.random() < 0.1:
+            return "a" * random.choice([65535, 65536])
         return random.choice(TEXTS)
 
 
