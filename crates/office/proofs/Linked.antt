@@ -1,10 +1,9 @@
 -- A forest is what its link rows say.
-use Rattle.std.proofs.Common.{◌≡◌, ℕ, zero, suc, ◌+◌, ◌<◌, ◌≤◌, List, [], ◌∷◌, length, Option, Some, None, refl, sym, ap, ◌∙◌, subst, arith, length-append}
-use Rattle.std.specs.Prelude.{find}
+use Rattle.std.proofs.Common.{◌≡◌, ℕ, zero, suc, ◌+◌, ◌<◌, List, length, Option, Some, None, refl, ap, ◌∙◌, arith, length-append}
 use Rattle.std.proofs.lemmas.List.Sorted.{length_permutation}
 use Rattle.tree_core.specs.Forest.{Forest, Empty, Node, size}
 use Rattle.tree_core.specs.Links.{siblings, rows_below, HoldsLinks}
-use Rattle.tree_core.specs.Steps.{is_at, Fits}
+use Rattle.tree_core.specs.Steps.{Fits}
 use Rattle.tree_core.specs.declared.rows.Link.{Link}
 use Rattle.tree_core.proofs.Lookups.{fits_all}
 use Rattle.office.specs.Reading.{grow, linked, places_said, LinkRows}
