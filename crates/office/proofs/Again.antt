@@ -18,8 +18,7 @@ use Rattle.atom_csv.specs.declared.file.File.{File}
 use Rattle.atom_csv.specs.declared.file.Row.{Row}
 use Rattle.tree_core.specs.Forest.{Forest, Empty, Node, nodes, each, has, join}
 use Rattle.desk_core.specs.Refusals.{Check, when, unless, first_that_holds}
-use Rattle.desk_core.specs.declared.refusal.Refusal.{Refusal}
-use Rattle.desk_core.specs.declared.refusal.Refusal.TheVariants.{BadName, BadFile, Full, WithReader}
+use Rattle.desk_core.specs.declared.refusal.Refusal.TheVariants.{BadName, Full}
 use Rattle.catalogue_store.specs.Units.{Unit, is_from}
 use Rattle.catalogue_store.specs.Merging.{Catalogue, New, branches, numbered_from, new_unit, new_units, revised, grown, merged_forest, merged_boxes, merged, merge, or_first, faults_below, has_legacy, is_known}
 use Rattle.office.specs.declared.command.Command.TheVariants as command
@@ -29,7 +28,7 @@ use Rattle.office.specs.declared.done.Remark.{Remark}
 use Rattle.office.specs.Words.{some_and}
 use Rattle.office.specs.State.{State}
 use Rattle.office.specs.Intake.{Intake, Taken, take, take_rows, with_file, bad_file, too_much, is_full, same_values, unit_of, is_same, is_new, is_changed, remarks, told_of}
-use Rattle.office.specs.Rules.{Reply, catalogue, taken, imported, is_source, kept, gate, decided, step}
+use Rattle.office.specs.Rules.{Reply, catalogue, taken, imported, is_source, gate, decided, step}
 use Rattle.office.specs.Laws.{ImportsAgain}
 use Rattle.office.proofs.Steps.{step_at}
 use Rattle.office.proofs.FileRows.{AreApartRows, apart_rows}

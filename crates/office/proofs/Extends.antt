@@ -4,7 +4,7 @@ use Rattle.std.specs.Prelude.{ℤ, int_lt, ◌≤ℤ◌, is_some}
 use Rattle.std.proofs.lemmas.Int.{ints}
 use Rattle.isad_core.specs.Texts.{Bytes}
 use Rattle.atom_csv.specs.Values.{distinct}
-use Rattle.std.proofs.lemmas.Bool.{false≢true, not-false}
+use Rattle.std.proofs.lemmas.Bool.{false≢true}
 use Rattle.office.specs.Words.{numbered}
 use Rattle.desk_core.specs.declared.reader.Place.TheVariants.{Shelf, Desk, Out}
 use Rattle.desk_core.specs.declared.reader.Place.{Place}

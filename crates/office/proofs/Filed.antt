@@ -3,7 +3,7 @@ use Rattle.std.proofs.Common.{◌≡◌, ◌≢◌, ℕ, zero, suc, ◌<◌, ◌
 use Rattle.std.proofs.Math.Path.{fun_ext}
 use Rattle.std.specs.Prelude.{nat_eq, is_some, option_map, filter, filter_map, take}
 use Rattle.std.specs.List.{list_any, AllByRecursion, cons_option}
-use Rattle.std.proofs.lemmas.Bool.{eqb-true, cases_eq, false≢true, not-false, and_parts, or_cases}
+use Rattle.std.proofs.lemmas.Bool.{eqb-true, cases_eq, false≢true, and_parts, or_cases}
 use Rattle.office.specs.Words.{numbered, numbers_to, some_and, stands, without, first, is_empty}
 use Rattle.desk_core.specs.declared.reader.Place.TheVariants.{Shelf, Desk, Out}
 use Rattle.desk_core.specs.declared.reader.Place.{Place}

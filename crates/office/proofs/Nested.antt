@@ -25,8 +25,8 @@ numbers_within k Empty = tt
 numbers_within k (Node u c o) = (
   (omega arith, omega arith),
   all_beside (Within k (k + 2 * (1 + (size c + size o)))) (number (k + 1) c) (number (k + 2 * size c + 2) o)
-  (all_within (k + 1) (k + 1 + 2 * size c) k (k + 2 * (1 + (size c + size o))) (omega arith) (omega arith) (number (k + 1) c) (numbers_within (k + 1) c))
-  (all_within (k + 2 * size c + 2) (k + 2 * size c + 2 + 2 * size o) k (k + 2 * (1 + (size c + size o))) (omega arith) (omega arith) (number (k + 2 * size c + 2) o) (numbers_within (k + 2 * size c + 2) o)),
+      (all_within (k + 1) (k + 1 + 2 * size c) k (k + 2 * (1 + (size c + size o))) (omega arith) (omega arith) (number (k + 1) c) (numbers_within (k + 1) c))
+      (all_within (k + 2 * size c + 2) (k + 2 * size c + 2 + 2 * size o) k (k + 2 * (1 + (size c + size o))) (omega arith) (omega arith) (number (k + 2 * size c + 2) o) (numbers_within (k + 2 * size c + 2) o)),
 )
 
 keeps : (p : Span → Bool) (rows : List Span) → AllByRecursion (λ row. p row ≡ true) rows → filter p rows ≡ rows

@@ -3,7 +3,7 @@ use Rattle.std.proofs.Common.{◌≡◌, ◌≢◌, ℕ, suc, ◌+◌, ◌<◌, 
 use Rattle.std.specs.Prelude.{nat_le, ℤ, ◌≤ℤ◌, nat_eq, is_some, option_map, count_by}
 use Rattle.std.specs.List.{list_any}
 use Rattle.std.proofs.lemmas.List.Sums.{sum_by_push}
-use Rattle.std.proofs.lemmas.Bool.{eqb-true, leb-false, cases_eq, false≢true, not-false, and_parts, or_cases}
+use Rattle.std.proofs.lemmas.Bool.{eqb-true, leb-false, cases_eq, false≢true, and_parts, or_cases}
 use Rattle.office.specs.Words.{numbered, some_and, stands}
 use Rattle.desk_core.specs.declared.reader.Place.TheVariants.{Shelf, Desk, Out}
 use Rattle.desk_core.specs.declared.reader.Place.{Place}

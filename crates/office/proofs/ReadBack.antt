@@ -1,5 +1,5 @@
 -- Seats, runs and permits are what their rows say.
-use Rattle.std.proofs.Common.{◌≡◌, ℕ, zero, suc, ◌<◌, ◌≤◌, Bool, true, false, cond, ◌||◌, List, [], ◌∷◌, ◌++◌, length, Option, Some, None, refl, sym, ap, ◌∙◌, subst, inl, inr, arith, append_assoc}
+use Rattle.std.proofs.Common.{◌≡◌, ℕ, zero, suc, ◌<◌, ◌≤◌, Bool, true, false, cond, ◌||◌, List, [], ◌∷◌, ◌++◌, length, Option, Some, None, refl, sym, ap, ◌∙◌, inl, inr, arith, append_assoc}
 use Rattle.std.specs.Prelude.{nat_eq, map, filter, find, option_map, is_some}
 use Rattle.std.specs.List.{flat_map, AllByRecursion}
 use Rattle.std.proofs.Math.Path.{fun_ext}
@@ -9,7 +9,7 @@ use Rattle.std.proofs.lemmas.Grind.{flat_map-append}
 use Rattle.std.proofs.lemmas.Bool.{cases_eq, cases_Bool, false≢true, eq-eqb}
 use Rattle.office.specs.Words.{numbered, numbers_to, stands}
 use Rattle.office.specs.State.{Line, Run, Permit, State}
-use Rattle.office.specs.Tables.{rows_from, SeatRow, seat_rows_from, RunRow, run_row, RunLineRow, run_line_row, lines_from, PermitRow, permit_row, permit_rows}
+use Rattle.office.specs.Tables.{rows_from, SeatRow, seat_rows_from, run_row, RunLineRow, run_line_row, lines_from, PermitRow, permit_row, permit_rows}
 use Rattle.office.specs.Reading.{seats_said, line_from, run_from, permits_said, container_row, box_from, Version, SaysAllButUnits}
 use Rattle.office.proofs.TableLaws.{rows_back, reads_back}
 use Rattle.office.specs.Sound.{AreGoodPermits, IsSoundDesk}

@@ -3,7 +3,7 @@ use Rattle.std.proofs.Common.{◌≡◌, ◌≢◌, ℕ, zero, suc, Bool, true, 
 use Rattle.std.specs.Prelude.{nat_eq}
 use Rattle.std.specs.List.{list_any}
 use Rattle.std.proofs.lemmas.List.{length-map, length-replicate}
-use Rattle.std.proofs.lemmas.Bool.{eqb-true, cases_Bool, false≢true, not-false, or_cases, or_parts}
+use Rattle.std.proofs.lemmas.Bool.{eqb-true, cases_Bool, false≢true, or_cases, or_parts}
 use Rattle.desk_core.specs.declared.reader.Place.TheVariants.{Shelf, Desk, Out}
 use Rattle.desk_core.specs.declared.reader.Place.{Place}
 use Rattle.office.specs.State.{is_seated, State, container_of, is_ticket, is_seat_of, sit, rise}

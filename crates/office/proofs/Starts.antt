@@ -1,11 +1,10 @@
 -- A new office is sound.
-use Rattle.std.proofs.Common.{◌≡◌, ℕ, [], refl, arith}
+use Rattle.std.proofs.Common.{refl, arith}
 use Rattle.std.specs.Prelude.{ℤ}
 use Rattle.std.specs.List.{IsDistinct}
 use Rattle.isad_core.specs.Days.{IsDayNumber}
-use Rattle.catalogue_store.specs.Units.{Unit}
 use Rattle.office.specs.State.{Settings, start}
-use Rattle.office.specs.Soundness.{AreGoodSettings, AreGoodUnits, IsSound, is_same_unit}
+use Rattle.office.specs.Soundness.{AreGoodSettings, AreGoodUnits, IsSound}
 use Rattle.office.proofs.Soundness.{desk_start}
 
 no_units : (settings : Settings) (day : ℤ) → AreGoodUnits (start settings day)

@@ -4,7 +4,7 @@ use Rattle.std.specs.Prelude.{nat_eq, map, filter, is_some, option_map, slice_ge
 use Rattle.std.specs.Prelude.{filter_map, option_and_then, unwrap_or}
 use Rattle.std.specs.List.{AllByRecursion, cons_option}
 use Rattle.std.proofs.Math.Path.{fun_ext}
-use Rattle.std.proofs.lemmas.Bool.{eqb-true, cases_eq, cases_Bool, false≢true, not-false, and_parts, or_cases}
+use Rattle.std.proofs.lemmas.Bool.{eqb-true, cases_eq, cases_Bool, false≢true, and_parts, or_cases}
 use Rattle.office.specs.Words.{numbered, numbers_to, stands, first, some_and}
 use Rattle.desk_core.specs.declared.reader.Place.TheVariants.{Shelf, Desk, Out}
 use Rattle.desk_core.specs.declared.reader.Place.{Place}

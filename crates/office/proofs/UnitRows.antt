@@ -1,5 +1,5 @@
 -- The units are what their rows say.
-use Rattle.std.proofs.Common.{◌≡◌, ℕ, zero, suc, ◌+◌, ◌<◌, ◌≤◌, Bool, true, false, cond, ◌&&◌, ◌||◌, List, [], ◌∷◌, ◌++◌, length, Option, Some, None, refl, sym, ap, ◌∙◌, subst, inl, inr, arith}
+use Rattle.std.proofs.Common.{◌≡◌, ℕ, zero, suc, ◌+◌, ◌<◌, Bool, true, false, cond, ◌&&◌, List, [], ◌∷◌, ◌++◌, length, Option, Some, None, refl, sym, ap, ◌∙◌, subst, inl, inr, arith}
 use Rattle.std.specs.Prelude.{nat_eq, nat_lt, map, filter, filter_map, find, option_map, unwrap_or, slice_get}
 use Rattle.std.proofs.Math.Path.{fun_ext}
 use Rattle.std.specs.Str.{bytes_eq}
@@ -21,7 +21,7 @@ use Rattle.office.specs.Soundness.{IsGoodUnit}
 use Rattle.office.specs.Words.{numbered}
 use Rattle.office.specs.Laws.{numbers_from}
 use Rattle.office.specs.Tables.{rows_from}
-use Rattle.office.specs.Reading.{UnitRow, unit_row, number_of, ElementRow, after_level, element_rows_from, HousingRow, housing_row, housings_of, box_at, boxes_from, boxes_said, text_said, Rows, Version, Links, Spans, tables, container_row, box_from, values_said, unit_from, unit_said, places_said, place_rows, SaysUnits}
+use Rattle.office.specs.Reading.{UnitRow, unit_row, number_of, ElementRow, after_level, element_rows_from, HousingRow, housing_row, box_at, boxes_from, boxes_said, text_said, Rows, Version, Links, Spans, tables, container_row, box_from, values_said, unit_from, unit_said, places_said, place_rows, SaysUnits}
 use Rattle.office.proofs.TableLaws.{rows_back}
 use Rattle.office.proofs.Nested.{spans_say}
 use Rattle.office.proofs.Linked.{links_say}
@@ -52,7 +52,7 @@ rows_found (u ∷ us) d =
     let h = apart_head u.id (map number_of us) d in (
       ap (λ b. cond b (Some (unit_row u)) (find (λ (row : UnitRow). nat_eq row.id u.id) (map unit_row us))) (same_number u.id),
       all_two (λ v. nat_eq u.id v.id ≡ false) (λ v. find (λ (row : UnitRow). nat_eq row.id v.id) (map unit_row us) ≡ Some (unit_row v)) (λ v. find (λ (row : UnitRow). nat_eq row.id v.id) (map unit_row (u ∷ us)) ≡ Some (unit_row v))
-      (λ v e f. ap (λ b. cond b (Some (unit_row u)) (find (λ (row : UnitRow). nat_eq row.id v.id) (map unit_row us))) e ∙ f) us (of_units (λ n. nat_eq u.id n ≡ false) us h.0) (rows_found us h.1),
+          (λ v e f. ap (λ b. cond b (Some (unit_row u)) (find (λ (row : UnitRow). nat_eq row.id v.id) (map unit_row us))) e ∙ f) us (of_units (λ n. nat_eq u.id n ≡ false) us h.0) (rows_found us h.1),
     )
 
 -- ---- the rows that are a unit's own
@@ -84,14 +84,14 @@ module _ {R : Type 0} (key : R → ℕ) (rows : Unit → List R) (own : (u : Uni
       let h = apart_head v.id (map number_of us) d in
       let apart = of_units (λ n. nat_eq v.id n ≡ false) us h.0 in (
         ap (filter (λ r. nat_eq (key r) v.id)) (flat_map-cons rows v us)
-        ∙ (filter_parts (λ r. nat_eq (key r) v.id) (rows v) (flat_map rows us)
-        ∙ (ap (λ l. l ++ filter (λ r. nat_eq (key r) v.id) (flat_map rows us)) (kept_own v.id v.id (rows v) true (same_number v.id) (own v))
-        ∙ (ap (λ l. rows v ++ l) (none_of v.id us (flipped us apart)) ∙ no_more (rows v)))),
+            ∙ (filter_parts (λ r. nat_eq (key r) v.id) (rows v) (flat_map rows us)
+            ∙ (ap (λ l. l ++ filter (λ r. nat_eq (key r) v.id) (flat_map rows us)) (kept_own v.id v.id (rows v) true (same_number v.id) (own v))
+            ∙ (ap (λ l. rows v ++ l) (none_of v.id us (flipped us apart)) ∙ no_more (rows v)))),
         all_two (λ u. nat_eq v.id u.id ≡ false) (λ u. filter (λ r. nat_eq (key r) u.id) (flat_map rows us) ≡ rows u) (λ u. filter (λ r. nat_eq (key r) u.id) (flat_map rows (v ∷ us)) ≡ rows u)
-        (λ u e f.
-        ap (filter (λ r. nat_eq (key r) u.id)) (flat_map-cons rows v us)
-        ∙ (filter_parts (λ r. nat_eq (key r) u.id) (rows v) (flat_map rows us)
-        ∙ (ap (λ l. l ++ filter (λ r. nat_eq (key r) u.id) (flat_map rows us)) (kept_own v.id u.id (rows v) false e (own v)) ∙ f))) us apart (own_rows us h.1),
+            (λ u e f.
+            ap (filter (λ r. nat_eq (key r) u.id)) (flat_map-cons rows v us)
+            ∙ (filter_parts (λ r. nat_eq (key r) u.id) (rows v) (flat_map rows us)
+            ∙ (ap (λ l. l ++ filter (λ r. nat_eq (key r) u.id) (flat_map rows us)) (kept_own v.id u.id (rows v) false e (own v)) ∙ f))) us apart (own_rows us h.1),
       )
     where
       flipped : (ws : List Unit) → AllByRecursion (λ u. nat_eq v.id u.id ≡ false) ws → AllByRecursion (λ u. nat_eq u.id v.id ≡ false) ws

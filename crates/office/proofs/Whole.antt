@@ -1,5 +1,5 @@
 -- The rows of a sound state say that state.
-use Rattle.std.proofs.Common.{◌≡◌, refl, ap, ◌∙◌}
+use Rattle.std.proofs.Common.{◌≡◌, ap, ◌∙◌}
 use Rattle.office.specs.State.{State}
 use Rattle.office.specs.Reading.{Version, tables, state_of}
 use Rattle.office.specs.Soundness.{IsSound}

@@ -1,5 +1,5 @@
 -- All the rows that show a state, in either version, and the state that rows say.
-use Rattle.std.specs.Prelude.{◌≡◌, ℕ, ℤ, zero, suc, ◌+◌, ◌&&◌, ◌++◌, Bool, false, not, cond, List, [], ◌∷◌, length, map, filter, filter_map, find, Option, Some, None, option_map, unwrap_or, nat_eq, nat_lt}
+use Rattle.std.specs.Prelude.{◌≡◌, ℕ, ℤ, zero, suc, ◌+◌, ◌&&◌, Bool, false, not, cond, List, [], ◌∷◌, length, map, filter, filter_map, find, Option, Some, None, option_map, unwrap_or, nat_eq, nat_lt}
 use Rattle.std.specs.List.{flat_map}
 use Rattle.isad_core.specs.Texts.{Bytes}
 use Rattle.isad_core.specs.declared.values.BoxKey.{BoxKey}
@@ -14,7 +14,7 @@ use Rattle.catalogue_store.specs.Units.{Unit}
 use Rattle.catalogue_store.specs.Merging.{box_number}
 use Rattle.office.specs.Words.{numbered}
 use Rattle.office.specs.Laws.{numbers_from}
-use Rattle.office.specs.State.{Settings, Line, Run, Permit, State}
+use Rattle.office.specs.State.{Line, Run, Permit, State}
 use Rattle.office.specs.Tables.{rows_from, ReaderRow, reader_rows, reader_from, SeatRow, seat_rows, OrderRow, order_rows, order_from, waiting_for, past_in, HoldingRow, holding_rows, place_in, RunRow, run_rows, RunLineRow, run_line_rows, PermitRow, permit_rows}
 
 -- ---- office

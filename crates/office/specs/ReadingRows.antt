@@ -1,5 +1,5 @@
 -- The rows of a small office, and the state that they say.
-use Rattle.std.specs.Prelude.{◌≡◌, ℕ, false, true, replicate, [], ◌∷◌, Option, Some, None, codes, List}
+use Rattle.std.specs.Prelude.{◌≡◌, ℕ, false, replicate, [], ◌∷◌, Some, None, codes, List}
 use Rattle.isad_core.specs.declared.values.BoxKey.{BoxKey}
 use Rattle.tree_core.specs.Forest.{Empty, Node}
 use Rattle.tree_core.specs.Worked.{link, span}
