@@ -11,6 +11,8 @@ mod list;
 mod page;
 mod print;
 mod shown;
+#[cfg(test)]
+mod tests;
 mod text;
 mod values;
 
