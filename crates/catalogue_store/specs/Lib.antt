@@ -1,3 +1,11 @@
 pub mod Units
 pub mod Merging
 pub mod Publishing
+pub mod Schema
+pub mod Step
+pub mod Rows
+pub mod Shows
+pub mod Creation
+pub mod Order
+pub mod Tests
+pub mod Text

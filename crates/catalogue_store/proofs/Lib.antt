@@ -1,0 +1,17 @@
+pub mod Values
+pub mod Sorted
+pub mod Tests
+pub mod Rows
+pub mod Queries
+pub mod Counts
+pub mod Joins
+pub mod Steps
+pub mod Updates
+pub mod ParentUpdates
+pub mod Cascades
+pub mod Errors
+pub mod Failures
+pub mod Refusals
+pub mod Reading
+pub mod Calls
+pub mod Creations

@@ -1,0 +1,46 @@
+-- What the conditions of the statements test.
+use Rattle.std.proofs.Common.{◌≡◌, ℕ, ℤ, List, [], ◌∷◌, Bool, true, false, ◌&&◌, cond, Option, Some, None, refl, sym, ap, ap₂, ◌∙◌}
+use Rattle.std.specs.Ordering.{is_eq, is_lt, is_ge}
+use Rattle.sqlite.specs.declared.types.Value.{Value}
+use Rattle.sqlite.specs.declared.types.Value.TheVariants.{Null, Int, Text}
+use Rattle.sqlite.specs.Collation.TheVariants.{Binary}
+use Rattle.sqlite.specs.Ops.{binary, is_true, from_truth}
+use Rattle.sqlite.specs.Values.{or_null}
+use Rattle.sqlite_sql.specs.declared.ops.BinaryOp.TheVariants.{Compare, And, Is}
+use Rattle.sqlite_sql.specs.declared.ops.CompareOp.TheVariants.{Eq, Ge, Lt}
+use Rattle.sqlite_value.proofs.OrderLemmas.{value_cmp-Int, value_cmp-Text, value_cmp-Null, value_cmp-apart}
+use Rattle.catalogue_store.specs.Tests.{same_int, at_least, below, same_text, same_maybe}
+
+pub flag : (b : Bool) → is_true (from_truth (Some b)) ≡ b
+flag true = refl
+flag false = refl
+
+-- one term of WHERE, and two
+pub only : {a b : Bool} → a ≡ b → (a && true) ≡ b
+only {a} {b} e = elim a as (λ x. (x && true) ≡ x) [ true ↦ refl | false ↦ refl ] ∙ e
+
+pub both : {a b c d : Bool} → a ≡ b → c ≡ d → (a && (c && true)) ≡ (b && d)
+both e f = ap₂ ◌&&◌ e (only f)
+
+pub eq_ints : (a b : ℤ) → is_true (binary (Compare Eq Binary) (Int a) (Int b)) ≡ same_int a b
+unfolding binary
+eq_ints a b = flag _ ∙ ap is_eq (value_cmp-Int a b)
+
+pub ge_ints : (a b : ℤ) → is_true (binary (Compare Ge Binary) (Int a) (Int b)) ≡ at_least a b
+unfolding binary
+ge_ints a b = flag _ ∙ ap is_ge (value_cmp-Int a b)
+
+pub lt_ints : (a b : ℤ) → is_true (binary (Compare Lt Binary) (Int a) (Int b)) ≡ below a b
+unfolding binary
+lt_ints a b = flag _ ∙ ap is_lt (value_cmp-Int a b)
+
+pub eq_texts : (a b : List ℕ) → is_true (binary (Compare Eq Binary) (Text a) (Text b)) ≡ same_text a b
+unfolding binary
+eq_texts a b = flag _ ∙ ap is_eq (value_cmp-Text a b)
+
+pub is_maybes : (a b : Option ℤ) → is_true (binary (Is Binary) (or_null Int a) (or_null Int b)) ≡ same_maybe a b
+unfolding binary
+is_maybes None None = flag _ ∙ ap is_eq (value_cmp-Null Null)
+is_maybes None (Some b) = flag _ ∙ ap is_eq (value_cmp-Null (Int b))
+is_maybes (Some a) None = flag _ ∙ ap is_eq (value_cmp-apart (Int a) Null (λ e. cc))
+is_maybes (Some a) (Some b) = flag _ ∙ ap is_eq (value_cmp-Int a b)
