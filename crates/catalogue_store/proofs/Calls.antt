@@ -1,5 +1,5 @@
 -- What one statement leaves of the caller's transaction, for a text whose meaning is known.
-use Rattle.std.proofs.Common.{◌≡◌, ◌⊎◌, inl, inr, ℕ, List, [], Bool, true, false, IsTrue, Ok, Err, Option, Some, None, refl, sym, ap, arith, subst, subst₂, ◌∙◌, append-nil, if◌then◌else◌}
+use Rattle.std.proofs.Common.{◌≡◌, ◌⊎◌, inl, inr, ℕ, List, [], Bool, true, false, IsTrue, Ok, Err, Result, OnOk, OnErr, Option, Some, None, refl, sym, ap, arith, subst, subst₂, ◌∙◌, append-nil, if◌then◌else◌}
 use Rattle.sqlite.specs.Order.{Row}
 use Rattle.sqlite.specs.Schema.{Schema}
 use Rattle.sqlite.specs.Tree.{Trees}
@@ -157,3 +157,13 @@ module _ (sql : List ℕ) (params : Row) (old new : State) (command : Command) (
         };
         same = λ clean. (same clean).0.now_is;
       }
+
+-- ---- the last call of a function, whose result is the function's
+
+pub on_ok_then : {X E : Type 0} (r : Result X E) (P Q : Type 0) → (P → Q) → OnOk r P → OnOk r Q
+on_ok_then (Ok x) P Q f p = f p
+on_ok_then (Err e) P Q f p = tt
+
+pub on_err_then : {X E : Type 0} (r : Result X E) (P Q : Type 0) → (P → Q) → OnErr r P → OnErr r Q
+on_err_then (Ok x) P Q f p = tt
+on_err_then (Err e) P Q f p = f p

@@ -72,74 +72,37 @@ s7 = created s6 (free link)
 
 pub office_defined : DefinesTable desk_schema office_text s1
 unfolding understood everything
-office_defined = record { table = free office; says = record { is = refl; plain = (refl, refl); whole = refl }; defined = refl; uncounted = refl; is = refl }
+office_defined = record { table = free office; says = record { is = refl; plain = (refl, refl); whole = refl }; defined = refl; uncounted = refl; is = refl; more = []; first = refl; rest = refl; last = refl }
 
 pub unit_defined : DefinesTable s1 unit_text s2
 unfolding understood everything
-unit_defined = record { table = free unit; says = record { is = refl; plain = (refl, refl); whole = refl }; defined = refl; uncounted = refl; is = refl }
+unit_defined = record { table = free unit; says = record { is = refl; plain = (refl, refl); whole = refl }; defined = refl; uncounted = refl; is = refl; more = office ∷ []; first = refl; rest = refl; last = refl }
 
 pub element_defined : DefinesTable s2 element_text s3
 unfolding understood everything
-element_defined = record { table = free element; says = record { is = refl; plain = (refl, refl); whole = refl }; defined = refl; uncounted = refl; is = refl }
+element_defined = record { table = free element; says = record { is = refl; plain = (refl, refl); whole = refl }; defined = refl; uncounted = refl; is = refl; more = office ∷ unit ∷ []; first = refl; rest = refl; last = refl }
 
 pub container_defined : DefinesTable s3 container_text s4
 unfolding understood everything
-container_defined = record { table = free container; says = record { is = refl; plain = (refl, refl); whole = refl }; defined = refl; uncounted = refl; is = refl }
+container_defined = record { table = free container; says = record { is = refl; plain = (refl, refl); whole = refl }; defined = refl; uncounted = refl; is = refl; more = office ∷ unit ∷ element ∷ []; first = refl; rest = refl; last = refl }
 
 pub housing_defined : DefinesTable s4 housing_text s5
 unfolding understood everything
-housing_defined = record { table = free housing; says = record { is = refl; plain = (refl, refl); whole = refl }; defined = refl; uncounted = refl; is = refl }
+housing_defined = record { table = free housing; says = record { is = refl; plain = (refl, refl); whole = refl }; defined = refl; uncounted = refl; is = refl; more = office ∷ unit ∷ element ∷ container ∷ []; first = refl; rest = refl; last = refl }
 
 pub housing_indexed : DefinesIndex s5 housing_index_text s6
 unfolding understood everything
-housing_indexed = record { at = 11; table = housing; index = record housing_by_container { tree = 0 }; says = record { is = refl; plain = (refl, refl); whole = refl }; place = refl; defined = refl; is = refl }
+housing_indexed = record { at = 11; table = housing; index = record housing_by_container { tree = 0 }; says = record { is = refl; plain = (refl, refl); whole = refl }; place = refl; defined = refl; is = refl; same = refl; more = office ∷ unit ∷ element ∷ container ∷ housing ∷ []; first = refl; rest = refl }
 
 pub link_defined : DefinesTable s6 link_text s7
 unfolding understood everything
-link_defined = record { table = free link; says = record { is = refl; plain = (refl, refl); whole = refl }; defined = refl; uncounted = refl; is = refl }
+link_defined = record { table = free link; says = record { is = refl; plain = (refl, refl); whole = refl }; defined = refl; uncounted = refl; is = refl; more = office ∷ unit ∷ element ∷ container ∷ housing ∷ []; first = refl; rest = refl; last = refl }
 
 pub link_indexed : DefinesIndex s7 link_index_text (schema Links)
 unfolding understood everything
-link_indexed = record { at = 12; table = link; index = index (codes "link_by_parent") 0 link (2 ∷ 3 ∷ []); says = record { is = refl; plain = (refl, refl); whole = refl }; place = refl; defined = refl; is = refl }
+link_indexed = record { at = 12; table = link; index = index (codes "link_by_parent") 0 link (2 ∷ 3 ∷ []); says = record { is = refl; plain = (refl, refl); whole = refl }; place = refl; defined = refl; is = refl; same = refl; more = office ∷ unit ∷ element ∷ container ∷ housing ∷ link ∷ []; first = refl; rest = refl }
 
 -- ---- what a definition makes
-
-pub creates : (before : Schema) (text : List ℕ) (after : Schema) (old new : State) (count : ℕ) → DefinesTable before text after → old.now.schema ≡ before → Executes text [] old new (Ok count)
-    → (new.now.schema ≡ after) × (new.now.trees (next_tree before) ≡ []) × KeepsRows before.tables old.now.trees new.now.trees × Shows old new new.now (cond old.in_transaction old.committed new.now) old.in_transaction
-creates before text after old new count defines has h =
-    let w = subst (λ t. Writes old new None CreateTable t [] count) defines.says.whole (runs_as text [] old new before has CreateTable defines.says.is defines.says.plain count h) in
-    let all = went w.changed in
-    let first = went all.1 in
-    let made = first.1 in
-    let both : Ok made.table ≡ Ok defines.table = sym made.defined ∙ defines.defined in
-    let same : made.table ≡ defines.table = same_value both in
-    let is : first.0.schema ≡ created before defines.table = made.is ∙ ap (λ s. created s made.table) has ∙ ap (created before) same in
-    let plain : lacks_sequence first.0.schema ≡ false = ap lacks_sequence is ∙ defines.uncounted in
-    let now : new.now ≡ first.0 = ap (λ (p : Tally × Database). p.1) (same_value all.2) ∙ same_value (rw plain at first.2) in
-    (
-      ap (λ (d : Database). d.schema) now ∙ is ∙ defines.is,
-      ap (λ (d : Database). d.trees (next_tree before)) now ∙ subst (λ s. first.0.trees (next_tree s) ≡ []) has made.empty,
-      subst (λ (d : Database). KeepsRows before.tables old.now.trees d.trees) (sym now) (subst (λ (s : Schema). KeepsRows s.tables old.now.trees first.0.trees) has made.others),
-      w.shown,
-    )
-
-pub indexes : (before : Schema) (text : List ℕ) (after : Schema) (old new : State) (count : ℕ) → DefinesIndex before text after → old.now.schema ≡ before → Executes text [] old new (Ok count)
-    → (new.now.schema ≡ after) × KeepsRows before.tables old.now.trees new.now.trees × Shows old new new.now (cond old.in_transaction old.committed new.now) old.in_transaction
-indexes before text after old new count defines has h =
-    let w = subst (λ t. Writes old new None (CreateIndex defines.at) t [] count) defines.says.whole (runs_as text [] old new before has (CreateIndex defines.at) defines.says.is defines.says.plain count h) in
-    let there : slice_get old.now.schema.tables defines.at ≡ Some defines.table = ap (λ (s : Schema). slice_get s.tables defines.at) has ∙ defines.place in
-    let all = went (rw there at w.changed) in
-    let made = all.1 in
-    let both : Ok made.index ≡ Ok defines.index = sym made.defined ∙ defines.defined in
-    let is : all.0.schema ≡ indexed before defines.table defines.index = made.is ∙ ap (λ s. indexed s defines.table made.index) has ∙ ap (indexed before defines.table) (same_value both) in
-    let now : new.now ≡ all.0 = ap (λ (p : Tally × Database). p.1) (same_value all.2) in
-    (
-      ap (λ (d : Database). d.schema) now ∙ is ∙ defines.is,
-      subst (λ (d : Database). KeepsRows before.tables old.now.trees d.trees) (sym now) (subst (λ (s : Schema). KeepsRows s.tables old.now.trees all.0.trees) has made.rows),
-      w.shown,
-    )
-
--- ---- one after another
 
 kept_desk : (old mid new : Trees) (desk more : List Table) → KeepsRows desk old mid → KeepsRows (desk ++ more) mid new → KeepsRows desk old new
 kept_desk old mid new [] more a b = tt
@@ -154,32 +117,48 @@ one_more : (new : Trees) (more : List Table) (t : Table) → AllByRecursion (λ 
 one_more new [] t e h = (h, tt)
 one_more new (u ∷ more) t e h = (e.0, one_more new more t e.1 h)
 
--- `more` are the tables that were made before
-pub grows : (old mid new : Database) (before after : Schema) (more : List Table) (t : Table) → before.tables ≡ desk_tables ++ more → drop 7 before.tables ≡ more → drop 7 after.tables ≡ more ++ t ∷ [] → t.tree ≡ next_tree before
-    → HasMade before old mid → (new.schema ≡ after) → (new.trees (next_tree before) ≡ []) → KeepsRows before.tables mid.trees new.trees → HasMade after old new
-grows old mid new before after more t first rest last tree made schema_is empty kept =
-    let kept' = subst (λ ts. KeepsRows ts mid.trees new.trees) first kept in
-    let empty' = subst (λ ts. AllByRecursion (λ t. mid.trees t.tree ≡ []) ts) rest made.empty in
-    record {
-      schema_is = schema_is;
-      kept = kept_desk old.trees mid.trees new.trees desk_tables more made.kept kept';
-      empty = subst (λ ts. AllByRecursion (λ t. new.trees t.tree ≡ []) ts) (sym last) (one_more new.trees more t (kept_more mid.trees new.trees desk_tables more empty' kept') (ap new.trees tree ∙ empty));
-    }
+module _ (before after : Schema) (text : List ℕ) (start : Database) (old new : State) (count : ℕ) (made : HasMade before start old.now) (h : Executes text [] old new (Ok count)) where
+  pub creates : DefinesTable before text after → HasMade after start new.now × Shows old new new.now (cond old.in_transaction old.committed new.now) old.in_transaction
+  creates defines =
+      let has = made.schema_is in
+      let w = subst (λ t. Writes old new None CreateTable t [] count) defines.says.whole (runs_as text [] old new before has CreateTable defines.says.is defines.says.plain count h) in
+      let all = went w.changed in
+      let first = went all.1 in
+      let it = first.1 in
+      let both : Ok it.table ≡ Ok defines.table = sym it.defined ∙ defines.defined in
+      let is : first.0.schema ≡ created before defines.table = it.is ∙ ap (λ s. created s it.table) has ∙ ap (created before) (same_value both) in
+      let plain : lacks_sequence first.0.schema ≡ false = ap lacks_sequence is ∙ defines.uncounted in
+      let now : new.now ≡ first.0 = ap (λ (p : Tally × Database). p.1) (same_value all.2) ∙ same_value (rw plain at first.2) in
+      let trees : new.now.trees ≡ first.0.trees = ap (λ (d : Database). d.trees) now in
+      let kept : KeepsRows before.tables old.now.trees new.now.trees = subst (λ d. KeepsRows before.tables old.now.trees d) (sym trees) (subst (λ (s : Schema). KeepsRows s.tables old.now.trees first.0.trees) has it.others) in
+      let fresh : new.now.trees (next_tree before) ≡ [] = ap (λ (d : Trees). d (next_tree before)) trees ∙ subst (λ s. first.0.trees (next_tree s) ≡ []) has it.empty in
+      let kept' = subst (λ ts. KeepsRows ts old.now.trees new.now.trees) defines.first kept in
+      let empty' = subst (λ ts. AllByRecursion (λ t. old.now.trees t.tree ≡ []) ts) defines.rest made.empty in
+      let done : HasMade after start new.now = record {
+        schema_is = ap (λ (d : Database). d.schema) now ∙ is ∙ defines.is;
+        kept = kept_desk start.trees old.now.trees new.now.trees desk_tables defines.more made.kept kept';
+        empty = subst (λ ts. AllByRecursion (λ t. new.now.trees t.tree ≡ []) ts) (sym defines.last)
+          (one_more new.now.trees defines.more (record defines.table { tree = next_tree before }) (kept_more old.now.trees new.now.trees desk_tables defines.more empty' kept') fresh);
+      } in
+      (done, w.shown)
 
-pub keeps_on : (old mid new : Database) (before after : Schema) (more : List Table) → before.tables ≡ desk_tables ++ more → drop 7 before.tables ≡ more → drop 7 after.tables ≡ more
-    → HasMade before old mid → (new.schema ≡ after) → KeepsRows before.tables mid.trees new.trees → HasMade after old new
-keeps_on old mid new before after more first rest last made schema_is kept =
-    let kept' = subst (λ ts. KeepsRows ts mid.trees new.trees) first kept in
-    let empty' = subst (λ ts. AllByRecursion (λ t. mid.trees t.tree ≡ []) ts) rest made.empty in
-    record {
-      schema_is = schema_is;
-      kept = kept_desk old.trees mid.trees new.trees desk_tables more made.kept kept';
-      empty = subst (λ ts. AllByRecursion (λ t. new.trees t.tree ≡ []) ts) (sym last) (kept_more mid.trees new.trees desk_tables more empty' kept');
-    }
-
-all_kept : (db : Trees) (tables : List Table) → KeepsRows tables db db
-all_kept db [] = tt
-all_kept db (t ∷ tables) = (refl, all_kept db tables)
-
-pub nothing_made : (old : Database) → old.schema ≡ desk_schema → HasMade desk_schema old old
-nothing_made old has = record { schema_is = has; kept = all_kept old.trees desk_tables; empty = tt }
+  pub indexes : DefinesIndex before text after → HasMade after start new.now × Shows old new new.now (cond old.in_transaction old.committed new.now) old.in_transaction
+  indexes defines =
+      let has = made.schema_is in
+      let w = subst (λ t. Writes old new None (CreateIndex defines.at) t [] count) defines.says.whole (runs_as text [] old new before has (CreateIndex defines.at) defines.says.is defines.says.plain count h) in
+      let there : slice_get old.now.schema.tables defines.at ≡ Some defines.table = ap (λ (s : Schema). slice_get s.tables defines.at) has ∙ defines.place in
+      let all = went (rw there at w.changed) in
+      let it = all.1 in
+      let both : Ok it.index ≡ Ok defines.index = sym it.defined ∙ defines.defined in
+      let is : all.0.schema ≡ indexed before defines.table defines.index = it.is ∙ ap (λ s. indexed s defines.table it.index) has ∙ ap (indexed before defines.table) (same_value both) in
+      let now : new.now ≡ all.0 = ap (λ (p : Tally × Database). p.1) (same_value all.2) in
+      let kept = subst (λ (d : Database). KeepsRows before.tables old.now.trees d.trees) (sym now) (subst (λ (s : Schema). KeepsRows s.tables old.now.trees all.0.trees) has it.rows) in
+      let kept' = subst (λ ts. KeepsRows ts old.now.trees new.now.trees) defines.first kept in
+      let empty' = subst (λ ts. AllByRecursion (λ t. old.now.trees t.tree ≡ []) ts) defines.rest made.empty in
+      let done : HasMade after start new.now = record {
+        schema_is = ap (λ (d : Database). d.schema) now ∙ is ∙ defines.is;
+        kept = kept_desk start.trees old.now.trees new.now.trees desk_tables defines.more made.kept kept';
+        empty = subst (λ ts. AllByRecursion (λ t. new.now.trees t.tree ≡ []) ts) (sym (ap (drop 7) defines.same ∙ defines.rest))
+          (kept_more old.now.trees new.now.trees desk_tables defines.more empty' kept');
+      } in
+      (done, w.shown)
