@@ -14,4 +14,8 @@ pub mod Failures
 pub mod Refusals
 pub mod Reading
 pub mod Calls
+pub mod Touching
+pub mod Inserts
+pub mod Selects
+pub mod Changes
 pub mod Creations

@@ -43,10 +43,13 @@ pub record IsCut (old new : State) : Type 0 where
   pub crash : Survives old new (λ _. ⊥)
   pub cut : HasCleanDisk new → GoesOn old new ⊎ IsBack old new
 
--- only the tables with these trees have other rows
-abbrev pub OnlyTouches : Version → List ℕ → Database → Database → Type 0
-OnlyTouches version trees old new =
-    AllByRecursion (λ t. list_any (nat_eq t.tree) trees ≡ false → new.trees t.tree ≡ old.trees t.tree) (schema version).tables
+-- the trees of the tables, in either version
+abbrev pub table_trees : List ℕ
+table_trees = 0 ∷ 1 ∷ 3 ∷ 6 ∷ 7 ∷ 8 ∷ 10 ∷ 13 ∷ 14 ∷ 16 ∷ 18 ∷ 20 ∷ 24 ∷ []
+
+-- only the tables with these trees may have other rows
+abbrev pub OnlyTouches : List ℕ → Database → Database → Type 0
+OnlyTouches touched old new = AllByRecursion (λ tree. list_any (nat_eq tree) touched ≡ false → new.trees tree ≡ old.trees tree) table_trees
 
 -- what a call leaves that reads
 pub record Looks (old new : State) : Type 0 where
