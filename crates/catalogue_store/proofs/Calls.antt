@@ -167,3 +167,25 @@ on_ok_then (Err e) P Q f p = tt
 pub on_err_then : {X E : Type 0} (r : Result X E) (P Q : Type 0) → (P → Q) → OnErr r P → OnErr r Q
 on_err_then (Ok x) P Q f p = tt
 on_err_then (Err e) P Q f p = f p
+
+-- ---- a statement of an office
+
+pub write_went : (sql : List ℕ) (params : Row) (old new : State) (command : Command) (writes : is_write command ≡ true) → (HasCleanDisk old → Knows sql command old)
+    → (HasCleanDisk new → (v : Version) × (old.now.schema ≡ schema v) × (new.now.schema ≡ schema v) × Shows old new new.now (if old.in_transaction then old.committed else new.now) old.in_transaction)
+    → Survives old new (CommitsBy sql params old) → Goes old new
+write_went sql params old new command writes known done s = record {
+  on = write_continues sql params old new command writes known (λ clean. (done clean).3) s;
+  schema = λ clean. let it = done clean in it.2 ∙ sym it.1;
+}
+
+pub in_version : (v : Version) (sql : List ℕ) (command : Command) (old : State) → InTransaction v old → command_of (understood (schema v) sql) ≡ command → IsPlain (understood (schema v) sql) → HasCleanDisk old → Knows sql command old
+in_version v sql command old inside is plain clean = known_in (schema v) sql command old (inside clean).0 (inside clean).1 is plain
+
+pub on_ok_from : {X E : Type 0} (r : Result X E) (P : Type 0) → P → OnOk r P
+on_ok_from (Ok x) P p = p
+on_ok_from (Err e) P p = tt
+
+-- what was read cannot be taken over
+pub cut_looks : {X E : Type 0} (r : Result X E) (a b : State) → Looks a b → OnErr r (IsCut a b)
+cut_looks (Ok x) a b p = tt
+cut_looks (Err e) a b p = cut_after a b p.goes.on

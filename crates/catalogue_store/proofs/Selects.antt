@@ -39,7 +39,7 @@ use Rattle.sqlite_trees.proofs.ListLemmas.{ascending-filter}
 use Rattle.catalogue_store.specs.Schema.{Version, Links, Spans, schema, office, unit, element, container, housing, link}
 use Rattle.catalogue_store.specs.Units.{Unit, is_from}
 use Rattle.catalogue_store.specs.Merging.{is_same_box}
-use Rattle.catalogue_store.specs.Rows.{flag, version_number, office_row, office_cells, unit_row, by_number, ElementRow, element_row, container_row, HousingRow, housing_row, link_row, by_id}
+use Rattle.catalogue_store.specs.Rows.{flag, version_number, office_row, office_cells, unit_row, by_number, ElementRow, element_row, container_row, HousingRow, housing_row, link_row, by_id, by_element, by_housing, by_container}
 use Rattle.catalogue_store.specs.Order.{Rises}
 use Rattle.catalogue_store.specs.Step.{OnlyTouches}
 use Rattle.catalogue_store.specs.declared.office.OfficeRow.{OfficeRow}
@@ -48,15 +48,6 @@ use Rattle.catalogue_store.proofs.Steps.{inserted, Inserted, updated, Updated, d
 use Rattle.catalogue_store.proofs.Touching.{touched}
 use Rattle.catalogue_store.proofs.Tests.{only, both, eq_ints, eq_texts, same_number, same_bytes, by_one_int, by_two_ints}
 use Rattle.catalogue_store.proofs.Queries.{plain_query, answers}
-
-abbrev pub by_element : ElementRow → ElementRow → Ordering
-by_element a b = ordering_then (int_cmp (pos a.unit) (pos b.unit)) (int_cmp (pos a.k) (pos b.k))
-
-abbrev pub by_housing : HousingRow → HousingRow → Ordering
-by_housing a b = ordering_then (int_cmp (pos a.unit) (pos b.unit)) (int_cmp (pos a.ord) (pos b.ord))
-
-abbrev pub by_container : ℕ × BoxKey → ℕ × BoxKey → Ordering
-by_container a b = int_cmp (pos a.0) (pos b.0)
 
 abbrev pub office_of : Version × OfficeRow → Row
 office_of o = office_row o.0 o.1

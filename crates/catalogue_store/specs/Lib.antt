@@ -5,6 +5,7 @@ pub mod Schema
 pub mod Step
 pub mod Rows
 pub mod Shows
+pub mod Added
 pub mod Creation
 pub mod Order
 pub mod Tests

@@ -2,7 +2,7 @@
 -- KEY is kept as NULL.
 use Rattle.std.specs.Prelude.{ℕ, ◌+◌, ℤ, pos, Bool, true, false, if◌then◌else◌, List, [], ◌∷◌, map, Option, Some, None, option_map}
 use Rattle.std.specs.declared.cmp.Ordering.{Ordering}
-use Rattle.std.specs.Ordering.{int_cmp}
+use Rattle.std.specs.Ordering.{int_cmp, ordering_then}
 use Rattle.sqlite.specs.declared.types.Value.{Value}
 use Rattle.sqlite.specs.declared.types.Value.TheVariants.{Null, Int, Text}
 use Rattle.sqlite.specs.Order.{Row}
@@ -52,10 +52,17 @@ pub record ElementRow : Type 0 where
 abbrev pub element_row : ElementRow → Row
 element_row e = Int e.row ∷ Int (pos e.unit) ∷ Int (pos e.k) ∷ Text e.value ∷ []
 
+-- by their unit, then by their number in the standard
+abbrev pub by_element : ElementRow → ElementRow → Ordering
+by_element a b = ordering_then (int_cmp (pos a.unit) (pos b.unit)) (int_cmp (pos a.k) (pos b.k))
+
 -- ---- containers, numbered from 1
 
 abbrev pub container_row : ℕ × BoxKey → Row
 container_row (n, b) = Int (pos n) ∷ Null ∷ Text b.name ∷ Text b.location ∷ Text b.kind ∷ []
+
+abbrev pub by_container : ℕ × BoxKey → ℕ × BoxKey → Ordering
+by_container a b = int_cmp (pos a.0) (pos b.0)
 
 abbrev pub counted_from : {A : Type 0} → ℕ → List A → List (ℕ × A)
 counted_from n [] = []
@@ -72,6 +79,10 @@ pub record HousingRow : Type 0 where
 
 abbrev pub housing_row : HousingRow → Row
 housing_row h = Int h.row ∷ Int (pos h.unit) ∷ Int (pos h.ord) ∷ Int (pos h.container) ∷ []
+
+-- by their unit, then by their place
+abbrev pub by_housing : HousingRow → HousingRow → Ordering
+by_housing a b = ordering_then (int_cmp (pos a.unit) (pos b.unit)) (int_cmp (pos a.ord) (pos b.ord))
 
 -- ---- places
 

@@ -2,6 +2,8 @@
 use Rattle.std.specs.Prelude.{◌≡◌, ◌⊎◌, ℕ, Bool, true, false, IsTrue, nat_eq, List, [], ◌∷◌}
 use Rattle.std.specs.List.{AllByRecursion, list_any}
 use Rattle.sqlite.specs.Effect.{Database}
+use Rattle.sqlite.specs.Order.{Row}
+use Rattle.sqlite.specs.Tree.{put_row}
 use Rattle.sqlite.specs.State.{State, HasCleanDisk, Survives}
 use Rattle.catalogue_store.specs.Schema.{Version, schema}
 
@@ -55,3 +57,13 @@ OnlyTouches touched old new = AllByRecursion (λ tree. list_any (nat_eq tree) to
 pub record Looks (old new : State) : Type 0 where
   pub goes : Goes old new
   pub same : HasCleanDisk new → new.now ≡ old.now
+
+-- the table with this tree has one row more, or another in place of the one with its number, and no other table is touched
+pub record PutsRow (tree : ℕ) (row : Row) (old new : Database) : Type 0 where
+  pub rows : new.trees tree ≡ put_row row (old.trees tree)
+  pub only : OnlyTouches (tree ∷ []) old new
+
+-- the table with this tree has these rows, and no other table is touched
+pub record HasRows (tree : ℕ) (rows : List Row) (old new : Database) : Type 0 where
+  pub are : new.trees tree ≡ rows
+  pub only : OnlyTouches (tree ∷ []) old new

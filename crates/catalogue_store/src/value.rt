@@ -1,17 +1,13 @@
-//! Parameters, as SQL has them.
+//! Parameters of statements, as SQL has them.
 
-ghost use Rattle.std.specs.Prelude.{◌≡◌, pos, ◌<◌, ◌^◌};
-ghost use Rattle.sqlite.specs.declared.types.Value.TheVariants.{Int, Text};
+ghost use Rattle.std.specs.Prelude.{◌≡◌, pos, option_map, ◌<◌, ◌^◌, IfSome};
 ghost use Rattle.sqlite.specs.Value.{owned};
 ghost use Rattle.sqlite.specs.Values.{or_null};
+ghost use Rattle.sqlite.specs.declared.types.Value.TheVariants.{Int, Text as words_cell};
+ghost use Rattle.catalogue_store.specs.Rows.{flag};
 
+use isad_core::{Day, Text};
 use sqlite::types::ValueRef;
-
-pub(crate) fn int<'a>(n: i64) -> ValueRef<'a>
-    ensures { owned result ≡ Int n }
-{
-    ValueRef::Int(n)
-}
 
 pub(crate) fn number<'a>(n: u64) -> ValueRef<'a>
     requires { n < 2 ^ 63 }
@@ -20,24 +16,39 @@ pub(crate) fn number<'a>(n: u64) -> ValueRef<'a>
     ValueRef::Int(n as i64)
 }
 
-pub(crate) fn nullable<'a>(n: Option<i64>) -> ValueRef<'a>
-    ensures { owned result ≡ or_null Int n }
+pub(crate) fn number_or_null<'a>(n: Option<u64>) -> ValueRef<'a>
+    requires { IfSome n (λ n. n < 2 ^ 63) }
+    ensures { owned result ≡ or_null Int (option_map pos n) }
 {
     match n {
-        Some(n) => ValueRef::Int(n),
+        Some(n) => ValueRef::Int(n as i64),
         None => ValueRef::Null,
     }
 }
 
-pub(crate) fn text<'a>(s: &'a str) -> ValueRef<'a>
-    ensures { owned result ≡ Text s.now }
+pub(crate) fn truth<'a>(b: bool) -> ValueRef<'a>
+    ensures { owned result ≡ Int (flag b) }
 {
-    ValueRef::Text(s.as_bytes())
+    ValueRef::Int(if b { 1 } else { 0 })
 }
 
-/// A text of any bytes.
-pub(crate) fn bytes<'a>(s: &'a [u8]) -> ValueRef<'a>
-    ensures { owned result ≡ Text s.now }
+pub(crate) fn day<'a>(day: Day) -> ValueRef<'a>
+    ensures { owned result ≡ Int day }
 {
-    ValueRef::Text(s)
+    ValueRef::Int(i64::from(day.number()))
+}
+
+pub(crate) fn day_or_null<'a>(day: Option<Day>) -> ValueRef<'a>
+    ensures { owned result ≡ or_null Int day }
+{
+    match day {
+        Some(day) => ValueRef::Int(i64::from(day.number())),
+        None => ValueRef::Null,
+    }
+}
+
+pub(crate) fn words<'a>(text: &'a Text) -> ValueRef<'a>
+    ensures { owned result ≡ words_cell text.now }
+{
+    ValueRef::Text(text.as_str().as_bytes())
 }
