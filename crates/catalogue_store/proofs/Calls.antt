@@ -189,3 +189,7 @@ on_ok_from (Err e) P p = tt
 pub cut_looks : {X E : Type 0} (r : Result X E) (a b : State) → Looks a b → OnErr r (IsCut a b)
 cut_looks (Ok x) a b p = tt
 cut_looks (Err e) a b p = cut_after a b p.goes.on
+
+pub on_ok_both : {X E : Type 0} (r : Result X E) (P Q R : Type 0) → (P → Q → R) → OnOk r P → OnOk r Q → OnOk r R
+on_ok_both (Ok x) P Q R f p q = f p q
+on_ok_both (Err e) P Q R f p q = tt

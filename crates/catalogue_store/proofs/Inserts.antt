@@ -38,7 +38,7 @@ use Rattle.sqlite_tied.specs.Compute.{everything}
 use Rattle.sqlite_trees.proofs.ListLemmas.{ascending-filter}
 use Rattle.catalogue_store.specs.Schema.{Version, Links, Spans, schema, office, unit, element, container, housing, link}
 use Rattle.catalogue_store.specs.Units.{Unit}
-use Rattle.catalogue_store.specs.Rows.{flag, version_number, office_row, office_cells, unit_row, by_number, ElementRow, element_row, container_row, HousingRow, housing_row, link_row, by_id}
+use Rattle.catalogue_store.specs.Rows.{flag, version_number, office_row, office_cells, settings_cells, unit_row, by_number, ElementRow, element_row, container_row, HousingRow, housing_row, link_row, by_id, by_element, by_housing, by_container}
 use Rattle.catalogue_store.specs.Order.{Rises}
 use Rattle.catalogue_store.specs.Step.{OnlyTouches}
 use Rattle.catalogue_store.specs.declared.office.OfficeRow.{OfficeRow}
@@ -104,7 +104,7 @@ insert_office_plain Links = (refl, refl)
 insert_office_plain Spans = (refl, refl)
 
 put_insert_office : (version : Version) (o : OfficeRow) (db : Trees) → edited db (edit_of db office [] Chosen 0 ((Int (pos 1) ∷ Null ∷ office_cells version o) ∷ [])) ≡ put_row (office_row version o) (db 13)
-put_insert_office version o db = rw (cast_int (pos 1), cast_null, cast_int (version_number version), cast_int (pos o.seats), cast_int (pos o.daily), cast_int (pos o.hands), cast_int (pos o.run_size), cast_int o.day, cast_int (pos o.next_unit)) refl
+put_insert_office version o db = rw (cast_int (pos 1), cast_null, cast_int (pos (version_number version)), cast_int (pos o.seats), cast_int (pos o.daily), cast_int (pos o.hands), cast_int (pos o.run_size), cast_int o.day, cast_int (pos o.next_unit)) refl
 
 module _ (old new : State) (version : Version) (o : OfficeRow) (count : ℕ) (v : Version) (has : old.now.schema ≡ schema v) (h : Executes insert_office_text (office_cells version o) old new (Ok count)) where
   insert_office_w : Writes old new None insert_office_command (statement_of insert_office_text (understood (schema v) insert_office_text)) (office_cells version o) count

@@ -15,6 +15,9 @@ pub mod Refusals
 pub mod Reading
 pub mod Calls
 pub mod Touching
+pub mod LinkShows
+pub mod Beginning
+pub mod Finding
 pub mod Inserts
 pub mod Selects
 pub mod Changes

@@ -39,7 +39,7 @@ use Rattle.sqlite_trees.proofs.ListLemmas.{ascending-filter}
 use Rattle.catalogue_store.specs.Schema.{Version, Links, Spans, schema, office, unit, element, container, housing, link}
 use Rattle.catalogue_store.specs.Units.{Unit, is_from}
 use Rattle.catalogue_store.specs.Merging.{is_same_box}
-use Rattle.catalogue_store.specs.Rows.{flag, version_number, office_row, office_cells, unit_row, by_number, ElementRow, element_row, container_row, HousingRow, housing_row, link_row, by_id, by_element, by_housing, by_container}
+use Rattle.catalogue_store.specs.Rows.{flag, version_number, office_row, office_cells, settings_cells, unit_row, by_number, ElementRow, element_row, container_row, HousingRow, housing_row, link_row, by_id, by_element, by_housing, by_container}
 use Rattle.catalogue_store.specs.Order.{Rises}
 use Rattle.catalogue_store.specs.Step.{OnlyTouches}
 use Rattle.catalogue_store.specs.declared.office.OfficeRow.{OfficeRow}
@@ -267,10 +267,10 @@ container_number_rows old new b xs rows v has stored shown =
 -- ---- the office
 
 abbrev pub office_is_text : List ℕ
-office_is_text = codes "SELECT version, country, repo, seats, daily, hands, run_size, day, next_unit FROM office ORDER BY one"
+office_is_text = codes "SELECT country, repo, seats, daily, hands, run_size, day, next_unit FROM office ORDER BY one"
 
 abbrev pub office_is_command : Command
-office_is_command = Select (record { lets = []; body = plain_query (inner 13 end) ([]) (col 1 2 ∷ col 1 3 ∷ col 1 4 ∷ col 1 5 ∷ col 1 6 ∷ col 1 7 ∷ col 1 8 ∷ col 1 9 ∷ col 1 10 ∷ []) ((col 1 0, ascending Binary) ∷ []) }) (codes "version" ∷ codes "country" ∷ codes "repo" ∷ codes "seats" ∷ codes "daily" ∷ codes "hands" ∷ codes "run_size" ∷ codes "day" ∷ codes "next_unit" ∷ [])
+office_is_command = Select (record { lets = []; body = plain_query (inner 13 end) ([]) (col 1 3 ∷ col 1 4 ∷ col 1 5 ∷ col 1 6 ∷ col 1 7 ∷ col 1 8 ∷ col 1 9 ∷ col 1 10 ∷ []) ((col 1 0, ascending Binary) ∷ []) }) (codes "country" ∷ codes "repo" ∷ codes "seats" ∷ codes "daily" ∷ codes "hands" ∷ codes "run_size" ∷ codes "day" ∷ codes "next_unit" ∷ [])
 
 pub office_is_is : (v : Version) → command_of (understood (schema v) office_is_text) ≡ office_is_command
 unfolding understood everything
@@ -288,11 +288,11 @@ office_is_unlisted Links = refl
 office_is_unlisted Spans = refl
 
 pub office_is_rows : (old new : State)  (xs : List (Version × OfficeRow)) (rows : List Row) (v : Version) → old.now.schema ≡ schema v → old.now.trees 13 ≡ map office_of xs → Shown office_is_text ([]) old new rows
-    → (ys : List (Version × OfficeRow)) × IsPermutation (filter (λ _. true) xs) ys × IsSorted (λ _ _. Equal) ys × (rows ≡ map (λ o. office_cells o.0 o.1) ys)
+    → (ys : List (Version × OfficeRow)) × IsPermutation (filter (λ _. true) xs) ys × IsSorted (λ _ _. Equal) ys × (rows ≡ map (λ o. settings_cells o.1) ys)
 office_is_rows old new  xs rows v has stored shown =
     let read = reads_as office_is_text ([]) old new (schema v) has office_is_command (office_is_is v) (office_is_plain v) (office_is_unlisted v) rows shown in
-    answers 13 ([]) (col 1 2 ∷ col 1 3 ∷ col 1 4 ∷ col 1 5 ∷ col 1 6 ∷ col 1 7 ∷ col 1 8 ∷ col 1 9 ∷ col 1 10 ∷ []) ((col 1 0, ascending Binary) ∷ []) old.now.trees ([])
-      office_of xs (λ _. true) (λ o. office_cells o.0 o.1) (λ _. Int (pos 1) ∷ []) (λ _ _. Equal)
+    answers 13 ([]) (col 1 3 ∷ col 1 4 ∷ col 1 5 ∷ col 1 6 ∷ col 1 7 ∷ col 1 8 ∷ col 1 9 ∷ col 1 10 ∷ []) ((col 1 0, ascending Binary) ∷ []) old.now.trees ([])
+      office_of xs (λ _. true) (λ o. settings_cells o.1) (λ _. Int (pos 1) ∷ []) (λ _ _. Equal)
       stored (λ _. refl) (λ _. refl) (λ _. refl) (λ a b. by_one_int (pos 1) (pos 1)) rows (read.answer Null)
 
 -- ---- the links

@@ -6,6 +6,7 @@ pub mod Step
 pub mod Rows
 pub mod Shows
 pub mod Added
+pub mod Finding
 pub mod Creation
 pub mod Order
 pub mod Tests

@@ -18,16 +18,21 @@ abbrev pub flag : Bool → ℤ
 flag true = pos 1
 flag false = pos 0
 
-abbrev pub version_number : Version → ℤ
-version_number Links = pos 1
-version_number Spans = pos 2
+abbrev pub version_number : Version → ℕ
+version_number Links = 1
+version_number Spans = 2
 
 -- ---- office
 
+abbrev pub settings_cells : OfficeRow → Row
+settings_cells o =
+    Text o.country ∷ Text o.repo ∷ Int (pos o.seats) ∷ Int (pos o.daily) ∷ Int (pos o.hands) ∷ Int (pos o.run_size) ∷ Int o.day
+    ∷ Int (pos o.next_unit) ∷ []
+
 abbrev pub office_cells : Version → OfficeRow → Row
 office_cells version o =
-    Int (version_number version) ∷ Text o.country ∷ Text o.repo ∷ Int (pos o.seats) ∷ Int (pos o.daily) ∷ Int (pos o.hands)
-    ∷ Int (pos o.run_size) ∷ Int o.day ∷ Int (pos o.next_unit) ∷ []
+    Int (pos (version_number version)) ∷ settings_cells o
+
 
 abbrev pub office_row : Version → OfficeRow → Row
 office_row version o = Int (pos 1) ∷ Null ∷ office_cells version o

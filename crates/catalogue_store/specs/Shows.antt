@@ -1,6 +1,7 @@
 -- When the tables show a catalogue: each table has the rows that its part of the catalogue names, and no others.
 use Rattle.std.specs.Prelude.{◌≡◌, ℕ, zero, suc, ◌+◌, nat_eq, ℤ, Bool, true, List, [], ◌∷◌, map, filter, Option, Some, None, IsPermutation}
 use Rattle.std.specs.List.{AllByRecursion}
+use Rattle.std.proofs.Common.{◌∙◌}
 use Rattle.std.specs.Ordering.{int_cmp}
 use Rattle.sqlite.specs.Effect.{Database}
 use Rattle.sqlite.specs.Tree.{Trees}
@@ -83,6 +84,10 @@ pub record ShowsLinkRows (db : Trees) (f : Forest ℕ) : Type 0 where
   pub rows : db 24 ≡ map link_row links
   pub rise : Rises by_id links
   pub are : ShowsLinks f links
+
+-- and no other table tells of it
+pub same_link_rows : (old new : Trees) (f : Forest ℕ) → new 24 ≡ old 24 → ShowsLinkRows old f → ShowsLinkRows new f
+same_link_rows old new f same it = record { links = it.links; rows = same ∙ it.rows; rise = it.rise; are = it.are }
 
 -- the catalogue's tables, but for the places
 pub record ShowsCatalogue (version : Version) (db : Database) (o : OfficeRow) (c : Catalogue) : Type 0 where

@@ -2,8 +2,9 @@
 #![tactic(auto)]
 
 mod answer;
+mod catalogue;
 mod containers;
-mod create;
+mod making;
 mod elements;
 mod fault;
 mod links;
@@ -13,6 +14,7 @@ mod places;
 mod units;
 mod value;
 
+pub use catalogue::{create, known};
 pub use fault::StoreFault;
 pub use links::LinkPlaces;
 pub use office::OfficeRow;

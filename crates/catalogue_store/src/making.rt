@@ -30,7 +30,7 @@ pub(crate) fn create_index<S: Alter>(conn: &mut Connection<S>, text: &str) -> Re
 }
 
 /// Makes the tables of the office, the units and their elements.
-fn create_units<S: Alter>(conn: &mut Connection<S>) -> Result<(), StoreFault>
+pub(crate) fn create_units<S: Alter>(conn: &mut Connection<S>) -> Result<(), StoreFault>
     ensures made { (start : Database) → IsMaking desk_schema start (state S.Store conn.old) → OnOk result (Continues (state S.Store conn.old) (state S.Store conn.new) × IsMaking unit_schema start (state S.Store conn.new)) }
     ensures cut { (start : Database) → IsMaking desk_schema start (state S.Store conn.old) → OnErr result (IsCut (state S.Store conn.old) (state S.Store conn.new)) }
 {
@@ -40,7 +40,7 @@ fn create_units<S: Alter>(conn: &mut Connection<S>) -> Result<(), StoreFault>
 }
 
 /// Makes the tables of the containers and of what they hold.
-fn create_containers<S: Alter>(conn: &mut Connection<S>) -> Result<(), StoreFault>
+pub(crate) fn create_containers<S: Alter>(conn: &mut Connection<S>) -> Result<(), StoreFault>
     ensures made { (start : Database) → IsMaking unit_schema start (state S.Store conn.old) → OnOk result (Continues (state S.Store conn.old) (state S.Store conn.new) × IsMaking catalogue_schema start (state S.Store conn.new)) }
     ensures cut { (start : Database) → IsMaking unit_schema start (state S.Store conn.old) → OnErr result (IsCut (state S.Store conn.old) (state S.Store conn.new)) }
 {

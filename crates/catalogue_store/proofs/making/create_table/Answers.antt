@@ -4,7 +4,7 @@ use Rattle.sqlite.specs.Command.TheVariants.{CreateTable, CreateIndex}
 use Rattle.catalogue_store.specs.Step.{IsCut}
 use Rattle.catalogue_store.proofs.Calls.{early, known_in, write_cut, write_continues}
 use Rattle.catalogue_store.proofs.Creations.{creates}
-use Rattle.catalogue_store.proofs.create.create_table.Goals as goal
+use Rattle.catalogue_store.proofs.making.create_table.Goals as goal
 
 pub returns-in_err-execute-clause-cut : goal.returns-in_err-execute-clause-cut
 returns-in_err-execute-clause-cut g c start before after making defines =
