@@ -16,11 +16,8 @@ use Rattle.sqlite_sql.specs.declared.aggregate.AggregateOp.TheVariants as by
 use Rattle.sqlite_sql.specs.Group.{Aggregate, Grouping, value_over, IsSummary}
 use Rattle.sqlite_sql.proofs.AggregateLemmas.{int_or_null, present, only_one}
 use Rattle.sqlite_sql.proofs.ExtremeLemmas.{extreme, extreme_answer}
+use Rattle.catalogue_store.specs.Counting.{capped}
 use Rattle.catalogue_store.proofs.Queries.{found}
-
--- SQL counts up to what an i64 holds
-abbrev pub capped : ℕ → ℕ
-capped n = min n 9223372036854775807
 
 abbrev pub over : Aggregate → Grouping
 over a = record { keys = []; collations = []; aggregates = a ∷ []; having = [] }

@@ -15,10 +15,12 @@ pub mod Refusals
 pub mod Reading
 pub mod Calls
 pub mod Touching
+pub mod Puts
 pub mod LinkShows
 pub mod Beginning
 pub mod Finding
 pub mod Inserts
 pub mod Selects
 pub mod Changes
+pub mod LinkChanges
 pub mod Creations

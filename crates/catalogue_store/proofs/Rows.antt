@@ -43,7 +43,7 @@ de_morgan : (a b : Bool) → (not a && not b) ≡ not (a || b)
 de_morgan true b = refl
 de_morgan false b = refl
 
-same_test : {A : Type 0} (p q : A → Bool) → ((x : A) → p x ≡ q x) → (xs : List A) → filter p xs ≡ filter q xs
+pub same_test : {A : Type 0} (p q : A → Bool) → ((x : A) → p x ≡ q x) → (xs : List A) → filter p xs ≡ filter q xs
 same_test p q e xs = filter_same p q xs (all_of (λ x. p x ≡ q x) e xs)
 
 pub kept_all : {A : Type 0} (xs : List A) → filter (λ _. true) xs ≡ xs

@@ -7,6 +7,8 @@ pub mod Rows
 pub mod Shows
 pub mod Added
 pub mod Finding
+pub mod Put
+pub mod Counting
 pub mod Creation
 pub mod Order
 pub mod Tests
