@@ -18,6 +18,7 @@ pub mod Touching
 pub mod Puts
 pub mod LinkShows
 pub mod Beginning
+pub mod Statuses
 pub mod Finding
 pub mod Inserts
 pub mod Selects

@@ -9,6 +9,7 @@ pub mod Added
 pub mod Finding
 pub mod Put
 pub mod Counting
+pub mod Statuses
 pub mod Creation
 pub mod Order
 pub mod Tests

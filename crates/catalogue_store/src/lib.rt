@@ -3,6 +3,7 @@
 
 mod answer;
 mod catalogue;
+mod closing;
 mod containers;
 mod making;
 mod elements;
@@ -15,6 +16,7 @@ mod units;
 mod value;
 
 pub use catalogue::{create, known};
+pub use closing::set_closure;
 pub use fault::StoreFault;
 pub use links::LinkPlaces;
 pub use office::OfficeRow;
