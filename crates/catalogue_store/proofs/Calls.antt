@@ -17,13 +17,16 @@ use Rattle.catalogue_store.proofs.Errors.{IsStopped, stops, fails, keeps}
 pub early : (old new : State) (P : Trees → Type 0) → Survives old new P → HasCleanDisk new → HasCleanDisk old
 early old new P s clean = omega (arith, s.clean)
 
+both_open : (a b : State) → IsTrue a.is_open → IsTrue b.is_open → b.is_open ≡ a.is_open
+both_open a b p q = q ∙ sym p
+
 -- ---- one step after another
 
 on_then : (a b c : State) → GoesOn a b → GoesOn b c → GoesOn a c
-on_then a b c p q = record { was_open = p.was_open; is_open = q.is_open; committed = q.committed ∙ p.committed; was_inside = p.was_inside; is_inside = q.is_inside }
+on_then a b c p q = record { opened = q.opened ∙ p.opened; committed = q.committed ∙ p.committed; was_inside = p.was_inside; is_inside = q.is_inside }
 
 back_then : (a b c : State) → GoesOn a b → IsBack b c → IsBack a c
-back_then a b c p q = record { was_open = λ h. p.was_open; now = λ h. q.now h ∙ p.committed; committed = λ h. q.committed h ∙ p.committed; ended = q.ended }
+back_then a b c p q = record { was_open = λ h. subst IsTrue p.opened (q.was_open h); now = λ h. q.now h ∙ p.committed; committed = λ h. q.committed h ∙ p.committed; ended = q.ended }
 
 cut_on : (a b c : State) → GoesOn a b → GoesOn b c ⊎ IsBack b c → GoesOn a c ⊎ IsBack a c
 cut_on a b c p (inl q) = inl (on_then a b c p q)
@@ -60,6 +63,16 @@ still version a b inside p clean = (p.schema clean ∙ (inside (early a b _ p.on
 pub looks_then : (a b c : State) → Looks a b → Looks b c → Looks a c
 looks_then a b c p q = record { goes = goes_then a b c p.goes q.goes; same = λ clean. q.same clean ∙ p.same (early b c _ q.goes.on.crash clean) }
 
+-- no step at all
+stays : (a : State) → Survives a a (λ _. ⊥)
+stays a = record { clean = omega arith; shield = λ h. h; counts = omega arith; limit = refl; closes = λ clean is. inl is; crash = λ clean db h. inl h }
+
+pub goes_nowhere : (a : State) → InOffice a → Goes a a
+goes_nowhere a inside = record {
+  on = record { crash = stays a; within = λ clean. let it = (inside clean).2 in record { opened = refl; committed = refl; was_inside = it; is_inside = it } };
+  schema = λ clean. refl;
+}
+
 -- ---- writes
 
 abbrev pub is_write : Command → Bool
@@ -72,13 +85,12 @@ is_write _ = false
 
 stopped : (a b : State) → IsTrue a.in_transaction → IsStopped a b → GoesOn a b ⊎ IsBack a b
 stopped a b inside (inl same) =
-    inl (record { was_open = same.0.was_open; is_open = same.0.is_open; committed = same.0.committed_is; was_inside = inside; is_inside = same.0.mode ∙ inside })
+    inl (record { opened = both_open a b same.0.was_open same.0.is_open; committed = same.0.committed_is; was_inside = inside; is_inside = same.0.mode ∙ inside })
 stopped a b inside (inr back) = inr (record { was_open = back.was_open; now = λ h. (back.undone h).0; committed = λ h. (back.undone h).1; ended = back.autocommit })
 
 shown_on : (a b : State) → IsTrue a.in_transaction → Shows a b b.now (if a.in_transaction then a.committed else b.now) a.in_transaction → GoesOn a b
 shown_on a b inside it = record {
-  was_open = it.was_open;
-  is_open = it.is_open;
+  opened = both_open a b it.was_open it.is_open;
   committed = it.committed_is ∙ ap (λ k. if k then a.committed else b.now) inside;
   was_inside = inside;
   is_inside = it.mode ∙ inside;
@@ -151,7 +163,7 @@ module _ (sql : List ℕ) (params : Row) (old new : State) (command : Command) (
             within = λ clean.
             let it = (same clean).0 in
             let mode = (known (early old new _ s clean)).inside in
-            record { was_open = it.was_open; is_open = it.is_open; committed = it.committed_is; was_inside = mode; is_inside = it.mode ∙ mode };
+            record { opened = both_open old new it.was_open it.is_open; committed = it.committed_is; was_inside = mode; is_inside = it.mode ∙ mode };
           };
           schema = λ clean. ap (λ d. d.schema) (same clean).0.now_is;
         };
@@ -193,3 +205,6 @@ cut_looks (Err e) a b p = cut_after a b p.goes.on
 pub on_ok_both : {X E : Type 0} (r : Result X E) (P Q R : Type 0) → (P → Q → R) → OnOk r P → OnOk r Q → OnOk r R
 on_ok_both (Ok x) P Q R f p q = f p q
 on_ok_both (Err e) P Q R f p q = tt
+
+pub looks_nowhere : (a : State) → InOffice a → Looks a a
+looks_nowhere a inside = record { goes = goes_nowhere a inside; same = λ clean. refl }

@@ -14,6 +14,7 @@ use Rattle.catalogue_store.specs.Schema.{Version, schema}
 use Rattle.catalogue_store.specs.Units.{Unit, has_id}
 use Rattle.catalogue_store.specs.Merging.{Catalogue}
 use Rattle.catalogue_store.specs.Order.{Rises}
+use Rattle.catalogue_store.specs.Statuses.{with_status, is_chosen}
 use Rattle.catalogue_store.specs.Rows.{unit_row, by_number, ElementRow, HousingRow}
 use Rattle.catalogue_store.specs.Shows.{Shows, ShowsUnits, element_cells, elements_of, housing_cells, housings_of}
 use Rattle.catalogue_store.specs.Step.{HasRows}
@@ -93,3 +94,51 @@ module _ (g : Unit → Unit) (same_id : (u : Unit) → (g u).id ≡ u.id) (same_
 pub kept_by : {A B : Type 0} (view : A → B) (b : Bool) (x y : A) → view x ≡ view y → view (cond b x y) ≡ view y
 kept_by view true x y same = same
 kept_by view false x y same = refl
+
+any_more : (p : ℕ → Bool) (xs : List ℕ) (x : ℕ) → list_any p (xs ++ x ∷ []) ≡ (list_any p xs || p x)
+any_more p [] x = or_none (p x)
+  where
+    or_none : (b : Bool) → (b || false) ≡ b
+    or_none true = refl
+    or_none false = refl
+any_more p (y ∷ ys) x = ap (λ b. p y || b) (any_more p ys x) ∙ over (p y) (list_any p ys) (p x)
+  where
+    over : (a b c : Bool) → (a || (b || c)) ≡ ((a || b) || c)
+    over true b c = refl
+    over false b c = refl
+
+abbrev drafted : Bool → Bool → Unit → Unit
+drafted draft b u = if b then record u { draft = draft } else u
+
+twice : (draft a b : Bool) (u : Unit) → drafted draft b (drafted draft a u) ≡ drafted draft (a || b) u
+twice draft true true u = refl
+twice draft true false u = refl
+twice draft false true u = refl
+twice draft false false u = refl
+
+pub one_drafted : (draft : Bool) (id : ℕ) (u : Unit) → (drafted draft (has_id id u) u).id ≡ u.id
+one_drafted draft id u = kept_by (λ (u : Unit). u.id) (has_id id u) (record u { draft = draft }) u refl
+
+-- one unit after others
+pub drafts_more : (draft : Bool) (ids : List ℕ) (id : ℕ) (c : Catalogue)
+    → each (λ (u : Unit). drafted draft (has_id id u) u) (with_status ids draft c).forest ≡ (with_status (ids ++ id ∷ []) draft c).forest
+drafts_more draft ids id c = each_each (λ (u : Unit). drafted draft (is_chosen ids u) u) (λ (u : Unit). drafted draft (has_id id u) u) (λ (u : Unit). drafted draft (is_chosen (ids ++ id ∷ []) u) u)
+    (λ u.
+      ap (λ b. drafted draft b (drafted draft (is_chosen ids u) u)) (ap (nat_eq id) (kept_by (λ (u : Unit). u.id) (is_chosen ids u) (record u { draft = draft }) u refl))
+      ∙ twice draft (is_chosen ids u) (has_id id u) u
+      ∙ ap (λ b. drafted draft b u) (sym (any_more (λ i. has_id i u) ids id)))
+    c.forest
+
+pub status_of_none : (draft : Bool) (c : Catalogue) → with_status [] draft c ≡ c
+status_of_none draft c = ap (λ f. record c { forest = f }) (each_none c.forest)
+  where
+    each_none : (f : Forest Unit) → each (λ (u : Unit). u) f ≡ f
+    each_none Empty = refl
+    each_none (Node u children others) = rw (each_none children, each_none others) refl
+
+pub draft_step : (v : Version) (shows : Trees → Forest ℕ → Type 0) → ((old new : Trees) (f : Forest ℕ) → new 24 ≡ old 24 → shows old f → shows new f)
+    → (old new : Database) (o : OfficeRow) (c : Catalogue) (draft : Bool) (ids : List ℕ) (id : ℕ) (it : Shows shows v old o (with_status ids draft c)) → new.schema ≡ old.schema
+    → HasRows 14 (map unit_row (map (λ (u : Unit). drafted draft (has_id id u) u) it.catalogue.units.units)) old new → Shows shows v new o (with_status (ids ++ id ∷ []) draft c)
+draft_step v shows same old new o c draft ids id it schema_is wrote =
+    subst (λ f. Shows shows v new o (record c { forest = f })) (drafts_more draft ids id c)
+    (shows_changed (λ u. drafted draft (has_id id u) u) (one_drafted draft id) (λ u. kept_by (λ (u : Unit). u.values) (has_id id u) (record u { draft = draft }) u refl) v shows same old new o (with_status ids draft c) it schema_is wrote)

@@ -17,8 +17,7 @@ InOffice s = HasCleanDisk s → (version : Version) × (s.now.schema ≡ schema 
 
 -- the transaction goes on, and nothing was committed
 pub record GoesOn (old new : State) : Type 0 where
-  pub was_open : IsTrue old.is_open
-  pub is_open : IsTrue new.is_open
+  pub opened : new.is_open ≡ old.is_open
   pub committed : new.committed ≡ old.committed
   pub was_inside : old.in_transaction ≡ true
   pub is_inside : new.in_transaction ≡ true

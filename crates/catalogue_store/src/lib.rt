@@ -16,7 +16,7 @@ mod units;
 mod value;
 
 pub use catalogue::{create, known};
-pub use closing::set_closure;
+pub use closing::{set_closure, set_status};
 pub use fault::StoreFault;
 pub use links::LinkPlaces;
 pub use office::OfficeRow;
