@@ -17,6 +17,7 @@ pub mod Calls
 pub mod Touching
 pub mod Puts
 pub mod LinkShows
+pub mod Offices
 pub mod Beginning
 pub mod Statuses
 pub mod Finding

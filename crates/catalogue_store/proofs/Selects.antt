@@ -47,6 +47,9 @@ use Rattle.catalogue_store.proofs.Values.{cast_int, cast_null, cast_maybe}
 use Rattle.catalogue_store.proofs.Steps.{inserted, Inserted, updated, Updated, deleted, Deleted, is_referred_to}
 use Rattle.catalogue_store.proofs.Touching.{touched}
 use Rattle.catalogue_store.proofs.Tests.{only, both, eq_ints, eq_texts, same_number, same_bytes, by_one_int, by_two_ints}
+use Rattle.catalogue_store.specs.Counting.{capped}
+use Rattle.catalogue_store.proofs.Rows.{kept_all}
+use Rattle.catalogue_store.proofs.Counts.{summary_query, count_rows, counts}
 use Rattle.catalogue_store.proofs.Queries.{plain_query, answers}
 
 abbrev pub office_of : Version × OfficeRow → Row
@@ -294,6 +297,58 @@ office_is_rows old new  xs rows v has stored shown =
     answers 13 ([]) (col 1 3 ∷ col 1 4 ∷ col 1 5 ∷ col 1 6 ∷ col 1 7 ∷ col 1 8 ∷ col 1 9 ∷ col 1 10 ∷ []) ((col 1 0, ascending Binary) ∷ []) old.now.trees ([])
       office_of xs (λ _. true) (λ o. settings_cells o.1) (λ _. Int (pos 1) ∷ []) (λ _ _. Equal)
       stored (λ _. refl) (λ _. refl) (λ _. refl) (λ a b. by_one_int (pos 1) (pos 1)) rows (read.answer Null)
+
+abbrev pub count_units_text : List ℕ
+count_units_text = codes "SELECT count(*) FROM unit"
+
+abbrev pub count_units_command : Command
+count_units_command = Select (record { lets = []; body = summary_query (inner 14 end) [] count_rows }) (codes "count(*)" ∷ [])
+
+pub count_units_is : (v : Version) → command_of (understood (schema v) count_units_text) ≡ count_units_command
+unfolding understood everything
+count_units_is Links = refl
+count_units_is Spans = refl
+
+pub count_units_plain : (v : Version) → IsPlain (understood (schema v) count_units_text)
+unfolding understood everything
+count_units_plain Links = (refl, refl)
+count_units_plain Spans = (refl, refl)
+
+pub count_units_unlisted : (v : Version) → reads_listing (schema v) count_units_text ≡ false
+unfolding understood everything
+count_units_unlisted Links = refl
+count_units_unlisted Spans = refl
+
+pub count_units_rows : (old new : State) (xs : List Unit) (rows : List Row) (v : Version) → old.now.schema ≡ schema v → old.now.trees 14 ≡ map unit_row xs → Shown count_units_text [] old new rows → rows ≡ (Int (pos (capped (length xs))) ∷ []) ∷ []
+count_units_rows old new xs rows v has stored shown =
+    let read = reads_as count_units_text [] old new (schema v) has count_units_command (count_units_is v) (count_units_plain v) (count_units_unlisted v) rows shown in
+    counts 14 [] old.now.trees [] unit_row xs (λ _. true) stored (λ _. refl) rows (read.answer Null) ∙ ap (λ l. (Int (pos (capped (length l))) ∷ []) ∷ []) (kept_all xs)
+
+abbrev pub count_containers_text : List ℕ
+count_containers_text = codes "SELECT count(*) FROM container"
+
+abbrev pub count_containers_command : Command
+count_containers_command = Select (record { lets = []; body = summary_query (inner 18 end) [] count_rows }) (codes "count(*)" ∷ [])
+
+pub count_containers_is : (v : Version) → command_of (understood (schema v) count_containers_text) ≡ count_containers_command
+unfolding understood everything
+count_containers_is Links = refl
+count_containers_is Spans = refl
+
+pub count_containers_plain : (v : Version) → IsPlain (understood (schema v) count_containers_text)
+unfolding understood everything
+count_containers_plain Links = (refl, refl)
+count_containers_plain Spans = (refl, refl)
+
+pub count_containers_unlisted : (v : Version) → reads_listing (schema v) count_containers_text ≡ false
+unfolding understood everything
+count_containers_unlisted Links = refl
+count_containers_unlisted Spans = refl
+
+pub count_containers_rows : (old new : State) (xs : List (ℕ × BoxKey)) (rows : List Row) (v : Version) → old.now.schema ≡ schema v → old.now.trees 18 ≡ map container_row xs → Shown count_containers_text [] old new rows → rows ≡ (Int (pos (capped (length xs))) ∷ []) ∷ []
+count_containers_rows old new xs rows v has stored shown =
+    let read = reads_as count_containers_text [] old new (schema v) has count_containers_command (count_containers_is v) (count_containers_plain v) (count_containers_unlisted v) rows shown in
+    counts 18 [] old.now.trees [] container_row xs (λ _. true) stored (λ _. refl) rows (read.answer Null) ∙ ap (λ l. (Int (pos (capped (length l))) ∷ []) ∷ []) (kept_all xs)
 
 -- ---- the links
 

@@ -3,7 +3,8 @@
 ghost use Rattle.std.specs.Prelude.{◌≡◌, List, map, IfOk};
 
 use crate::fault::StoreFault;
-use isad_core::{BoxKey, Text};
+use crate::office::OfficeRow;
+use isad_core::{BoxKey, Day, Text};
 
 use sqlite::Row;
 use std::alloc::Global;
@@ -103,6 +104,29 @@ impl FromRow for Link {
             id: row.get(0)?,
             parent: row.get(1)?,
             ord: row.get(2)?,
+        })
+    }
+}
+
+impl FromRow for OfficeRow {
+    ghost use Rattle.catalogue_store.specs.Rows.{settings_cells};
+
+    ghost cells = { settings_cells };
+
+    fn read(row: &Row) -> Result<OfficeRow, StoreFault> {
+        let number: i32 = row.get(6)?;
+        let Some(day) = Day::from_number(number) else {
+            return Err(StoreFault::Schema);
+        };
+        Ok(OfficeRow {
+            country: Text(row.get(0)?),
+            repo: Text(row.get(1)?),
+            seats: row.get(2)?,
+            daily: row.get(3)?,
+            hands: row.get(4)?,
+            run_size: row.get(5)?,
+            day,
+            next_unit: row.get(7)?,
         })
     }
 }

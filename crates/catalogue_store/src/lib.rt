@@ -19,5 +19,5 @@ pub use catalogue::{create, known};
 pub use closing::{set_closure, set_status};
 pub use fault::StoreFault;
 pub use links::LinkPlaces;
-pub use office::OfficeRow;
+pub use office::{Office, OfficeRow, office_row};
 pub use units::NewUnit;

@@ -1,16 +1,26 @@
 //! The row of the office: its settings, its day and its next unit number.
 
-ghost use Rattle.std.specs.Prelude.{◌≡◌, ◌<◌, ◌^◌, OnOk, OnErr};
+ghost use Rattle.std.specs.Prelude.{◌≡◌, ◌<◌, ◌^◌, ℕ, List, [], ◌∷◌, map, length, OnOk, OnErr, IfOk};
 ghost use Rattle.sqlite.specs.Held.{state};
 ghost use Rattle.sqlite.specs.State.{HasCleanDisk};
-ghost use Rattle.catalogue_store.specs.Rows.{office_row};
-ghost use Rattle.catalogue_store.specs.Step.{InTransaction, Goes, IsCut, PutsRow};
+ghost use Rattle.isad_core.specs.declared.values.BoxKey.{BoxKey};
+ghost use Rattle.tree_core.specs.Forest.{size};
+ghost use Rattle.catalogue_store.specs.Counting.{capped};
+ghost use Rattle.catalogue_store.specs.Merging.{Catalogue};
+ghost use Rattle.catalogue_store.specs.Rows.{container_row, office_row as row_of_office, unit_row};
+ghost use Rattle.catalogue_store.specs.Schema.{Version};
+ghost use Rattle.catalogue_store.specs.Shows.{Shows, ShowsOffice};
+ghost use Rattle.catalogue_store.specs.Units.{«Unit» as Described};
+ghost use Rattle.catalogue_store.specs.declared.office.OfficeRow.{OfficeRow};
+ghost use Rattle.catalogue_store.specs.Step.{InOffice, InTransaction, Goes, Looks, IsCut, PutsRow};
 
+use crate::answer::read_all;
 use crate::fault::StoreFault;
 use crate::places::Places;
 use crate::value::{day, number, words};
 use isad_core::{Day, Text};
 use sqlite::{Alter, Connection};
+use std::alloc::Global;
 
 /// What the office's row tells.
 #[derive(Debug, PartialEq, Drop)]
@@ -40,7 +50,7 @@ pub(crate) fn insert_office<P: Places, S: Alter>(
 ) -> Result<(), StoreFault>
     requires { row.now.next_unit < 2 ^ 63 }
     ensures goes { InTransaction P.version (state S.Store conn.old) → OnOk result (Goes (state S.Store conn.old) (state S.Store conn.new)) }
-    ensures puts { InTransaction P.version (state S.Store conn.old) → HasCleanDisk (state S.Store conn.new) → OnOk result (PutsRow 13 (office_row P.version row.now) (state S.Store conn.old).now (state S.Store conn.new).now) }
+    ensures puts { InTransaction P.version (state S.Store conn.old) → HasCleanDisk (state S.Store conn.new) → OnOk result (PutsRow 13 (row_of_office P.version row.now) (state S.Store conn.old).now (state S.Store conn.new).now) }
     ensures cut { InTransaction P.version (state S.Store conn.old) → OnErr result (IsCut (state S.Store conn.old) (state S.Store conn.new)) }
 {
     let version = P::number();
@@ -59,4 +69,71 @@ pub(crate) fn insert_office<P: Places, S: Alter>(
         ],
     )?;
     Ok(())
+}
+
+/// The rows of the table: one.
+fn office_rows<S: Alter>(alloc: Global, conn: &mut Connection<S>) -> Result<Vec<OfficeRow>, StoreFault>
+    requires inside { InOffice (state S.Store conn.old) }
+    ensures rows { HasCleanDisk (state S.Store conn.new) → (version : Version) (o : OfficeRow) → ShowsOffice version (state S.Store conn.old).now.trees o → IfOk result (λ found. found.items ≡ o ∷ []) }
+    ensures looks { OnOk result (Looks (state S.Store conn.old) (state S.Store conn.new)) }
+    ensures cut { OnErr result (IsCut (state S.Store conn.old) (state S.Store conn.new)) }
+{
+    let rows = conn.query_all("SELECT country, repo, seats, daily, hands, run_size, day, next_unit FROM office ORDER BY one", &[])?;
+    read_all(alloc, &rows)
+}
+
+/// How many units there are.
+fn count_units<S: Alter>(alloc: Global, conn: &mut Connection<S>) -> Result<Vec<u64>, StoreFault>
+    requires inside { InOffice (state S.Store conn.old) }
+    ensures rows { HasCleanDisk (state S.Store conn.new) → (xs : List Described) → (state S.Store conn.old).now.trees 14 ≡ map unit_row xs → IfOk result (λ found. found.items ≡ capped (length xs) ∷ []) }
+    ensures looks { OnOk result (Looks (state S.Store conn.old) (state S.Store conn.new)) }
+    ensures cut { OnErr result (IsCut (state S.Store conn.old) (state S.Store conn.new)) }
+{
+    let rows = conn.query_all("SELECT count(*) FROM unit", &[])?;
+    read_all(alloc, &rows)
+}
+
+/// How many containers there are.
+fn count_containers<S: Alter>(alloc: Global, conn: &mut Connection<S>) -> Result<Vec<u64>, StoreFault>
+    requires inside { InOffice (state S.Store conn.old) }
+    ensures rows { HasCleanDisk (state S.Store conn.new) → (xs : List (ℕ × BoxKey)) → (state S.Store conn.old).now.trees 18 ≡ map container_row xs → IfOk result (λ found. found.items ≡ capped (length xs) ∷ []) }
+    ensures looks { OnOk result (Looks (state S.Store conn.old) (state S.Store conn.new)) }
+    ensures cut { OnErr result (IsCut (state S.Store conn.old) (state S.Store conn.new)) }
+{
+    let rows = conn.query_all("SELECT count(*) FROM container", &[])?;
+    read_all(alloc, &rows)
+}
+
+/// What the office's row tells, and how much is catalogued.
+#[derive(Debug, PartialEq, Drop)]
+pub struct Office {
+    pub row: OfficeRow,
+    /// How many units there are.
+    pub units: u64,
+    /// How many containers there are.
+    pub containers: u64,
+}
+
+/// The settings, the day, the next unit number, and how many units and containers there are.
+pub fn office_row<P: Places, S: Alter>(
+    alloc: Global,
+    conn: &mut Connection<S>,
+) -> Result<Office, StoreFault>
+    requires inside { InTransaction P.version (state S.Store conn.old) }
+    ensures answers { HasCleanDisk (state S.Store conn.new) → (o : OfficeRow) (c : Catalogue) → Shows P.shows P.version (state S.Store conn.old).now o c → IfOk result (λ office. office ≡ record { row = o; units = capped (size c.forest); containers = capped (length c.containers) }) }
+    ensures looks { OnOk result (Looks (state S.Store conn.old) (state S.Store conn.new)) }
+    ensures cut { OnErr result (IsCut (state S.Store conn.old) (state S.Store conn.new)) }
+{
+    let mut rows = office_rows(alloc, conn)?;
+    let units = count_units(alloc, conn)?;
+    let containers = count_containers(alloc, conn)?;
+    let (Some(row), [units], [containers]) = (rows.pop(), units.as_slice(), containers.as_slice())
+    else {
+        return Err(StoreFault::Schema);
+    };
+    Ok(Office {
+        row,
+        units: *units,
+        containers: *containers,
+    })
 }
