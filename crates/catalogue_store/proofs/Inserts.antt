@@ -15,7 +15,7 @@ use Rattle.sqlite.specs.declared.types.Value.TheVariants.{Null, Int, Text}
 use Rattle.sqlite.specs.Order.{Row}
 use Rattle.sqlite.specs.Values.{or_null}
 use Rattle.sqlite.specs.Cast.{cast_row}
-use Rattle.sqlite.specs.Edit.{edit_of, edited, next_rowid}
+use Rattle.sqlite.specs.Edit.{edit_of, edited, next_rowid, are_fresh, is_taken, left_by}
 use Rattle.sqlite.specs.Rowids.TheVariants.{Chosen}
 use Rattle.sqlite.specs.Tree.{Trees, put_row}
 use Rattle.sqlite.specs.Term.{Term, lit, col, op2}
@@ -45,6 +45,7 @@ use Rattle.catalogue_store.specs.declared.office.OfficeRow.{OfficeRow}
 use Rattle.catalogue_store.proofs.Values.{cast_int, cast_null, cast_maybe}
 use Rattle.catalogue_store.proofs.Steps.{inserted, Inserted, updated, Updated, deleted, Deleted, is_referred_to}
 use Rattle.catalogue_store.proofs.Touching.{touched}
+use Rattle.catalogue_store.proofs.Puts.{not_taken}
 
 abbrev pub insert_unit_text : List ℕ
 insert_unit_text = codes "INSERT INTO unit (id, source, legacy, level, draft, until) VALUES (?1, ?2, ?3, ?4, ?5, NULL)"
@@ -68,6 +69,9 @@ insert_unit_plain Spans = (refl, refl)
 put_insert_unit : (u : Unit) (db : Trees) → edited db (edit_of db unit [] Chosen 0 ((Int (pos u.id) ∷ Null ∷ Text u.source ∷ Text u.legacy ∷ Text u.values.level ∷ Int (flag u.draft) ∷ Null ∷ []) ∷ [])) ≡ put_row (unit_row (record u { until = None })) (db 14)
 put_insert_unit u db = rw (cast_int (pos u.id), cast_null, cast_int (flag u.draft)) refl
 
+new_insert_unit : (u : Unit) (db : Trees) → are_fresh (left_by db (edit_of db unit [] Chosen 0 ((Int (pos u.id) ∷ Null ∷ Text u.source ∷ Text u.legacy ∷ Text u.values.level ∷ Int (flag u.draft) ∷ Null ∷ []) ∷ []))) (edit_of db unit [] Chosen 0 ((Int (pos u.id) ∷ Null ∷ Text u.source ∷ Text u.legacy ∷ Text u.values.level ∷ Int (flag u.draft) ∷ Null ∷ []) ∷ [])).news ≡ (not (is_taken (db 14) (unit_row (record u { until = None }))) && true)
+new_insert_unit u db = rw (cast_int (pos u.id)) refl
+
 module _ (old new : State) (u : Unit) (count : ℕ) (v : Version) (has : old.now.schema ≡ schema v) (h : Executes insert_unit_text (Int (pos u.id) ∷ Text u.source ∷ Text u.legacy ∷ Text u.values.level ∷ Int (flag u.draft) ∷ []) old new (Ok count)) where
   insert_unit_w : Writes old new None insert_unit_command (statement_of insert_unit_text (understood (schema v) insert_unit_text)) (Int (pos u.id) ∷ Text u.source ∷ Text u.legacy ∷ Text u.values.level ∷ Int (flag u.draft) ∷ []) count
   insert_unit_w = runs_as insert_unit_text (Int (pos u.id) ∷ Text u.source ∷ Text u.legacy ∷ Text u.values.level ∷ Int (flag u.draft) ∷ []) old new (schema v) has insert_unit_command (insert_unit_is v) (insert_unit_plain v) count h
@@ -83,6 +87,11 @@ module _ (old new : State) (u : Unit) (count : ℕ) (v : Version) (has : old.now
 
   pub insert_unit_rows : new.now.trees 14 ≡ put_row (unit_row (record u { until = None })) (old.now.trees 14)
   insert_unit_rows = insert_unit_it.applies.rows ∙ ap (λ rows. edited old.now.trees (edit_of old.now.trees unit [] Chosen 0 rows)) insert_unit_it.source.1 ∙ put_insert_unit u old.now.trees
+
+  pub insert_unit_fresh : is_taken (old.now.trees 14) (unit_row (record u { until = None })) ≡ false
+  insert_unit_fresh =
+      not_taken (is_taken (old.now.trees 14) (unit_row (record u { until = None }))) (sym (new_insert_unit u old.now.trees)
+      ∙ subst (λ rows. are_fresh (left_by old.now.trees (edit_of old.now.trees unit [] Chosen 0 rows)) (edit_of old.now.trees unit [] Chosen 0 rows).news ≡ true) insert_unit_it.source.1 insert_unit_it.applies.fresh)
 
 abbrev pub insert_office_text : List ℕ
 insert_office_text = codes "INSERT INTO office (one, version, country, repo, seats, daily, hands, run_size, day, next_unit) VALUES (1, ?1, ?2, ?3, ?4, ?5, ?6, ?7, ?8, ?9)"
@@ -106,6 +115,9 @@ insert_office_plain Spans = (refl, refl)
 put_insert_office : (version : Version) (o : OfficeRow) (db : Trees) → edited db (edit_of db office [] Chosen 0 ((Int (pos 1) ∷ Null ∷ office_cells version o) ∷ [])) ≡ put_row (office_row version o) (db 13)
 put_insert_office version o db = rw (cast_int (pos 1), cast_null, cast_int (pos (version_number version)), cast_int (pos o.seats), cast_int (pos o.daily), cast_int (pos o.hands), cast_int (pos o.run_size), cast_int o.day, cast_int (pos o.next_unit)) refl
 
+new_insert_office : (version : Version) (o : OfficeRow) (db : Trees) → are_fresh (left_by db (edit_of db office [] Chosen 0 ((Int (pos 1) ∷ Null ∷ office_cells version o) ∷ []))) (edit_of db office [] Chosen 0 ((Int (pos 1) ∷ Null ∷ office_cells version o) ∷ [])).news ≡ (not (is_taken (db 13) (office_row version o)) && true)
+new_insert_office version o db = rw (cast_int (pos 1)) refl
+
 module _ (old new : State) (version : Version) (o : OfficeRow) (count : ℕ) (v : Version) (has : old.now.schema ≡ schema v) (h : Executes insert_office_text (office_cells version o) old new (Ok count)) where
   insert_office_w : Writes old new None insert_office_command (statement_of insert_office_text (understood (schema v) insert_office_text)) (office_cells version o) count
   insert_office_w = runs_as insert_office_text (office_cells version o) old new (schema v) has insert_office_command (insert_office_is v) (insert_office_plain v) count h
@@ -121,6 +133,11 @@ module _ (old new : State) (version : Version) (o : OfficeRow) (count : ℕ) (v 
 
   pub insert_office_rows : new.now.trees 13 ≡ put_row (office_row version o) (old.now.trees 13)
   insert_office_rows = insert_office_it.applies.rows ∙ ap (λ rows. edited old.now.trees (edit_of old.now.trees office [] Chosen 0 rows)) insert_office_it.source.1 ∙ put_insert_office version o old.now.trees
+
+  pub insert_office_fresh : is_taken (old.now.trees 13) (office_row version o) ≡ false
+  insert_office_fresh =
+      not_taken (is_taken (old.now.trees 13) (office_row version o)) (sym (new_insert_office version o old.now.trees)
+      ∙ subst (λ rows. are_fresh (left_by old.now.trees (edit_of old.now.trees office [] Chosen 0 rows)) (edit_of old.now.trees office [] Chosen 0 rows).news ≡ true) insert_office_it.source.1 insert_office_it.applies.fresh)
 
 abbrev pub insert_container_text : List ℕ
 insert_container_text = codes "INSERT INTO container (id, name, location, kind) VALUES (?1, ?2, ?3, ?4)"
@@ -144,6 +161,9 @@ insert_container_plain Spans = (refl, refl)
 put_insert_container : (n : ℕ) (b : BoxKey) (db : Trees) → edited db (edit_of db container [] Chosen 0 ((Int (pos n) ∷ Null ∷ Text b.name ∷ Text b.location ∷ Text b.kind ∷ []) ∷ [])) ≡ put_row (container_row (n, b)) (db 18)
 put_insert_container n b db = rw (cast_int (pos n), cast_null) refl
 
+new_insert_container : (n : ℕ) (b : BoxKey) (db : Trees) → are_fresh (left_by db (edit_of db container [] Chosen 0 ((Int (pos n) ∷ Null ∷ Text b.name ∷ Text b.location ∷ Text b.kind ∷ []) ∷ []))) (edit_of db container [] Chosen 0 ((Int (pos n) ∷ Null ∷ Text b.name ∷ Text b.location ∷ Text b.kind ∷ []) ∷ [])).news ≡ (not (is_taken (db 18) (container_row (n, b))) && true)
+new_insert_container n b db = rw (cast_int (pos n)) refl
+
 module _ (old new : State) (n : ℕ) (b : BoxKey) (count : ℕ) (v : Version) (has : old.now.schema ≡ schema v) (h : Executes insert_container_text (Int (pos n) ∷ Text b.name ∷ Text b.location ∷ Text b.kind ∷ []) old new (Ok count)) where
   insert_container_w : Writes old new None insert_container_command (statement_of insert_container_text (understood (schema v) insert_container_text)) (Int (pos n) ∷ Text b.name ∷ Text b.location ∷ Text b.kind ∷ []) count
   insert_container_w = runs_as insert_container_text (Int (pos n) ∷ Text b.name ∷ Text b.location ∷ Text b.kind ∷ []) old new (schema v) has insert_container_command (insert_container_is v) (insert_container_plain v) count h
@@ -159,6 +179,11 @@ module _ (old new : State) (n : ℕ) (b : BoxKey) (count : ℕ) (v : Version) (h
 
   pub insert_container_rows : new.now.trees 18 ≡ put_row (container_row (n, b)) (old.now.trees 18)
   insert_container_rows = insert_container_it.applies.rows ∙ ap (λ rows. edited old.now.trees (edit_of old.now.trees container [] Chosen 0 rows)) insert_container_it.source.1 ∙ put_insert_container n b old.now.trees
+
+  pub insert_container_fresh : is_taken (old.now.trees 18) (container_row (n, b)) ≡ false
+  insert_container_fresh =
+      not_taken (is_taken (old.now.trees 18) (container_row (n, b))) (sym (new_insert_container n b old.now.trees)
+      ∙ subst (λ rows. are_fresh (left_by old.now.trees (edit_of old.now.trees container [] Chosen 0 rows)) (edit_of old.now.trees container [] Chosen 0 rows).news ≡ true) insert_container_it.source.1 insert_container_it.applies.fresh)
 
 abbrev pub insert_element_text : List ℕ
 insert_element_text = codes "INSERT INTO element (unit, k, value) VALUES (?1, ?2, ?3)"
@@ -182,6 +207,9 @@ insert_element_plain Spans = (refl, refl)
 put_insert_element : (u : ℕ) (k : ℕ) (value : Bytes) (db : Trees) → edited db (edit_of db element [] Chosen 0 ((Null ∷ Int (pos u) ∷ Int (pos k) ∷ Text value ∷ []) ∷ [])) ≡ put_row (element_row (record { row = next_rowid (db 16); unit = u; k = k; value = value })) (db 16)
 put_insert_element u k value db = rw (cast_null, cast_int (pos u), cast_int (pos k)) refl
 
+new_insert_element : (u : ℕ) (k : ℕ) (value : Bytes) (db : Trees) → are_fresh (left_by db (edit_of db element [] Chosen 0 ((Null ∷ Int (pos u) ∷ Int (pos k) ∷ Text value ∷ []) ∷ []))) (edit_of db element [] Chosen 0 ((Null ∷ Int (pos u) ∷ Int (pos k) ∷ Text value ∷ []) ∷ [])).news ≡ (not (is_taken (db 16) (element_row (record { row = next_rowid (db 16); unit = u; k = k; value = value }))) && true)
+new_insert_element u k value db = rw (cast_null) refl
+
 module _ (old new : State) (u : ℕ) (k : ℕ) (value : Bytes) (count : ℕ) (v : Version) (has : old.now.schema ≡ schema v) (h : Executes insert_element_text (Int (pos u) ∷ Int (pos k) ∷ Text value ∷ []) old new (Ok count)) where
   insert_element_w : Writes old new None insert_element_command (statement_of insert_element_text (understood (schema v) insert_element_text)) (Int (pos u) ∷ Int (pos k) ∷ Text value ∷ []) count
   insert_element_w = runs_as insert_element_text (Int (pos u) ∷ Int (pos k) ∷ Text value ∷ []) old new (schema v) has insert_element_command (insert_element_is v) (insert_element_plain v) count h
@@ -197,6 +225,11 @@ module _ (old new : State) (u : ℕ) (k : ℕ) (value : Bytes) (count : ℕ) (v 
 
   pub insert_element_rows : new.now.trees 16 ≡ put_row (element_row (record { row = next_rowid (old.now.trees 16); unit = u; k = k; value = value })) (old.now.trees 16)
   insert_element_rows = insert_element_it.applies.rows ∙ ap (λ rows. edited old.now.trees (edit_of old.now.trees element [] Chosen 0 rows)) insert_element_it.source.1 ∙ put_insert_element u k value old.now.trees
+
+  pub insert_element_fresh : is_taken (old.now.trees 16) (element_row (record { row = next_rowid (old.now.trees 16); unit = u; k = k; value = value })) ≡ false
+  insert_element_fresh =
+      not_taken (is_taken (old.now.trees 16) (element_row (record { row = next_rowid (old.now.trees 16); unit = u; k = k; value = value }))) (sym (new_insert_element u k value old.now.trees)
+      ∙ subst (λ rows. are_fresh (left_by old.now.trees (edit_of old.now.trees element [] Chosen 0 rows)) (edit_of old.now.trees element [] Chosen 0 rows).news ≡ true) insert_element_it.source.1 insert_element_it.applies.fresh)
 
 abbrev pub insert_housing_text : List ℕ
 insert_housing_text = codes "INSERT INTO housing (unit, ord, container) VALUES (?1, ?2, ?3)"
@@ -220,6 +253,9 @@ insert_housing_plain Spans = (refl, refl)
 put_insert_housing : (u : ℕ) (k : ℕ) (n : ℕ) (db : Trees) → edited db (edit_of db housing [] Chosen 0 ((Null ∷ Int (pos u) ∷ Int (pos k) ∷ Int (pos n) ∷ []) ∷ [])) ≡ put_row (housing_row (record { row = next_rowid (db 20); unit = u; ord = k; container = n })) (db 20)
 put_insert_housing u k n db = rw (cast_null, cast_int (pos u), cast_int (pos k), cast_int (pos n)) refl
 
+new_insert_housing : (u : ℕ) (k : ℕ) (n : ℕ) (db : Trees) → are_fresh (left_by db (edit_of db housing [] Chosen 0 ((Null ∷ Int (pos u) ∷ Int (pos k) ∷ Int (pos n) ∷ []) ∷ []))) (edit_of db housing [] Chosen 0 ((Null ∷ Int (pos u) ∷ Int (pos k) ∷ Int (pos n) ∷ []) ∷ [])).news ≡ (not (is_taken (db 20) (housing_row (record { row = next_rowid (db 20); unit = u; ord = k; container = n }))) && true)
+new_insert_housing u k n db = rw (cast_null) refl
+
 module _ (old new : State) (u : ℕ) (k : ℕ) (n : ℕ) (count : ℕ) (v : Version) (has : old.now.schema ≡ schema v) (h : Executes insert_housing_text (Int (pos u) ∷ Int (pos k) ∷ Int (pos n) ∷ []) old new (Ok count)) where
   insert_housing_w : Writes old new None insert_housing_command (statement_of insert_housing_text (understood (schema v) insert_housing_text)) (Int (pos u) ∷ Int (pos k) ∷ Int (pos n) ∷ []) count
   insert_housing_w = runs_as insert_housing_text (Int (pos u) ∷ Int (pos k) ∷ Int (pos n) ∷ []) old new (schema v) has insert_housing_command (insert_housing_is v) (insert_housing_plain v) count h
@@ -235,4 +271,9 @@ module _ (old new : State) (u : ℕ) (k : ℕ) (n : ℕ) (count : ℕ) (v : Vers
 
   pub insert_housing_rows : new.now.trees 20 ≡ put_row (housing_row (record { row = next_rowid (old.now.trees 20); unit = u; ord = k; container = n })) (old.now.trees 20)
   insert_housing_rows = insert_housing_it.applies.rows ∙ ap (λ rows. edited old.now.trees (edit_of old.now.trees housing [] Chosen 0 rows)) insert_housing_it.source.1 ∙ put_insert_housing u k n old.now.trees
+
+  pub insert_housing_fresh : is_taken (old.now.trees 20) (housing_row (record { row = next_rowid (old.now.trees 20); unit = u; ord = k; container = n })) ≡ false
+  insert_housing_fresh =
+      not_taken (is_taken (old.now.trees 20) (housing_row (record { row = next_rowid (old.now.trees 20); unit = u; ord = k; container = n }))) (sym (new_insert_housing u k n old.now.trees)
+      ∙ subst (λ rows. are_fresh (left_by old.now.trees (edit_of old.now.trees housing [] Chosen 0 rows)) (edit_of old.now.trees housing [] Chosen 0 rows).news ≡ true) insert_housing_it.source.1 insert_housing_it.applies.fresh)
 

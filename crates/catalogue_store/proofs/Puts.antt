@@ -1,5 +1,5 @@
 -- Rows that are put among others.
-use Rattle.std.proofs.Common.{◌≡◌, ◌≢◌, ◌⊎◌, inl, inr, ℕ, zero, suc, ◌≤◌, ◌<◌, ◌+◌, ℤ, pos, List, [], ◌∷◌, ◌++◌, map, filter, length, get_or, Bool, true, false, cond, ◌&&◌, ◌||◌, nat_eq, nat_lt, Ordering, Less, Equal, Greater, refl, sym, ap, subst, ◌∙◌, arith}
+use Rattle.std.proofs.Common.{◌≡◌, ◌≢◌, ◌⊎◌, inl, inr, ℕ, zero, suc, ◌≤◌, ◌<◌, ◌+◌, ℤ, pos, List, [], ◌∷◌, ◌++◌, map, filter, length, get_or, Bool, true, false, not, cond, ◌&&◌, ◌||◌, nat_eq, nat_lt, Ordering, Less, Equal, Greater, refl, sym, ap, subst, ◌∙◌, arith}
 use Rattle.std.specs.Ordering.{int_cmp, match_ordering, is_eq}
 use Rattle.std.specs.List.{AllByRecursion, list_any}
 use Rattle.std.specs.List.Sorted.{IsPermutation, IsNonDecreasingBy}
@@ -8,6 +8,7 @@ use Rattle.std.proofs.lemmas.List.Sorted.{IsPermutation-refl, IsPermutation-tran
 use Rattle.sqlite.specs.declared.types.Value.TheVariants.{Int}
 use Rattle.sqlite.specs.Order.{Row, value_cmp}
 use Rattle.sqlite.specs.Tree.{rowid, put_row, IsTable}
+use Rattle.sqlite.specs.Edit.{is_taken}
 use Rattle.sqlite_rules.specs.Lists.{Has}
 use Rattle.sqlite_rules.proofs.ListLemmas.{all_has}
 use Rattle.sqlite_trees.proofs.ListLemmas.{ascending_from_map, ascending_weaker}
@@ -32,6 +33,23 @@ module _ {A : Type 0} (row : A → Row) (key : A → ℤ) (keyed : (x : A) → r
       let table : IsTable (map row (put_by key new xs)) = subst IsTable (put_rows new xs) (IsTable-put_row (row new) (map row xs) (table_rises row key keyed xs up)) in
       ascending_weaker (λ a b. value_cmp (rowid (row a)) (rowid (row b)) ≡ Less) (λ a b. int_cmp (key a) (key b) ≡ Less) (λ a b h. sym (compared row key keyed a b) ∙ h) (put_by key new xs)
         (ascending_from_map (λ a b. value_cmp (rowid a) (rowid b) ≡ Less) row (put_by key new xs) table)
+
+pub not_taken : (b : Bool) → (not b && true) ≡ true → b ≡ false
+not_taken true h = absurd (let e : false ≡ true = h in cc)
+not_taken false h = refl
+
+free : (o : Ordering) (rest : Bool) → (is_eq o || rest) ≡ false → (o ≢ Equal) × (rest ≡ false)
+free Less rest h = ((λ e. let k : is_eq Less ≡ is_eq Equal = ap is_eq e in let f : false ≡ true = k in cc), h)
+free Equal rest h = absurd (let e : true ≡ false = h in cc)
+free Greater rest h = ((λ e. let k : is_eq Greater ≡ is_eq Equal = ap is_eq e in let f : false ≡ true = k in cc), h)
+
+module _ {A : Type 0} (row : A → Row) (key : A → ℤ) (keyed : (x : A) → rowid (row x) ≡ Int (key x)) where
+  pub fresh_key : (new : A) (xs : List A) → is_taken (map row xs) (row new) ≡ false → AllByRecursion (λ x. int_cmp (key x) (key new) ≢ Equal) xs
+  fresh_key new [] h = tt
+  fresh_key new (x ∷ xs) h =
+      let k : (is_eq (int_cmp (key x) (key new)) || is_taken (map row xs) (row new)) ≡ false = ap (λ o. is_eq o || is_taken (map row xs) (row new)) (sym (compared row key keyed x new)) ∙ h in
+      let both = free (int_cmp (key x) (key new)) (is_taken (map row xs) (row new)) k in
+      (both.0, fresh_key new xs both.1)
 
 -- a record with a new key is one more
 pub put_more : {A : Type 0} (key : A → ℤ) (new : A) (xs : List A) → AllByRecursion (λ x. int_cmp (key x) (key new) ≢ Equal) xs → IsPermutation (new ∷ xs) (put_by key new xs)

@@ -15,7 +15,7 @@ use Rattle.sqlite.specs.declared.types.Value.TheVariants.{Null, Int, Text}
 use Rattle.sqlite.specs.Order.{Row}
 use Rattle.sqlite.specs.Values.{or_null}
 use Rattle.sqlite.specs.Cast.{cast_row}
-use Rattle.sqlite.specs.Edit.{edit_of, edited, next_rowid}
+use Rattle.sqlite.specs.Edit.{edit_of, edited, next_rowid, are_fresh, is_taken, left_by}
 use Rattle.sqlite.specs.Rowids.TheVariants.{Chosen}
 use Rattle.sqlite.specs.Tree.{Trees, put_row}
 use Rattle.sqlite.specs.Term.{Term, lit, col, op2}
@@ -46,6 +46,7 @@ use Rattle.catalogue_store.specs.declared.office.OfficeRow.{OfficeRow}
 use Rattle.catalogue_store.proofs.Values.{cast_int, cast_null, cast_maybe}
 use Rattle.catalogue_store.proofs.Steps.{inserted, Inserted, updated, Updated, deleted, Deleted, is_referred_to}
 use Rattle.catalogue_store.proofs.Touching.{touched}
+use Rattle.catalogue_store.proofs.Puts.{not_taken}
 use Rattle.catalogue_store.proofs.Tests.{only, both, eq_ints, eq_texts, same_number, same_bytes, by_one_int, by_two_ints}
 use Rattle.catalogue_store.specs.Counting.{capped}
 use Rattle.catalogue_store.proofs.Rows.{kept_all}

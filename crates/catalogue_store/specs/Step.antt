@@ -4,6 +4,7 @@ use Rattle.std.specs.List.{AllByRecursion, list_any}
 use Rattle.sqlite.specs.Effect.{Database}
 use Rattle.sqlite.specs.Order.{Row}
 use Rattle.sqlite.specs.Tree.{put_row}
+use Rattle.sqlite.specs.Edit.{is_taken}
 use Rattle.sqlite.specs.State.{State, HasCleanDisk, Survives}
 use Rattle.catalogue_store.specs.Schema.{Version, schema}
 
@@ -57,9 +58,10 @@ pub record Looks (old new : State) : Type 0 where
   pub goes : Goes old new
   pub same : HasCleanDisk new → new.now ≡ old.now
 
--- the table with this tree has one row more, or another in place of the one with its number, and no other table is touched
+-- the table with this tree has one row more, whose number was free, and no other table is touched
 pub record PutsRow (tree : ℕ) (row : Row) (old new : Database) : Type 0 where
   pub rows : new.trees tree ≡ put_row row (old.trees tree)
+  pub fresh : is_taken (old.trees tree) row ≡ false
   pub only : OnlyTouches (tree ∷ []) old new
 
 -- the table with this tree has these rows, and no other table is touched

@@ -6,7 +6,7 @@ use Rattle.catalogue_store.specs.Step.{IsCut}
 use Rattle.catalogue_store.specs.Added.{unit_of}
 use Rattle.catalogue_store.proofs.Values.{bound_maybe}
 use Rattle.catalogue_store.proofs.Calls.{early, in_office, in_version, write_cut, write_went}
-use Rattle.catalogue_store.proofs.Inserts.{insert_housing_text, insert_housing_command, insert_housing_is, insert_housing_plain, insert_housing_done, insert_housing_rows, insert_housing_touches}
+use Rattle.catalogue_store.proofs.Inserts.{insert_housing_text, insert_housing_command, insert_housing_is, insert_housing_plain, insert_housing_done, insert_housing_rows, insert_housing_touches, insert_housing_fresh}
 use Rattle.catalogue_store.proofs.containers.insert_housing.Goals as goal
 
 pub returns-in_err-execute-clause-cut : goal.returns-in_err-execute-clause-cut
@@ -30,4 +30,4 @@ returns-clause-puts g c clean =
     let new = state g.S.Store c.execute.new.self in
     let ran = λ (clean : HasCleanDisk new). rw (c.number.ensures, c.number-2.ensures, c.number-3.ensures) at (c.in_ok-execute.ensures.runs clean) in
     let at = λ (clean : HasCleanDisk new). c.requires.inside (early old new _ c.execute.ensures.survives clean) in
-    record { rows = insert_housing_rows old new c.args.unit c.args.ord c.args.container c.in_ok-execute.field-0 (at clean).0 (at clean).1 (ran clean); only = insert_housing_touches old new c.args.unit c.args.ord c.args.container c.in_ok-execute.field-0 (at clean).0 (at clean).1 (ran clean) }
+    record { rows = insert_housing_rows old new c.args.unit c.args.ord c.args.container c.in_ok-execute.field-0 (at clean).0 (at clean).1 (ran clean); only = insert_housing_touches old new c.args.unit c.args.ord c.args.container c.in_ok-execute.field-0 (at clean).0 (at clean).1 (ran clean); fresh = insert_housing_fresh old new c.args.unit c.args.ord c.args.container c.in_ok-execute.field-0 (at clean).0 (at clean).1 (ran clean) }
