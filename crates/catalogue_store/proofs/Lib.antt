@@ -20,6 +20,7 @@ pub mod LinkShows
 pub mod Offices
 pub mod Beginning
 pub mod Statuses
+pub mod TextLemmas
 pub mod Finding
 pub mod Inserts
 pub mod Selects

@@ -37,3 +37,11 @@ both_touch old mid new a b (n ∷ ns) p q = (λ h. let k = none_of n a b h in q.
 
 pub touched_then : (a b : List ℕ) (old mid new : Database) → OnlyTouches a old mid → OnlyTouches b mid new → OnlyTouches (a ++ b) old new
 touched_then a b old mid new p q = both_touch old.trees mid.trees new.trees a b table_trees p q
+
+each_again : (old mid new : Trees) (a ns : List ℕ) → AllByRecursion (λ n. list_any (nat_eq n) a ≡ false → mid n ≡ old n) ns → AllByRecursion (λ n. list_any (nat_eq n) a ≡ false → new n ≡ mid n) ns
+    → AllByRecursion (λ n. list_any (nat_eq n) a ≡ false → new n ≡ old n) ns
+each_again old mid new a [] p q = tt
+each_again old mid new a (n ∷ ns) p q = (λ h. q.0 h ∙ p.0 h, each_again old mid new a ns p.1 q.1)
+
+pub touched_again : (a : List ℕ) (old mid new : Database) → OnlyTouches a old mid → OnlyTouches a mid new → OnlyTouches a old new
+touched_again a old mid new p q = each_again old.trees mid.trees new.trees a table_trees p q

@@ -10,6 +10,7 @@ pub mod Finding
 pub mod Put
 pub mod Counting
 pub mod Statuses
+pub mod Adding
 pub mod Creation
 pub mod Order
 pub mod Tests
