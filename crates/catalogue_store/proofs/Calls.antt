@@ -1,5 +1,5 @@
 -- What one statement leaves of the caller's transaction, for a text whose meaning is known.
-use Rattle.std.proofs.Common.{◌≡◌, ◌⊎◌, inl, inr, ℕ, List, [], Bool, true, false, IsTrue, Ok, Err, Result, OnOk, OnErr, Option, Some, None, refl, sym, ap, arith, subst, subst₂, ◌∙◌, append-nil, if◌then◌else◌}
+use Rattle.std.proofs.Common.{◌≡◌, ◌⊎◌, inl, inr, ℕ, List, Bool, true, false, IsTrue, Ok, Err, Result, OnOk, OnErr, None, refl, sym, ap, arith, subst, subst₂, ◌∙◌, append-nil, if◌then◌else◌}
 use Rattle.sqlite.specs.Order.{Row}
 use Rattle.sqlite.specs.Schema.{Schema}
 use Rattle.sqlite.specs.Tree.{Trees}
@@ -7,7 +7,7 @@ use Rattle.sqlite.specs.Command.{Command}
 use Rattle.sqlite.specs.Command.TheVariants.{Insert, Update, Delete, CreateTable, CreateIndex}
 use Rattle.sqlite.specs.declared.error.Error.{Error}
 use Rattle.sqlite.specs.Listing.{understood}
-use Rattle.sqlite.specs.State.{State, HasCleanDisk, Survives, Shown, Shows, Executes, FailsToQuery, IsUnchanged, IsRolledBack, CommitsBy, MayCommit, CommitsShowing}
+use Rattle.sqlite.specs.State.{State, HasCleanDisk, Survives, Shown, Shows, Executes, FailsToQuery, CommitsBy, MayCommit, CommitsShowing}
 use Rattle.sqlite.proofs.Callers.{IsPlain, command_of, statement_of, never_commits}
 use Rattle.sqlite.proofs.StateLemmas.{survives_weaker, survives_then}
 use Rattle.catalogue_store.specs.Schema.{Version, schema}
@@ -161,9 +161,9 @@ module _ (sql : List ℕ) (params : Row) (old new : State) (command : Command) (
           on = record {
             crash = read_crash s;
             within = λ clean.
-            let it = (same clean).0 in
-            let mode = (known (early old new _ s clean)).inside in
-            record { opened = both_open old new it.was_open it.is_open; committed = it.committed_is; was_inside = mode; is_inside = it.mode ∙ mode };
+                let it = (same clean).0 in
+                let mode = (known (early old new _ s clean)).inside in
+                record { opened = both_open old new it.was_open it.is_open; committed = it.committed_is; was_inside = mode; is_inside = it.mode ∙ mode };
           };
           schema = λ clean. ap (λ d. d.schema) (same clean).0.now_is;
         };

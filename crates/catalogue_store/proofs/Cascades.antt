@@ -1,11 +1,10 @@
 -- What ON DELETE CASCADE does to the children of a row.
-use Rattle.std.proofs.Common.{◌≡◌, ◌≢◌, ◌⊎◌, inl, inr, ℕ, zero, suc, ◌+◌, ℤ, List, [], ◌∷◌, ◌++◌, length, map, filter, Bool, true, false, not, Option, Some, None, Ok, Err, Result, refl, sym, ap, subst, subst₂, ◌∙◌, arith, append-nil, length-append}
+use Rattle.std.proofs.Common.{◌≡◌, ◌≢◌, inl, inr, ℕ, zero, suc, ℤ, List, [], ◌∷◌, ◌++◌, length, map, filter, Bool, true, false, not, Ok, refl, sym, ap, subst, subst₂, ◌∙◌, arith, append-nil, length-append}
 use Rattle.sqlite.specs.Order.{Row}
-use Rattle.sqlite.specs.Table.{Table}
 use Rattle.sqlite.specs.Schema.{Schema}
 use Rattle.sqlite.specs.Tree.{Trees}
-use Rattle.sqlite.specs.Edit.{Edit, Applies, taken_by}
-use Rattle.sqlite_rules.specs.Action.{Work, AreChildren, action_edit, Leads, Settles, Acts, ActsOn, Goes, works}
+use Rattle.sqlite.specs.Edit.{Applies, taken_by}
+use Rattle.sqlite_rules.specs.Action.{Work, AreChildren, action_edit, Leads, Settles, Acts, ActsOn, works}
 use Rattle.sqlite_rules.specs.declared.action.Deed.TheVariants.{Delete}
 use Rattle.sqlite_schema.specs.declared.schema.Keys.{Keys}
 use Rattle.std.specs.List.{AllByRecursion, list_any}
@@ -115,7 +114,7 @@ module _ (schema : Schema) (keys : Keys) (bare : Work) {A : Type 0} (row : A →
       ∙ without_all_is ids (map row xs)
       ∙ filter-map (λ r. not (list_any (λ id. has_rowid id r) ids)) row xs
       ∙ ap (map row) (filter_same (λ x. not (list_any (λ id. has_rowid id (row x)) ids)) (λ x. not (is_child x)) xs
-        (all_from (λ x. not (list_any (λ id. has_rowid id (row x)) ids) ≡ not (is_child x)) xs (λ x h. ap not (gone ids are x h))))
+      (all_from (λ x. not (list_any (λ id. has_rowid id (row x)) ids) ≡ not (is_child x)) xs (λ x h. ap not (gone ids are x h))))
 
   pub cascade_rows : IsCascade schema keys w old new → new bare.child.tree ≡ map row (filter (λ x. not (is_child x)) xs)
   cascade_rows (no_child are same) = ap (λ (d : Trees). d bare.child.tree) same ∙ left [] are

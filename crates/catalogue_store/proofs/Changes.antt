@@ -1,57 +1,35 @@
 -- What the UPDATEs and DELETEs do.
-use Rattle.std.proofs.Common.{◌≡◌, ℕ, ◌+◌, ℤ, pos, List, [], ◌∷◌, ◌++◌, map, filter, drop, length, codes, slice_get, Bool, true, false, not, ◌&&◌, if◌then◌else◌, Option, Some, None, option_map, Ok, Err, Result, refl, sym, ap, ap₂, subst, ◌∙◌, nat_eq}
-use Rattle.std.specs.Str.{bytes_eq}
-use Rattle.std.specs.Cmp.{IsTotalOrder, on_total, int_cmp_total}
-use Rattle.std.specs.Ordering.{int_cmp, ordering_then}
-use Rattle.std.specs.declared.cmp.Ordering.{Ordering}
+use Rattle.std.proofs.Common.{◌≡◌, ℕ, ℤ, pos, List, [], ◌∷◌, map, filter, drop, codes, Bool, true, false, not, if◌then◌else◌, Option, None, Ok, refl, ◌∙◌, nat_eq}
+use Rattle.std.specs.Ordering.{int_cmp}
 use Rattle.std.specs.declared.cmp.Ordering.TheVariants.{Equal}
-use Rattle.std.specs.List.{AllByRecursion}
-use Rattle.std.specs.List.Sorted.{IsPermutation, IsSorted}
-use Rattle.isad_core.specs.Texts.{Bytes}
 use Rattle.isad_core.specs.declared.values.Values.{«Values» as Description}
-use Rattle.isad_core.specs.declared.values.BoxKey.{BoxKey}
-use Rattle.tree_core.specs.declared.rows.Link.{Link}
-use Rattle.sqlite.specs.declared.types.Value.{Value}
 use Rattle.sqlite.specs.declared.types.Value.TheVariants.{Null, Int, Text}
 use Rattle.sqlite.specs.Order.{Row}
 use Rattle.sqlite.specs.Values.{or_null}
 use Rattle.sqlite.specs.Cast.{cast_row}
-use Rattle.sqlite.specs.Edit.{edit_of, edited, next_rowid, are_fresh, is_taken, left_by}
-use Rattle.sqlite.specs.Rowids.TheVariants.{Chosen}
-use Rattle.sqlite.specs.Tree.{Trees, put_row}
-use Rattle.sqlite.specs.Term.{Term, lit, col, op2}
+use Rattle.sqlite.specs.Term.{lit, col, op2}
 use Rattle.sqlite.specs.Query.{inner, end}
-use Rattle.sqlite.specs.Source.TheVariants.{Values}
 use Rattle.sqlite.specs.Command.{Command}
-use Rattle.sqlite.specs.Command.TheVariants.{Insert, Select, Update, Delete}
+use Rattle.sqlite.specs.Command.TheVariants.{Update, Delete}
 use Rattle.sqlite.specs.Collation.TheVariants.{Binary}
-use Rattle.sqlite.specs.Effect.{Database}
 use Rattle.sqlite_schema.specs.declared.program.Program.{Program}
 use Rattle.sqlite_schema.specs.Names.{same_name}
-use Rattle.sqlite_value.specs.Keys.{ascending, joined}
-use Rattle.sqlite_sql.specs.declared.ops.BinaryOp.TheVariants.{Arith, Compare, Is}
-use Rattle.sqlite_sql.specs.declared.ops.CompareOp.TheVariants.{Eq, Ne, Lt, Le, Gt, Ge}
-use Rattle.sqlite_sql.specs.declared.ops.ArithOp.TheVariants.{Add, Sub}
-use Rattle.sqlite.specs.Listing.{understood, reads_listing}
-use Rattle.sqlite.specs.State.{State, Shows, HasCleanDisk, Writes, Executes, Shown, mode_of}
-use Rattle.sqlite.proofs.Callers.{IsPlain, command_of, statement_of, runs_as, reads_as}
+use Rattle.sqlite_value.specs.Keys.{joined}
+use Rattle.sqlite_sql.specs.declared.ops.BinaryOp.TheVariants.{Compare}
+use Rattle.sqlite_sql.specs.declared.ops.CompareOp.TheVariants.{Eq}
+use Rattle.sqlite.specs.Listing.{understood}
+use Rattle.sqlite.specs.State.{State, Shows, Writes, Executes, mode_of}
+use Rattle.sqlite.proofs.Callers.{IsPlain, command_of, statement_of, runs_as}
 use Rattle.sqlite_tied.specs.Compute.{everything}
-use Rattle.sqlite_trees.proofs.ListLemmas.{ascending-filter}
-use Rattle.catalogue_store.specs.Schema.{Version, Links, Spans, schema, office, unit, element, container, housing, link}
+use Rattle.catalogue_store.specs.Schema.{Version, Links, Spans, schema, unit, element, housing}
 use Rattle.catalogue_store.specs.Units.{Unit}
-use Rattle.catalogue_store.specs.Rows.{flag, version_number, office_row, office_cells, settings_cells, unit_row, by_number, ElementRow, element_row, container_row, HousingRow, housing_row, link_row, by_id, by_element, by_housing, by_container}
+use Rattle.catalogue_store.specs.Rows.{flag, unit_row, ElementRow, element_row, HousingRow, housing_row}
 use Rattle.catalogue_store.specs.Order.{Rises}
 use Rattle.catalogue_store.specs.Step.{OnlyTouches}
-use Rattle.catalogue_store.specs.declared.office.OfficeRow.{OfficeRow}
 use Rattle.catalogue_store.proofs.Values.{cast_int, cast_null, cast_maybe}
-use Rattle.catalogue_store.proofs.Steps.{inserted, Inserted, updated, updated_with, Updated, deleted, Deleted, is_referred_to}
+use Rattle.catalogue_store.proofs.Steps.{updated_with, Updated, deleted, Deleted, is_referred_to}
 use Rattle.catalogue_store.proofs.Touching.{touched}
-use Rattle.catalogue_store.proofs.Puts.{not_taken}
-use Rattle.sqlite_rules.specs.Lists.{Has}
-use Rattle.sqlite_rules.proofs.ListLemmas.{all_has, has_filtered}
-use Rattle.sqlite.specs.Ops.{binary, fits_i64}
-use Rattle.catalogue_store.proofs.Rows.{had}
-use Rattle.catalogue_store.proofs.Tests.{only, both, eq_ints, is_maybes, same_number}
+use Rattle.catalogue_store.proofs.Tests.{only, same_number}
 use Rattle.catalogue_store.proofs.Queries.{plain_query, answers}
 use Rattle.catalogue_store.proofs.Updates.{deletes_rows, changes_rows}
 use Rattle.catalogue_store.proofs.ParentUpdates.{no_works_on_update, as_many, updates_freely as all_free}
@@ -114,7 +92,7 @@ module _ (old new : State) (unit_id : ℕ) (count : ℕ) (v : Version) (has : ol
   pub clear_elements_rows : (xs : List ElementRow) → old.now.trees 16 ≡ map element_row xs → Rises (λ (a b : ElementRow). int_cmp (a.row) (b.row)) xs → new.now.trees 16 ≡ map element_row (filter (λ x. not (nat_eq unit_id x.unit)) xs)
   clear_elements_rows xs stored up =
       let got = answers 16 (op2 (Compare Eq Binary) (col 1 1) (col 0 0) ∷ []) (col 1 0 ∷ []) [] old.now.trees (Int (pos unit_id) ∷ []) element_row xs (λ x. nat_eq unit_id x.unit) (λ (x : ElementRow). Int (x.row) ∷ []) (λ _. []) (λ _ _. Equal)
-        stored (λ e. only (same_number e.unit unit_id)) (λ _. refl) (λ _. refl) (λ _ _. refl) clear_elements_it.rows (clear_elements_it.answer.answer Null) in
+      stored (λ e. only (same_number e.unit unit_id)) (λ _. refl) (λ _. refl) (λ _ _. refl) clear_elements_it.rows (clear_elements_it.answer.answer Null) in
       clear_elements_it.applies.rows ∙ deletes_rows element element_row (λ x. x.row) (λ _. refl) old.now.trees xs stored up (λ x. nat_eq unit_id x.unit) got.0 got.1 (λ (x : ElementRow). Int (x.row) ∷ []) (λ _. refl) clear_elements_it.rows got.3
 
 abbrev pub clear_housings_text : List ℕ
@@ -152,7 +130,7 @@ module _ (old new : State) (unit_id : ℕ) (count : ℕ) (v : Version) (has : ol
   pub clear_housings_rows : (xs : List HousingRow) → old.now.trees 20 ≡ map housing_row xs → Rises (λ (a b : HousingRow). int_cmp (a.row) (b.row)) xs → new.now.trees 20 ≡ map housing_row (filter (λ x. not (nat_eq unit_id x.unit)) xs)
   clear_housings_rows xs stored up =
       let got = answers 20 (op2 (Compare Eq Binary) (col 1 1) (col 0 0) ∷ []) (col 1 0 ∷ []) [] old.now.trees (Int (pos unit_id) ∷ []) housing_row xs (λ x. nat_eq unit_id x.unit) (λ (x : HousingRow). Int (x.row) ∷ []) (λ _. []) (λ _ _. Equal)
-        stored (λ e. only (same_number e.unit unit_id)) (λ _. refl) (λ _. refl) (λ _ _. refl) clear_housings_it.rows (clear_housings_it.answer.answer Null) in
+      stored (λ e. only (same_number e.unit unit_id)) (λ _. refl) (λ _. refl) (λ _ _. refl) clear_housings_it.rows (clear_housings_it.answer.answer Null) in
       clear_housings_it.applies.rows ∙ deletes_rows housing housing_row (λ x. x.row) (λ _. refl) old.now.trees xs stored up (λ x. nat_eq unit_id x.unit) got.0 got.1 (λ (x : HousingRow). Int (x.row) ∷ []) (λ _. refl) clear_housings_it.rows got.3
 
 abbrev pub set_level_text : List ℕ
@@ -196,9 +174,9 @@ module _ (old new : State) (id : ℕ) (values : Description) (count : ℕ) (v : 
   pub set_level_rows : (xs : List Unit) → old.now.trees 14 ≡ map unit_row xs → Rises (λ (a b : Unit). int_cmp (pos a.id) (pos b.id)) xs → new.now.trees 14 ≡ map unit_row (map (λ (x : Unit). if nat_eq id x.id then record x { values = values } else x) xs)
   set_level_rows xs stored up =
       let got = answers 14 (op2 (Compare Eq Binary) (col 1 0) (col 0 0) ∷ []) (col 1 0 ∷ col 1 0 ∷ lit Null ∷ col 1 2 ∷ col 1 3 ∷ col 0 1 ∷ col 1 5 ∷ col 1 6 ∷ []) [] old.now.trees (Int (pos id) ∷ Text values.level ∷ []) unit_row xs (λ x. nat_eq id x.id) (set_level_source id values) (λ _. []) (λ _ _. Equal)
-        stored (λ u. only (same_number u.id id)) (λ _. refl) (λ _. refl) (λ _ _. refl) set_level_it.rows (set_level_it.answer.answer Null) in
+      stored (λ u. only (same_number u.id id)) (λ _. refl) (λ _. refl) (λ _ _. refl) set_level_it.rows (set_level_it.answer.answer Null) in
       set_level_it.applies.rows ∙ changes_rows unit unit_row (λ x. pos x.id) (λ _. refl) old.now.trees xs stored up (λ x. nat_eq id x.id) got.0 got.1 (set_level_source id values) (λ _. refl) set_level_it.rows got.3 (λ (x : Unit). record x { values = values }) (λ _. refl)
-        (λ x _. set_level_casts id values x) set_level_it.applies.fresh
+      (λ x _. set_level_casts id values x) set_level_it.applies.fresh
 
 abbrev pub set_draft_text : List ℕ
 set_draft_text = codes "UPDATE unit SET draft = ?2 WHERE id = ?1"
@@ -241,9 +219,9 @@ module _ (old new : State) (id : ℕ) (draft : Bool) (count : ℕ) (v : Version)
   pub set_draft_rows : (xs : List Unit) → old.now.trees 14 ≡ map unit_row xs → Rises (λ (a b : Unit). int_cmp (pos a.id) (pos b.id)) xs → new.now.trees 14 ≡ map unit_row (map (λ (x : Unit). if nat_eq id x.id then record x { draft = draft } else x) xs)
   set_draft_rows xs stored up =
       let got = answers 14 (op2 (Compare Eq Binary) (col 1 0) (col 0 0) ∷ []) (col 1 0 ∷ col 1 0 ∷ lit Null ∷ col 1 2 ∷ col 1 3 ∷ col 1 4 ∷ col 0 1 ∷ col 1 6 ∷ []) [] old.now.trees (Int (pos id) ∷ Int (flag draft) ∷ []) unit_row xs (λ x. nat_eq id x.id) (set_draft_source id draft) (λ _. []) (λ _ _. Equal)
-        stored (λ u. only (same_number u.id id)) (λ _. refl) (λ _. refl) (λ _ _. refl) set_draft_it.rows (set_draft_it.answer.answer Null) in
+      stored (λ u. only (same_number u.id id)) (λ _. refl) (λ _. refl) (λ _ _. refl) set_draft_it.rows (set_draft_it.answer.answer Null) in
       set_draft_it.applies.rows ∙ changes_rows unit unit_row (λ x. pos x.id) (λ _. refl) old.now.trees xs stored up (λ x. nat_eq id x.id) got.0 got.1 (set_draft_source id draft) (λ _. refl) set_draft_it.rows got.3 (λ (x : Unit). record x { draft = draft }) (λ _. refl)
-        (λ x _. set_draft_casts id draft x) set_draft_it.applies.fresh
+      (λ x _. set_draft_casts id draft x) set_draft_it.applies.fresh
 
 abbrev pub set_until_text : List ℕ
 set_until_text = codes "UPDATE unit SET until = ?2 WHERE id = ?1"
@@ -286,7 +264,6 @@ module _ (old new : State) (id : ℕ) (until : Option ℤ) (count : ℕ) (v : Ve
   pub set_until_rows : (xs : List Unit) → old.now.trees 14 ≡ map unit_row xs → Rises (λ (a b : Unit). int_cmp (pos a.id) (pos b.id)) xs → new.now.trees 14 ≡ map unit_row (map (λ (x : Unit). if nat_eq id x.id then record x { until = until } else x) xs)
   set_until_rows xs stored up =
       let got = answers 14 (op2 (Compare Eq Binary) (col 1 0) (col 0 0) ∷ []) (col 1 0 ∷ col 1 0 ∷ lit Null ∷ col 1 2 ∷ col 1 3 ∷ col 1 4 ∷ col 1 5 ∷ col 0 1 ∷ []) [] old.now.trees (Int (pos id) ∷ or_null Int until ∷ []) unit_row xs (λ x. nat_eq id x.id) (set_until_source id until) (λ _. []) (λ _ _. Equal)
-        stored (λ u. only (same_number u.id id)) (λ _. refl) (λ _. refl) (λ _ _. refl) set_until_it.rows (set_until_it.answer.answer Null) in
+      stored (λ u. only (same_number u.id id)) (λ _. refl) (λ _. refl) (λ _ _. refl) set_until_it.rows (set_until_it.answer.answer Null) in
       set_until_it.applies.rows ∙ changes_rows unit unit_row (λ x. pos x.id) (λ _. refl) old.now.trees xs stored up (λ x. nat_eq id x.id) got.0 got.1 (set_until_source id until) (λ _. refl) set_until_it.rows got.3 (λ (x : Unit). record x { until = until }) (λ _. refl)
-        (λ x _. set_until_casts id until x) set_until_it.applies.fresh
-
+      (λ x _. set_until_casts id until x) set_until_it.applies.fresh

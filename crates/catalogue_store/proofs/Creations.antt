@@ -1,22 +1,19 @@
 -- What the definitions of the tables make.
-use Rattle.std.proofs.Common.{◌≡◌, ◌⊎◌, inl, inr, ℕ, List, [], ◌∷◌, codes, slice_get, ◌++◌, drop, Bool, true, false, cond, Some, None, Ok, Err, Result, OnOk, refl, sym, ap, subst, ◌∙◌}
+use Rattle.std.proofs.Common.{◌≡◌, ℕ, List, [], ◌∷◌, codes, slice_get, ◌++◌, drop, false, cond, Some, None, Ok, refl, sym, ap, subst, ◌∙◌}
 use Rattle.std.specs.List.{AllByRecursion}
 use Rattle.sqlite.specs.Tree.{Trees}
 use Rattle.sqlite.specs.Table.{Table}
 use Rattle.sqlite.specs.Schema.{Schema}
-use Rattle.sqlite_schema.specs.declared.schema.Index.{Index}
-use Rattle.sqlite.specs.Command.{Command}
 use Rattle.sqlite.specs.Command.TheVariants.{CreateTable, CreateIndex}
-use Rattle.sqlite.specs.Change.{created, indexed, next_tree, KeepsRows, is_used}
+use Rattle.sqlite.specs.Change.{created, indexed, next_tree, KeepsRows}
 use Rattle.sqlite.specs.Does.{Tally, lacks_sequence}
 use Rattle.sqlite.specs.Effect.{Database}
 use Rattle.sqlite.specs.Listing.{understood}
 use Rattle.sqlite.specs.State.{State, Writes, Executes, Shows}
 use Rattle.sqlite.proofs.Callers.{runs_as}
 use Rattle.sqlite_tied.specs.Compute.{everything}
-use Rattle.catalogue_store.specs.Text.{command_of, statement_of}
-use Rattle.catalogue_store.specs.Creation.{Says, DefinesTable, DefinesIndex, HasMade}
-use Rattle.catalogue_store.specs.Schema.{Version, Links, Spans, desk_schema, desk_tables, schema, office, unit, element, container, housing, housing_by_container, link, span, index}
+use Rattle.catalogue_store.specs.Creation.{DefinesTable, DefinesIndex, HasMade}
+use Rattle.catalogue_store.specs.Schema.{Links, desk_schema, desk_tables, schema, office, unit, element, container, housing, housing_by_container, link, index}
 use Rattle.catalogue_store.proofs.Steps.{went, same_value}
 
 abbrev pub office_text : List ℕ
@@ -42,7 +39,6 @@ link_index_text = codes "CREATE INDEX link_by_parent ON link (parent, ord)"
 
 abbrev pub link_text : List ℕ
 link_text = codes "CREATE TABLE link (id INTEGER PRIMARY KEY, parent INTEGER, ord INTEGER NOT NULL) STRICT"
-
 
 -- ---- the schema after each definition in turn
 
@@ -138,7 +134,7 @@ module _ (before after : Schema) (text : List ℕ) (start : Database) (old new :
         schema_is = ap (λ (d : Database). d.schema) now ∙ is ∙ defines.is;
         kept = kept_desk start.trees old.now.trees new.now.trees desk_tables defines.more made.kept kept';
         empty = subst (λ ts. AllByRecursion (λ t. new.now.trees t.tree ≡ []) ts) (sym defines.last)
-          (one_more new.now.trees defines.more (record defines.table { tree = next_tree before }) (kept_more old.now.trees new.now.trees desk_tables defines.more empty' kept') fresh);
+            (one_more new.now.trees defines.more (record defines.table { tree = next_tree before }) (kept_more old.now.trees new.now.trees desk_tables defines.more empty' kept') fresh);
       } in
       (done, w.shown)
 
@@ -159,6 +155,6 @@ module _ (before after : Schema) (text : List ℕ) (start : Database) (old new :
         schema_is = ap (λ (d : Database). d.schema) now ∙ is ∙ defines.is;
         kept = kept_desk start.trees old.now.trees new.now.trees desk_tables defines.more made.kept kept';
         empty = subst (λ ts. AllByRecursion (λ t. new.now.trees t.tree ≡ []) ts) (sym (ap (drop 7) defines.same ∙ defines.rest))
-          (kept_more old.now.trees new.now.trees desk_tables defines.more empty' kept');
+            (kept_more old.now.trees new.now.trees desk_tables defines.more empty' kept');
       } in
       (done, w.shown)

@@ -1,9 +1,9 @@
 -- What an error leaves, whatever the statement is.
-use Rattle.std.proofs.Common.{◌≡◌, ◌⊎◌, inl, inr, ℕ, List, Bool, true, false, Ok, Err, Result, Option, Some, None, refl, subst}
+use Rattle.std.proofs.Common.{◌⊎◌, inl, inr, ℕ, List, false, Err, Option, Some, None, subst}
 use Rattle.std.proofs.lemmas.Bool.{cases_Bool}
 use Rattle.sqlite.specs.Order.{Row}
 use Rattle.sqlite.specs.declared.error.Error.{Error}
-use Rattle.sqlite.specs.State.{State, shows_rows, ExecutesIn, Executes, IsNotRun, IsUnchanged, RunsCommand, text_of, FailsToQuery, FailsToShow, Shown, ShowsRows}
+use Rattle.sqlite.specs.State.{State, shows_rows, ExecutesIn, Executes, IsNotRun, IsUnchanged, RunsCommand, FailsToQuery, FailsToShow, Shown, ShowsRows}
 use Rattle.sqlite.specs.Listing.{understood}
 use Rattle.sqlite.proofs.Callers.{IsPlain}
 use Rattle.sqlite_schema.specs.declared.command.Returning.{Returning}

@@ -1,49 +1,26 @@
 -- What the INSERTs do.
-use Rattle.std.proofs.Common.{◌≡◌, ℕ, ◌+◌, ℤ, pos, List, [], ◌∷◌, ◌++◌, map, filter, drop, length, codes, slice_get, Bool, true, false, not, ◌&&◌, if◌then◌else◌, Option, Some, None, option_map, Ok, Err, Result, refl, sym, ap, ap₂, subst, ◌∙◌, nat_eq}
-use Rattle.std.specs.Str.{bytes_eq}
-use Rattle.std.specs.Cmp.{IsTotalOrder, on_total, int_cmp_total}
-use Rattle.std.specs.Ordering.{int_cmp, ordering_then}
-use Rattle.std.specs.declared.cmp.Ordering.{Ordering}
-use Rattle.std.specs.declared.cmp.Ordering.TheVariants.{Equal}
-use Rattle.std.specs.List.{AllByRecursion}
-use Rattle.std.specs.List.Sorted.{IsPermutation, IsSorted}
+use Rattle.std.proofs.Common.{◌≡◌, ℕ, pos, List, [], ◌∷◌, codes, true, false, not, ◌&&◌, if◌then◌else◌, None, Ok, refl, sym, ap, subst, ◌∙◌}
 use Rattle.isad_core.specs.Texts.{Bytes}
 use Rattle.isad_core.specs.declared.values.BoxKey.{BoxKey}
-use Rattle.tree_core.specs.declared.rows.Link.{Link}
-use Rattle.sqlite.specs.declared.types.Value.{Value}
 use Rattle.sqlite.specs.declared.types.Value.TheVariants.{Null, Int, Text}
-use Rattle.sqlite.specs.Order.{Row}
-use Rattle.sqlite.specs.Values.{or_null}
-use Rattle.sqlite.specs.Cast.{cast_row}
 use Rattle.sqlite.specs.Edit.{edit_of, edited, next_rowid, are_fresh, is_taken, left_by}
 use Rattle.sqlite.specs.Rowids.TheVariants.{Chosen}
 use Rattle.sqlite.specs.Tree.{Trees, put_row}
-use Rattle.sqlite.specs.Term.{Term, lit, col, op2}
-use Rattle.sqlite.specs.Query.{inner, end}
+use Rattle.sqlite.specs.Term.{Term, lit, col}
 use Rattle.sqlite.specs.Source.TheVariants.{Values}
 use Rattle.sqlite.specs.Command.{Command}
-use Rattle.sqlite.specs.Command.TheVariants.{Insert, Select, Update, Delete}
-use Rattle.sqlite.specs.Collation.TheVariants.{Binary}
-use Rattle.sqlite.specs.Effect.{Database}
-use Rattle.sqlite_schema.specs.declared.program.Program.{Program}
-use Rattle.sqlite_schema.specs.Names.{same_name}
-use Rattle.sqlite_value.specs.Keys.{ascending, joined}
-use Rattle.sqlite_sql.specs.declared.ops.BinaryOp.TheVariants.{Arith, Compare, Is}
-use Rattle.sqlite_sql.specs.declared.ops.CompareOp.TheVariants.{Eq, Ne, Lt, Le, Gt, Ge}
-use Rattle.sqlite_sql.specs.declared.ops.ArithOp.TheVariants.{Add, Sub}
-use Rattle.sqlite.specs.Listing.{understood, reads_listing}
-use Rattle.sqlite.specs.State.{State, Shows, HasCleanDisk, Writes, Executes, Shown, mode_of}
-use Rattle.sqlite.proofs.Callers.{IsPlain, command_of, statement_of, runs_as, reads_as}
+use Rattle.sqlite.specs.Command.TheVariants.{Insert}
+use Rattle.sqlite.specs.Listing.{understood}
+use Rattle.sqlite.specs.State.{State, Shows, Writes, Executes, mode_of}
+use Rattle.sqlite.proofs.Callers.{IsPlain, command_of, statement_of, runs_as}
 use Rattle.sqlite_tied.specs.Compute.{everything}
-use Rattle.sqlite_trees.proofs.ListLemmas.{ascending-filter}
-use Rattle.catalogue_store.specs.Schema.{Version, Links, Spans, schema, office, unit, element, container, housing, link}
+use Rattle.catalogue_store.specs.Schema.{Version, Links, Spans, schema, office, unit, element, container, housing}
 use Rattle.catalogue_store.specs.Units.{Unit}
-use Rattle.catalogue_store.specs.Rows.{flag, version_number, office_row, office_cells, settings_cells, unit_row, by_number, ElementRow, element_row, container_row, HousingRow, housing_row, link_row, by_id, by_element, by_housing, by_container}
-use Rattle.catalogue_store.specs.Order.{Rises}
+use Rattle.catalogue_store.specs.Rows.{flag, version_number, office_row, office_cells, unit_row, element_row, container_row, housing_row}
 use Rattle.catalogue_store.specs.Step.{OnlyTouches}
 use Rattle.catalogue_store.specs.declared.office.OfficeRow.{OfficeRow}
-use Rattle.catalogue_store.proofs.Values.{cast_int, cast_null, cast_maybe}
-use Rattle.catalogue_store.proofs.Steps.{inserted, Inserted, updated, Updated, deleted, Deleted, is_referred_to}
+use Rattle.catalogue_store.proofs.Values.{cast_int, cast_null}
+use Rattle.catalogue_store.proofs.Steps.{inserted, Inserted}
 use Rattle.catalogue_store.proofs.Touching.{touched}
 use Rattle.catalogue_store.proofs.Puts.{not_taken}
 
@@ -276,4 +253,3 @@ module _ (old new : State) (u : ℕ) (k : ℕ) (n : ℕ) (count : ℕ) (v : Vers
   insert_housing_fresh =
       not_taken (is_taken (old.now.trees 20) (housing_row (record { row = next_rowid (old.now.trees 20); unit = u; ord = k; container = n }))) (sym (new_insert_housing u k n old.now.trees)
       ∙ subst (λ rows. are_fresh (left_by old.now.trees (edit_of old.now.trees housing [] Chosen 0 rows)) (edit_of old.now.trees housing [] Chosen 0 rows).news ≡ true) insert_housing_it.source.1 insert_housing_it.applies.fresh)
-

@@ -1,8 +1,8 @@
 -- What a query on two tables answers, for typed records.
-use Rattle.std.proofs.Common.{◌≡◌, ℕ, ◌+◌, List, [], ◌∷◌, ◌++◌, length, filter, map, flat_map, get_or, Bool, true, false, cond, Ordering, refl, sym, ap, subst, ◌∙◌, arith}
+use Rattle.std.proofs.Common.{◌≡◌, ℕ, ◌+◌, List, [], ◌∷◌, filter, map, flat_map, get_or, Bool, cond, Ordering, sym, ap, subst, ◌∙◌, arith}
 use Rattle.std.specs.Ordering.{is_lt}
 use Rattle.std.specs.List.{list_all}
-use Rattle.std.specs.List.Sorted.{IsSorted, IsPermutation}
+use Rattle.std.specs.List.Sorted.{IsSorted}
 use Rattle.std.proofs.lemmas.List.{get_or-map, length-map}
 use Rattle.sqlite_value.specs.declared.keys.Key.{Key}
 use Rattle.sqlite.specs.Order.{Row}
@@ -63,5 +63,5 @@ module _ (t u : ℕ) (where_terms : List Term) (db : Trees) (params : Row) {A B 
       ∙ flat_map-map second row xs
       ∙ flat_map_same_on (λ x. second (row x)) (λ x. map (λ y. params ∷ row x ∷ other y ∷ []) (filter (together x) ys)) second_is xs
       ∙ flat_map_same_on (λ x. map (λ y. params ∷ row x ∷ other y ∷ []) (filter (together x) ys)) (λ x. map (λ p. params ∷ row p.0 ∷ other p.1 ∷ []) (map (λ y. (let p : A × B = (x, y) in p)) (filter (together x) ys)))
-        (λ x. sym (map-map (λ (p : A × B). params ∷ row p.0 ∷ other p.1 ∷ []) (λ y. (x, y)) (filter (together x) ys))) xs
+      (λ x. sym (map-map (λ (p : A × B). params ∷ row p.0 ∷ other p.1 ∷ []) (λ y. (x, y)) (filter (together x) ys))) xs
       ∙ sym (map-flat_map (λ (p : A × B). params ∷ row p.0 ∷ other p.1 ∷ []) (λ x. map (λ y. (x, y)) (filter (together x) ys)) xs)

@@ -1,5 +1,5 @@
 -- UPDATE of a table that foreign keys refer to with no ON UPDATE.
-use Rattle.std.proofs.Common.{◌≡◌, ◌⊎◌, inl, inr, ℕ, List, [], ◌∷◌, ◌++◌, length, Bool, true, false, ◌&&◌, ◌==◌, Option, Some, None, refl, sym, ap, ap₂, subst, ◌∙◌, arith}
+use Rattle.std.proofs.Common.{◌≡◌, ℕ, List, [], ◌∷◌, ◌++◌, length, Bool, true, false, ◌&&◌, ◌==◌, None, refl, sym, ap, ap₂, ◌∙◌, arith}
 use Rattle.std.specs.List.{list_all, flat_map, filter_map, cons_option}
 use Rattle.std.proofs.lemmas.Bool.Decides.{nat_tests}
 use Rattle.std.proofs.Common.{map, drop}
@@ -16,7 +16,6 @@ use Rattle.sqlite.specs.Schema.{Schema}
 use Rattle.sqlite_rules.specs.Action.{works, work_by, work_for, deed_for, pairs}
 use Rattle.sqlite_rules.proofs.ActionLemmas.{no_works}
 use Rattle.sqlite_schema.specs.Rules.{parent_key}
-use Rattle.sqlite_schema.specs.declared.schema.Keys.{Keys}
 use Rattle.sqlite_schema.specs.declared.schema.Keys.TheVariants.{Enforced}
 use Rattle.sqlite_schema.specs.declared.schema.Action.{Action}
 use Rattle.sqlite_schema.specs.declared.schema.Action.TheVariants.{NoAction}
@@ -58,7 +57,6 @@ no_works_on_update schema depth tree (o ∷ olds) (n ∷ news) free same = each 
         → flat_map (λ child. filter_map (work_for schema Enforced depth tree (o ∷ olds) (n ∷ news) child) child.references) tables ≡ []
     each [] h = refl
     each (t ∷ tables) h = let k = both_true _ _ h in ap₂ ◌++◌ (none t t.references k.0) (each tables k.1)
-
 
 -- an UPDATE takes out as many rows as it puts in
 pub as_many : (db : Trees) (table : Table) (rows : List Row) → length (taken_by db (edit_of db table (ids_of rows) Given 1 rows)) ≡ length (edit_of db table (ids_of rows) Given 1 rows).news

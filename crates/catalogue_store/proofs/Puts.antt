@@ -1,7 +1,7 @@
 -- Rows that are put among others.
-use Rattle.std.proofs.Common.{◌≡◌, ◌≢◌, ◌⊎◌, inl, inr, ℕ, zero, suc, ◌≤◌, ◌<◌, ◌+◌, ℤ, pos, List, [], ◌∷◌, ◌++◌, map, filter, length, get_or, Bool, true, false, not, cond, ◌&&◌, ◌||◌, nat_eq, nat_lt, Ordering, Less, Equal, Greater, refl, sym, ap, subst, ◌∙◌, arith}
+use Rattle.std.proofs.Common.{◌≡◌, ◌≢◌, inl, inr, ℕ, zero, suc, ◌≤◌, ◌<◌, ℤ, pos, List, [], ◌∷◌, map, length, get_or, Bool, true, false, not, cond, ◌&&◌, ◌||◌, nat_lt, Ordering, Less, Equal, Greater, refl, sym, ap, subst, ◌∙◌, arith}
 use Rattle.std.specs.Ordering.{int_cmp, match_ordering, is_eq}
-use Rattle.std.specs.List.{AllByRecursion, list_any}
+use Rattle.std.specs.List.{AllByRecursion}
 use Rattle.std.specs.List.Sorted.{IsPermutation, IsNonDecreasingBy}
 use Rattle.std.proofs.lemmas.Bool.Decides.{nat_tests}
 use Rattle.std.proofs.lemmas.List.Sorted.{IsPermutation-refl, IsPermutation-trans, IsPermutation-cons, IsPermutation-swap, IsNonDecreasingBy-short}
@@ -32,7 +32,7 @@ module _ {A : Type 0} (row : A → Row) (key : A → ℤ) (keyed : (x : A) → r
   put_rises new xs up =
       let table : IsTable (map row (put_by key new xs)) = subst IsTable (put_rows new xs) (IsTable-put_row (row new) (map row xs) (table_rises row key keyed xs up)) in
       ascending_weaker (λ a b. value_cmp (rowid (row a)) (rowid (row b)) ≡ Less) (λ a b. int_cmp (key a) (key b) ≡ Less) (λ a b h. sym (compared row key keyed a b) ∙ h) (put_by key new xs)
-        (ascending_from_map (λ a b. value_cmp (rowid a) (rowid b) ≡ Less) row (put_by key new xs) table)
+      (ascending_from_map (λ a b. value_cmp (rowid a) (rowid b) ≡ Less) row (put_by key new xs) table)
 
 pub not_taken : (b : Bool) → (not b && true) ≡ true → b ≡ false
 not_taken true h = absurd (let e : false ≡ true = h in cc)

@@ -1,20 +1,19 @@
 -- What a query on one table answers, for typed records.
-use Rattle.std.proofs.Common.{◌≡◌, ◌⊎◌, inl, inr, ℕ, zero, suc, ◌+◌, ◌≤◌, ◌<◌, ℤ, pos, negsuc, List, [], ◌∷◌, ◌++◌, length, filter, map, flat_map, get_or, Bool, true, false, cond, None, Some, Option, unwrap_or, slice_get, Ordering, Less, Equal, Greater, refl, sym, ap, subst, ◌∙◌, arith, nat_le}
-use Rattle.std.specs.Ordering.{is_lt, on}
-use Rattle.std.specs.List.{AllByRecursion, list_all}
+use Rattle.std.proofs.Common.{◌≡◌, ℕ, ◌+◌, pos, negsuc, List, [], ◌∷◌, ◌++◌, filter, map, flat_map, get_or, Bool, true, false, cond, None, unwrap_or, Ordering, refl, sym, ap, subst, ◌∙◌, arith, nat_le}
+use Rattle.std.specs.Ordering.{is_lt}
+use Rattle.std.specs.List.{list_all}
 use Rattle.std.specs.Cmp.{IsTotalOrder}
 use Rattle.catalogue_store.specs.Order.{Rises}
 use Rattle.catalogue_store.proofs.Sorted.{only_order}
 use Rattle.std.specs.List.Sorted.{IsSorted, IsPermutation}
 use Rattle.std.proofs.lemmas.List.{get_or-map, length-map}
 use Rattle.sqlite_value.specs.declared.keys.Key.{Key}
-use Rattle.sqlite.specs.declared.types.Value.{Value}
-use Rattle.sqlite.specs.declared.types.Value.TheVariants.{Null, Int}
+use Rattle.sqlite.specs.declared.types.Value.TheVariants.{Int}
 use Rattle.sqlite.specs.Order.{Row}
 use Rattle.sqlite.specs.Tree.{Trees}
 use Rattle.sqlite.specs.Term.{Term, lit, Env, eval_all, holds}
-use Rattle.sqlite.specs.Query.{Query, Join, inner, end, IsAnswer, output, output_cmp, Output, page, matches, key_cmp}
-use Rattle.sqlite.specs.Program.{overlay, given_at}
+use Rattle.sqlite.specs.Query.{Query, Join, inner, end, IsAnswer, output, output_cmp, Output, matches, key_cmp}
+use Rattle.sqlite.specs.Program.{overlay}
 use Rattle.sqlite_trees.proofs.ListLemmas.{map-map, filter-map, filter_same, all_of, pull_back}
 
 -- SELECT project FROM from WHERE filter ORDER BY order
@@ -42,7 +41,6 @@ module _ (t : ℕ) (where_terms project : List Term) (order : List (Term × Key)
       (shows : (x : A) → eval_all project (params ∷ row x ∷ []) ≡ show x)
       (keyed : (x : A) → eval_all (map (λ k. k.0) order) (params ∷ row x ∷ []) ≡ key x)
       (compares : (x y : A) → key_cmp 0 (map (λ k. k.1) order) (key x) (key y) ≡ cmp x y) where
-
     out : A → Output
     out x = (key x, show x)
 

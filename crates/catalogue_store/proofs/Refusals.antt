@@ -1,24 +1,24 @@
 -- Why an INSERT is refused, whatever the schema is.
-use Rattle.std.proofs.Common.{◌≡◌, ◌⊎◌, inl, inr, ℕ, zero, suc, List, [], ◌∷◌, ◌++◌, length, slice_get, Bool, true, false, Option, Some, None, Ok, Err, Result, refl, sym, ap, subst, ◌∙◌, append-nil, length-append, arith}
+use Rattle.std.proofs.Common.{◌≡◌, inl, inr, ℕ, zero, suc, List, [], ◌∷◌, ◌++◌, length, slice_get, Option, Some, None, Err, Result, refl, sym, ap, subst, ◌∙◌, append-nil, length-append, arith}
 use Rattle.sqlite.specs.Order.{Row}
 use Rattle.sqlite.specs.Table.{Table}
 use Rattle.sqlite.specs.Schema.{Schema}
 use Rattle.sqlite.specs.Source.{Source}
 use Rattle.sqlite.specs.Command.TheVariants.{Insert}
 use Rattle.sqlite.specs.Tree.{Trees}
-use Rattle.sqlite.specs.Edit.{Edit, edit_of, taken_by, Applies, IsRefused}
+use Rattle.sqlite.specs.Edit.{Edit, edit_of, taken_by, IsRefused}
 use Rattle.sqlite.specs.Rowids.TheVariants.{Chosen}
 use Rattle.sqlite.specs.declared.error.Error.{Error}
 use Rattle.sqlite.specs.declared.error.Error.TheVariants.{SqliteFailure}
 use Rattle.sqlite.specs.declared.error.ErrorCode.TheVariants.{ConstraintViolation}
 use Rattle.sqlite_schema.specs.declared.schema.Constraint.TheVariants.{ForeignKey}
 use Rattle.sqlite_rules.specs.declared.error.Refusal.{Refusal}
-use Rattle.sqlite_rules.specs.Action.{Writes, Leads, works}
+use Rattle.sqlite_rules.specs.Action.{Leads, works}
 use Rattle.sqlite_rules.proofs.ActionLemmas.{no_works}
 use Rattle.sqlite_schema.specs.Rules.{Refers}
 use Rattle.sqlite.specs.Effect.{Database, IsSource, RefusesSource, edit_error}
-use Rattle.sqlite.specs.Does.{Tally, Does, AtPlace, OnRows, due}
-use Rattle.sqlite.specs.Rows.{Written, Sourced, Edited, stamped}
+use Rattle.sqlite.specs.Does.{Does, AtPlace, OnRows, due}
+use Rattle.sqlite.specs.Rows.{Sourced, Edited}
 use Rattle.sqlite.specs.declared.run.Mode.{Mode}
 use Rattle.catalogue_store.proofs.Steps.{plain}
 

@@ -1,5 +1,5 @@
 -- Rows of typed records: what takes some out, and what puts them back changed.
-use Rattle.std.proofs.Common.{◌≡◌, ◌⊎◌, inl, inr, ℕ, ℤ, List, [], ◌∷◌, map, filter, Bool, true, false, not, ◌&&◌, ◌||◌, if◌then◌else◌, cond, Ordering, Less, Equal, Greater, refl, sym, ap, ap₂, subst, ◌∙◌}
+use Rattle.std.proofs.Common.{◌≡◌, inl, inr, ℤ, List, [], ◌∷◌, map, filter, Bool, true, false, not, ◌&&◌, ◌||◌, if◌then◌else◌, cond, Ordering, Less, Equal, Greater, refl, sym, ap, ap₂, subst, ◌∙◌}
 use Rattle.std.specs.Cmp.{IsTotalOrder, on_total, int_cmp_total, tied_itself, tied_back, both_ways}
 use Rattle.std.specs.Ordering.{int_cmp, is_eq}
 use Rattle.std.specs.List.{list_any}
@@ -118,7 +118,7 @@ module _ {A : Type 0} (row : A → Row) (key : A → ℤ) (keyed : (x : A) → r
         without_all_is (map key ys) (map row xs)
         ∙ filter-map (λ r. not (list_any (λ id. has_rowid id r) (map key ys))) row xs
         ∙ ap (map row) (filter_same (λ x. not (list_any (λ id. has_rowid id (row x)) (map key ys))) (λ x. not (keep x)) xs
-          (all_from (λ x. not (list_any (λ id. has_rowid id (row x)) (map key ys)) ≡ not (keep x)) xs (λ x h. ap not (gone x h))))
+        (all_from (λ x. not (list_any (λ id. has_rowid id (row x)) (map key ys)) ≡ not (keep x)) xs (λ x h. ap not (gone x h))))
 
     -- the records that are kept are changed, and not their keys
     module _ (change : A → A) (same_id : (x : A) → key (change x) ≡ key x) where
@@ -175,4 +175,4 @@ module _ {A : Type 0} (row : A → Row) (key : A → ℤ) (keyed : (x : A) → r
       replaced fresh =
           let low : IsTable left = subst IsTable (sym removed) (table_rises (filter (λ x. not (keep x)) xs) (ascending-filter _ (λ x. not (keep x)) xs up)) in
           same_rising (λ a b. value_cmp (rowid a) (rowid b)) (on_total rowid value_cmp_total) (put_all left news) (map row (map changed xs))
-            (IsTable-put_all news left low) (table_rises (map changed xs) rises_still) there (back fresh)
+          (IsTable-put_all news left low) (table_rises (map changed xs) rises_still) there (back fresh)

@@ -1,53 +1,31 @@
 -- What the queries answer.
-use Rattle.std.proofs.Common.{◌≡◌, ℕ, ◌+◌, ℤ, pos, List, [], ◌∷◌, ◌++◌, map, filter, drop, length, codes, slice_get, Bool, true, false, not, ◌&&◌, if◌then◌else◌, Option, Some, None, option_map, Ok, Err, Result, refl, sym, ap, ap₂, subst, ◌∙◌, nat_eq}
-use Rattle.std.specs.Str.{bytes_eq}
-use Rattle.std.specs.Cmp.{IsTotalOrder, on_total, int_cmp_total}
-use Rattle.std.specs.Ordering.{int_cmp, ordering_then}
-use Rattle.std.specs.declared.cmp.Ordering.{Ordering}
+use Rattle.std.proofs.Common.{◌≡◌, ℕ, pos, List, [], ◌∷◌, map, filter, length, codes, true, false, ◌&&◌, option_map, refl, ap, ap₂, ◌∙◌, nat_eq}
 use Rattle.std.specs.declared.cmp.Ordering.TheVariants.{Equal}
-use Rattle.std.specs.List.{AllByRecursion}
 use Rattle.std.specs.List.Sorted.{IsPermutation, IsSorted}
 use Rattle.isad_core.specs.Texts.{Bytes}
 use Rattle.isad_core.specs.declared.values.BoxKey.{BoxKey}
 use Rattle.tree_core.specs.declared.rows.Link.{Link}
-use Rattle.sqlite.specs.declared.types.Value.{Value}
 use Rattle.sqlite.specs.declared.types.Value.TheVariants.{Null, Int, Text}
 use Rattle.sqlite.specs.Order.{Row}
 use Rattle.sqlite.specs.Values.{or_null}
-use Rattle.sqlite.specs.Cast.{cast_row}
-use Rattle.sqlite.specs.Edit.{edit_of, edited, next_rowid, are_fresh, is_taken, left_by}
-use Rattle.sqlite.specs.Rowids.TheVariants.{Chosen}
-use Rattle.sqlite.specs.Tree.{Trees, put_row}
-use Rattle.sqlite.specs.Term.{Term, lit, col, op2}
+use Rattle.sqlite.specs.Term.{col, op2}
 use Rattle.sqlite.specs.Query.{inner, end}
-use Rattle.sqlite.specs.Source.TheVariants.{Values}
 use Rattle.sqlite.specs.Command.{Command}
-use Rattle.sqlite.specs.Command.TheVariants.{Insert, Select, Update, Delete}
+use Rattle.sqlite.specs.Command.TheVariants.{Select}
 use Rattle.sqlite.specs.Collation.TheVariants.{Binary}
-use Rattle.sqlite.specs.Effect.{Database}
-use Rattle.sqlite_schema.specs.declared.program.Program.{Program}
-use Rattle.sqlite_schema.specs.Names.{same_name}
-use Rattle.sqlite_value.specs.Keys.{ascending, joined}
-use Rattle.sqlite_sql.specs.declared.ops.BinaryOp.TheVariants.{Arith, Compare, Is}
-use Rattle.sqlite_sql.specs.declared.ops.CompareOp.TheVariants.{Eq, Ne, Lt, Le, Gt, Ge}
-use Rattle.sqlite_sql.specs.declared.ops.ArithOp.TheVariants.{Add, Sub}
+use Rattle.sqlite_value.specs.Keys.{ascending}
+use Rattle.sqlite_sql.specs.declared.ops.BinaryOp.TheVariants.{Compare}
+use Rattle.sqlite_sql.specs.declared.ops.CompareOp.TheVariants.{Eq}
 use Rattle.sqlite.specs.Listing.{understood, reads_listing}
-use Rattle.sqlite.specs.State.{State, HasCleanDisk, Writes, Executes, Shown, mode_of}
-use Rattle.sqlite.proofs.Callers.{IsPlain, command_of, statement_of, runs_as, reads_as}
+use Rattle.sqlite.specs.State.{State, Shown}
+use Rattle.sqlite.proofs.Callers.{IsPlain, command_of, reads_as}
 use Rattle.sqlite_tied.specs.Compute.{everything}
-use Rattle.sqlite_trees.proofs.ListLemmas.{ascending-filter}
-use Rattle.catalogue_store.specs.Schema.{Version, Links, Spans, schema, office, unit, element, container, housing, link}
+use Rattle.catalogue_store.specs.Schema.{Version, Links, Spans, schema, unit, container}
 use Rattle.catalogue_store.specs.Units.{Unit, is_from}
 use Rattle.catalogue_store.specs.Merging.{is_same_box}
-use Rattle.catalogue_store.specs.Rows.{flag, version_number, office_row, office_cells, settings_cells, unit_row, by_number, ElementRow, element_row, container_row, HousingRow, housing_row, link_row, by_id, by_element, by_housing, by_container}
-use Rattle.catalogue_store.specs.Order.{Rises}
-use Rattle.catalogue_store.specs.Step.{OnlyTouches}
+use Rattle.catalogue_store.specs.Rows.{flag, office_row, settings_cells, unit_row, by_number, ElementRow, element_row, container_row, HousingRow, housing_row, link_row, by_id, by_element, by_housing, by_container}
 use Rattle.catalogue_store.specs.declared.office.OfficeRow.{OfficeRow}
-use Rattle.catalogue_store.proofs.Values.{cast_int, cast_null, cast_maybe}
-use Rattle.catalogue_store.proofs.Steps.{inserted, Inserted, updated, Updated, deleted, Deleted, is_referred_to}
-use Rattle.catalogue_store.proofs.Touching.{touched}
-use Rattle.catalogue_store.proofs.Puts.{not_taken}
-use Rattle.catalogue_store.proofs.Tests.{only, both, eq_ints, eq_texts, same_number, same_bytes, by_one_int, by_two_ints}
+use Rattle.catalogue_store.proofs.Tests.{only, both, same_number, same_bytes, by_one_int, by_two_ints}
 use Rattle.catalogue_store.specs.Counting.{capped}
 use Rattle.catalogue_store.proofs.Rows.{kept_all}
 use Rattle.catalogue_store.proofs.Counts.{summary_query, count_rows, counts}
@@ -87,8 +65,8 @@ pub known_rows : (old new : State) (source legacy : Bytes) (xs : List Unit) (row
 known_rows old new source legacy xs rows v has stored shown =
     let read = reads_as known_text (Text source ∷ Text legacy ∷ []) old new (schema v) has known_command (known_is v) (known_plain v) (known_unlisted v) rows shown in
     answers 14 (op2 (Compare Eq Binary) (col 1 2) (col 0 0) ∷ op2 (Compare Eq Binary) (col 1 3) (col 0 1) ∷ []) (col 1 0 ∷ []) ((col 1 0, ascending Binary) ∷ []) old.now.trees (Text source ∷ Text legacy ∷ [])
-      unit_row xs (is_from source legacy) (λ u. Int (pos u.id) ∷ []) (λ (u : Unit). Int (pos u.id) ∷ []) by_number
-      stored (λ u. both (same_bytes u.source source) (same_bytes u.legacy legacy)) (λ _. refl) (λ _. refl) (λ a b. by_one_int (pos a.id) (pos b.id)) rows (read.answer Null)
+    unit_row xs (is_from source legacy) (λ u. Int (pos u.id) ∷ []) (λ (u : Unit). Int (pos u.id) ∷ []) by_number
+    stored (λ u. both (same_bytes u.source source) (same_bytes u.legacy legacy)) (λ _. refl) (λ _. refl) (λ a b. by_one_int (pos a.id) (pos b.id)) rows (read.answer Null)
 
 abbrev pub find_unit_text : List ℕ
 find_unit_text = codes "SELECT level, draft, until FROM unit WHERE id = ?1 ORDER BY id"
@@ -116,8 +94,8 @@ pub find_unit_rows : (old new : State) (id : ℕ) (xs : List Unit) (rows : List 
 find_unit_rows old new id xs rows v has stored shown =
     let read = reads_as find_unit_text (Int (pos id) ∷ []) old new (schema v) has find_unit_command (find_unit_is v) (find_unit_plain v) (find_unit_unlisted v) rows shown in
     answers 14 (op2 (Compare Eq Binary) (col 1 0) (col 0 0) ∷ []) (col 1 4 ∷ col 1 5 ∷ col 1 6 ∷ []) ((col 1 0, ascending Binary) ∷ []) old.now.trees (Int (pos id) ∷ [])
-      unit_row xs (λ u. nat_eq id u.id) (λ u. Text u.values.level ∷ Int (flag u.draft) ∷ or_null Int u.until ∷ []) (λ (u : Unit). Int (pos u.id) ∷ []) by_number
-      stored (λ u. only (same_number u.id id)) (λ _. refl) (λ _. refl) (λ a b. by_one_int (pos a.id) (pos b.id)) rows (read.answer Null)
+    unit_row xs (λ u. nat_eq id u.id) (λ u. Text u.values.level ∷ Int (flag u.draft) ∷ or_null Int u.until ∷ []) (λ (u : Unit). Int (pos u.id) ∷ []) by_number
+    stored (λ u. only (same_number u.id id)) (λ _. refl) (λ _. refl) (λ a b. by_one_int (pos a.id) (pos b.id)) rows (read.answer Null)
 
 -- ---- elements
 
@@ -147,8 +125,8 @@ pub elements_rows : (old new : State) (unit : ℕ) (xs : List ElementRow) (rows 
 elements_rows old new unit xs rows v has stored shown =
     let read = reads_as elements_text (Int (pos unit) ∷ []) old new (schema v) has elements_command (elements_is v) (elements_plain v) (elements_unlisted v) rows shown in
     answers 16 (op2 (Compare Eq Binary) (col 1 1) (col 0 0) ∷ []) (col 1 2 ∷ col 1 3 ∷ []) ((col 1 1, ascending Binary) ∷ (col 1 2, ascending Binary) ∷ []) old.now.trees (Int (pos unit) ∷ [])
-      element_row xs (λ e. nat_eq unit e.unit) (λ e. Int (pos e.k) ∷ Text e.value ∷ []) (λ (e : ElementRow). Int (pos e.unit) ∷ Int (pos e.k) ∷ []) by_element
-      stored (λ e. only (same_number e.unit unit)) (λ _. refl) (λ _. refl) (λ a b. by_two_ints (pos a.unit) (pos b.unit) (pos a.k) (pos b.k)) rows (read.answer Null)
+    element_row xs (λ e. nat_eq unit e.unit) (λ e. Int (pos e.k) ∷ Text e.value ∷ []) (λ (e : ElementRow). Int (pos e.unit) ∷ Int (pos e.k) ∷ []) by_element
+    stored (λ e. only (same_number e.unit unit)) (λ _. refl) (λ _. refl) (λ a b. by_two_ints (pos a.unit) (pos b.unit) (pos a.k) (pos b.k)) rows (read.answer Null)
 
 -- ---- containers and what they hold
 
@@ -178,8 +156,8 @@ pub housings_rows : (old new : State) (unit : ℕ) (xs : List HousingRow) (rows 
 housings_rows old new unit xs rows v has stored shown =
     let read = reads_as housings_text (Int (pos unit) ∷ []) old new (schema v) has housings_command (housings_is v) (housings_plain v) (housings_unlisted v) rows shown in
     answers 20 (op2 (Compare Eq Binary) (col 1 1) (col 0 0) ∷ []) (col 1 2 ∷ col 1 3 ∷ []) ((col 1 1, ascending Binary) ∷ (col 1 2, ascending Binary) ∷ []) old.now.trees (Int (pos unit) ∷ [])
-      housing_row xs (λ h. nat_eq unit h.unit) (λ h. Int (pos h.ord) ∷ Int (pos h.container) ∷ []) (λ (h : HousingRow). Int (pos h.unit) ∷ Int (pos h.ord) ∷ []) by_housing
-      stored (λ h. only (same_number h.unit unit)) (λ _. refl) (λ _. refl) (λ a b. by_two_ints (pos a.unit) (pos b.unit) (pos a.ord) (pos b.ord)) rows (read.answer Null)
+    housing_row xs (λ h. nat_eq unit h.unit) (λ h. Int (pos h.ord) ∷ Int (pos h.container) ∷ []) (λ (h : HousingRow). Int (pos h.unit) ∷ Int (pos h.ord) ∷ []) by_housing
+    stored (λ h. only (same_number h.unit unit)) (λ _. refl) (λ _. refl) (λ a b. by_two_ints (pos a.unit) (pos b.unit) (pos a.ord) (pos b.ord)) rows (read.answer Null)
 
 abbrev pub housed_text : List ℕ
 housed_text = codes "SELECT unit FROM housing WHERE container = ?1 ORDER BY unit, ord"
@@ -207,8 +185,8 @@ pub housed_rows : (old new : State) (container : ℕ) (xs : List HousingRow) (ro
 housed_rows old new container xs rows v has stored shown =
     let read = reads_as housed_text (Int (pos container) ∷ []) old new (schema v) has housed_command (housed_is v) (housed_plain v) (housed_unlisted v) rows shown in
     answers 20 (op2 (Compare Eq Binary) (col 1 3) (col 0 0) ∷ []) (col 1 1 ∷ []) ((col 1 1, ascending Binary) ∷ (col 1 2, ascending Binary) ∷ []) old.now.trees (Int (pos container) ∷ [])
-      housing_row xs (λ h. nat_eq container h.container) (λ h. Int (pos h.unit) ∷ []) (λ (h : HousingRow). Int (pos h.unit) ∷ Int (pos h.ord) ∷ []) by_housing
-      stored (λ h. only (same_number h.container container)) (λ _. refl) (λ _. refl) (λ a b. by_two_ints (pos a.unit) (pos b.unit) (pos a.ord) (pos b.ord)) rows (read.answer Null)
+    housing_row xs (λ h. nat_eq container h.container) (λ h. Int (pos h.unit) ∷ []) (λ (h : HousingRow). Int (pos h.unit) ∷ Int (pos h.ord) ∷ []) by_housing
+    stored (λ h. only (same_number h.container container)) (λ _. refl) (λ _. refl) (λ a b. by_two_ints (pos a.unit) (pos b.unit) (pos a.ord) (pos b.ord)) rows (read.answer Null)
 
 abbrev pub find_container_text : List ℕ
 find_container_text = codes "SELECT name, location, kind FROM container WHERE id = ?1 ORDER BY id"
@@ -236,8 +214,8 @@ pub find_container_rows : (old new : State) (id : ℕ) (xs : List (ℕ × BoxKey
 find_container_rows old new id xs rows v has stored shown =
     let read = reads_as find_container_text (Int (pos id) ∷ []) old new (schema v) has find_container_command (find_container_is v) (find_container_plain v) (find_container_unlisted v) rows shown in
     answers 18 (op2 (Compare Eq Binary) (col 1 0) (col 0 0) ∷ []) (col 1 2 ∷ col 1 3 ∷ col 1 4 ∷ []) ((col 1 0, ascending Binary) ∷ []) old.now.trees (Int (pos id) ∷ [])
-      container_row xs (λ c. nat_eq id c.0) (λ c. Text c.1.name ∷ Text c.1.location ∷ Text c.1.kind ∷ []) (λ (c : ℕ × BoxKey). Int (pos c.0) ∷ []) by_container
-      stored (λ c. only (same_number c.0 id)) (λ _. refl) (λ _. refl) (λ a b. by_one_int (pos a.0) (pos b.0)) rows (read.answer Null)
+    container_row xs (λ c. nat_eq id c.0) (λ c. Text c.1.name ∷ Text c.1.location ∷ Text c.1.kind ∷ []) (λ (c : ℕ × BoxKey). Int (pos c.0) ∷ []) by_container
+    stored (λ c. only (same_number c.0 id)) (λ _. refl) (λ _. refl) (λ a b. by_one_int (pos a.0) (pos b.0)) rows (read.answer Null)
 
 abbrev pub container_number_text : List ℕ
 container_number_text = codes "SELECT id FROM container WHERE name = ?1 AND location = ?2 AND kind = ?3 ORDER BY id"
@@ -265,8 +243,8 @@ pub container_number_rows : (old new : State) (b : BoxKey) (xs : List (ℕ × Bo
 container_number_rows old new b xs rows v has stored shown =
     let read = reads_as container_number_text (Text b.name ∷ Text b.location ∷ Text b.kind ∷ []) old new (schema v) has container_number_command (container_number_is v) (container_number_plain v) (container_number_unlisted v) rows shown in
     answers 18 (op2 (Compare Eq Binary) (col 1 2) (col 0 0) ∷ op2 (Compare Eq Binary) (col 1 3) (col 0 1) ∷ op2 (Compare Eq Binary) (col 1 4) (col 0 2) ∷ []) (col 1 0 ∷ []) ((col 1 0, ascending Binary) ∷ []) old.now.trees (Text b.name ∷ Text b.location ∷ Text b.kind ∷ [])
-      container_row xs (λ c. is_same_box c.1 b) (λ c. Int (pos c.0) ∷ []) (λ (c : ℕ × BoxKey). Int (pos c.0) ∷ []) by_container
-      stored (λ c. ap₂ ◌&&◌ (same_bytes c.1.name b.name) (both (same_bytes c.1.location b.location) (same_bytes c.1.kind b.kind))) (λ _. refl) (λ _. refl) (λ a b. by_one_int (pos a.0) (pos b.0)) rows (read.answer Null)
+    container_row xs (λ c. is_same_box c.1 b) (λ c. Int (pos c.0) ∷ []) (λ (c : ℕ × BoxKey). Int (pos c.0) ∷ []) by_container
+    stored (λ c. ap₂ ◌&&◌ (same_bytes c.1.name b.name) (both (same_bytes c.1.location b.location) (same_bytes c.1.kind b.kind))) (λ _. refl) (λ _. refl) (λ a b. by_one_int (pos a.0) (pos b.0)) rows (read.answer Null)
 
 -- ---- the office
 
@@ -291,13 +269,13 @@ unfolding understood everything
 office_is_unlisted Links = refl
 office_is_unlisted Spans = refl
 
-pub office_is_rows : (old new : State)  (xs : List (Version × OfficeRow)) (rows : List Row) (v : Version) → old.now.schema ≡ schema v → old.now.trees 13 ≡ map office_of xs → Shown office_is_text ([]) old new rows
+pub office_is_rows : (old new : State) (xs : List (Version × OfficeRow)) (rows : List Row) (v : Version) → old.now.schema ≡ schema v → old.now.trees 13 ≡ map office_of xs → Shown office_is_text ([]) old new rows
     → (ys : List (Version × OfficeRow)) × IsPermutation (filter (λ _. true) xs) ys × IsSorted (λ _ _. Equal) ys × (rows ≡ map (λ o. settings_cells o.1) ys)
-office_is_rows old new  xs rows v has stored shown =
+office_is_rows old new xs rows v has stored shown =
     let read = reads_as office_is_text ([]) old new (schema v) has office_is_command (office_is_is v) (office_is_plain v) (office_is_unlisted v) rows shown in
     answers 13 ([]) (col 1 3 ∷ col 1 4 ∷ col 1 5 ∷ col 1 6 ∷ col 1 7 ∷ col 1 8 ∷ col 1 9 ∷ col 1 10 ∷ []) ((col 1 0, ascending Binary) ∷ []) old.now.trees ([])
-      office_of xs (λ _. true) (λ o. settings_cells o.1) (λ _. Int (pos 1) ∷ []) (λ _ _. Equal)
-      stored (λ _. refl) (λ _. refl) (λ _. refl) (λ a b. by_one_int (pos 1) (pos 1)) rows (read.answer Null)
+    office_of xs (λ _. true) (λ o. settings_cells o.1) (λ _. Int (pos 1) ∷ []) (λ _ _. Equal)
+    stored (λ _. refl) (λ _. refl) (λ _. refl) (λ a b. by_one_int (pos 1) (pos 1)) rows (read.answer Null)
 
 abbrev pub count_units_text : List ℕ
 count_units_text = codes "SELECT count(*) FROM unit"
@@ -371,11 +349,10 @@ pub all_links_unlisted : reads_listing (schema Links) all_links_text ≡ false
 unfolding understood everything
 all_links_unlisted = refl
 
-pub all_links_rows : (old new : State)  (xs : List Link) (rows : List Row) → old.now.schema ≡ schema Links → old.now.trees 24 ≡ map link_row xs → Shown all_links_text ([]) old new rows
+pub all_links_rows : (old new : State) (xs : List Link) (rows : List Row) → old.now.schema ≡ schema Links → old.now.trees 24 ≡ map link_row xs → Shown all_links_text ([]) old new rows
     → (ys : List Link) × IsPermutation (filter (λ _. true) xs) ys × IsSorted by_id ys × (rows ≡ map (link_cells) ys)
-all_links_rows old new  xs rows has stored shown =
+all_links_rows old new xs rows has stored shown =
     let read = reads_as all_links_text ([]) old new (schema Links) has all_links_command all_links_is all_links_plain all_links_unlisted rows shown in
     answers 24 ([]) (col 1 0 ∷ col 1 2 ∷ col 1 3 ∷ []) ((col 1 0, ascending Binary) ∷ []) old.now.trees ([])
-      link_row xs (λ _. true) (link_cells) (λ (l : Link). Int (pos l.id) ∷ []) by_id
-      stored (λ _. refl) (λ _. refl) (λ _. refl) (λ a b. by_one_int (pos a.id) (pos b.id)) rows (read.answer Null)
-
+    link_row xs (λ _. true) (link_cells) (λ (l : Link). Int (pos l.id) ∷ []) by_id
+    stored (λ _. refl) (λ _. refl) (λ _. refl) (λ a b. by_one_int (pos a.id) (pos b.id)) rows (read.answer Null)

@@ -1,11 +1,10 @@
 -- A list that strictly rises is the only order of its elements that is sorted.
-use Rattle.std.proofs.Common.{◌≡◌, ◌⊎◌, inl, inr, ℕ, zero, suc, ◌+◌, ◌≤◌, ◌<◌, List, [], ◌∷◌, length, filter, get_or, Bool, true, false, cond, Ordering, Less, Equal, Greater, refl, sym, ap, subst, ◌∙◌, arith}
+use Rattle.std.proofs.Common.{◌≡◌, inl, inr, suc, ◌+◌, ◌≤◌, List, [], ◌∷◌, length, filter, get_or, Bool, true, false, cond, Ordering, Less, Equal, Greater, refl, sym, ap, subst, ◌∙◌, arith}
 use Rattle.std.specs.Ordering.{is_lt, is_eq, ordering_reverse}
 use Rattle.std.specs.Cmp.{IsTotalOrder, tied_itself}
 use Rattle.std.specs.List.{AllByRecursion}
 use Rattle.std.specs.List.Sorted.{IsSorted, IsPermutation}
 use Rattle.std.proofs.lemmas.List.Sorted.{length_permutation, IsPermutation-sym, ranks_by}
-use Rattle.sqlite.specs.Tree.{IsAscending}
 use Rattle.catalogue_store.specs.Order.{Rises}
 use Rattle.sqlite_rules.specs.Lists.{Has}
 use Rattle.sqlite_rules.proofs.ListLemmas.{all_has, all_from}
@@ -54,7 +53,7 @@ module _ {X : Type 0} (cmp : X → X → Ordering) (total : IsTotalOrder cmp) wh
   rises [] up few = tt
   rises (y ∷ ys) up few = (
     all_both (λ z. is_lt (cmp z y) ≡ false) (λ z. is_eq (cmp y z) ≡ false) (λ z. cmp y z ≡ Less) (λ z h k. less_from (cmp y z) (ap is_lt (sym (total.antisymm z y)) ∙ h) k) ys
-      (head_below y ys up) (none_from (λ z. is_eq (cmp y z)) ys (none_like y ys (few y))),
+        (head_below y ys up) (none_from (λ z. is_eq (cmp y z)) ys (none_like y ys (few y))),
     rises ys (sorted_tail y ys up) (λ v. fewer v y ys (few v)),
   )
 

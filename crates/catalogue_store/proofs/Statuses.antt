@@ -1,5 +1,5 @@
 -- What the tables show after units are changed in their places.
-use Rattle.std.proofs.Common.{◌≡◌, ℕ, ℤ, pos, List, [], ◌∷◌, ◌++◌, map, filter, Bool, true, false, if◌then◌else◌, cond, ◌||◌, nat_eq, refl, sym, ap, ap₂, subst, ◌∙◌}
+use Rattle.std.proofs.Common.{◌≡◌, ℕ, pos, List, [], ◌∷◌, ◌++◌, map, Bool, true, false, if◌then◌else◌, cond, ◌||◌, nat_eq, refl, sym, ap, ap₂, subst, ◌∙◌}
 use Rattle.std.specs.Ordering.{int_cmp}
 use Rattle.std.specs.declared.cmp.Ordering.TheVariants.{Less}
 use Rattle.std.specs.List.{AllByRecursion, list_any}
@@ -10,13 +10,13 @@ use Rattle.sqlite.specs.Effect.{Database}
 use Rattle.sqlite.specs.Tree.{Trees}
 use Rattle.sqlite_trees.proofs.ListLemmas.{ascending-map, ascending_weaker}
 use Rattle.tree_core.specs.Forest.{Forest, Empty, Node, nodes, each, has}
-use Rattle.catalogue_store.specs.Schema.{Version, schema}
+use Rattle.catalogue_store.specs.Schema.{Version}
 use Rattle.catalogue_store.specs.Units.{Unit, has_id}
 use Rattle.catalogue_store.specs.Merging.{Catalogue}
 use Rattle.catalogue_store.specs.Order.{Rises}
 use Rattle.catalogue_store.specs.Statuses.{with_status, is_chosen}
 use Rattle.catalogue_store.specs.Rows.{unit_row, by_number, ElementRow, HousingRow}
-use Rattle.catalogue_store.specs.Shows.{Shows, ShowsUnits, element_cells, elements_of, housing_cells, housings_of}
+use Rattle.catalogue_store.specs.Shows.{Shows, element_cells, elements_of, housing_cells, housings_of}
 use Rattle.catalogue_store.specs.Step.{HasRows}
 use Rattle.catalogue_store.specs.declared.office.OfficeRow.{OfficeRow}
 
@@ -72,8 +72,8 @@ module _ (g : Unit → Unit) (same_id : (u : Unit) → (g u).id ≡ u.id) (same_
             rows = kept.1.1.1.1.1.1.1.1.1.0 refl ∙ at.elements.rows;
             rise = at.elements.rise;
             are = subst (AllByRecursion (λ (u : Unit). IsPermutation (element_cells u.values) (elements_of u.id at.elements.elements))) (sym (nodes_each g f))
-              (all_map g (λ (u : Unit). IsPermutation (element_cells u.values) (elements_of u.id at.elements.elements)) (λ (u : Unit). IsPermutation (element_cells u.values) (elements_of u.id at.elements.elements))
-              (λ u h. rw (same_id u, same_values u) h) (nodes f) at.elements.are);
+                (all_map g (λ (u : Unit). IsPermutation (element_cells u.values) (elements_of u.id at.elements.elements)) (λ (u : Unit). IsPermutation (element_cells u.values) (elements_of u.id at.elements.elements))
+                (λ u h. rw (same_id u, same_values u) h) (nodes f) at.elements.are);
             others = all_same (λ (e : ElementRow). has (has_id e.unit) f ≡ true) (λ (e : ElementRow). has (has_id e.unit) (each g f) ≡ true) (λ e h. still_there f e.unit ∙ h) at.elements.elements at.elements.others;
           };
           containers = kept.1.1.1.1.1.1.1.1.1.1.0 refl ∙ at.containers;
@@ -82,13 +82,13 @@ module _ (g : Unit → Unit) (same_id : (u : Unit) → (g u).id ≡ u.id) (same_
             rows = kept.1.1.1.1.1.1.1.1.1.1.1.0 refl ∙ at.housings.rows;
             rise = at.housings.rise;
             are = subst (AllByRecursion (λ (u : Unit). IsPermutation (housing_cells c.containers u.values) (housings_of u.id at.housings.housings))) (sym (nodes_each g f))
-              (all_map g (λ (u : Unit). IsPermutation (housing_cells c.containers u.values) (housings_of u.id at.housings.housings)) (λ (u : Unit). IsPermutation (housing_cells c.containers u.values) (housings_of u.id at.housings.housings))
-              (λ u h. rw (same_id u, same_values u) h) (nodes f) at.housings.are);
+                (all_map g (λ (u : Unit). IsPermutation (housing_cells c.containers u.values) (housings_of u.id at.housings.housings)) (λ (u : Unit). IsPermutation (housing_cells c.containers u.values) (housings_of u.id at.housings.housings))
+                (λ u h. rw (same_id u, same_values u) h) (nodes f) at.housings.are);
             others = all_same (λ (h : HousingRow). has (has_id h.unit) f ≡ true) (λ (h : HousingRow). has (has_id h.unit) (each g f) ≡ true) (λ e h. still_there f e.unit ∙ h) at.housings.housings at.housings.others;
           };
         };
         shown = same old.trees new.trees (each (λ (u : Unit). u.id) (each g f)) (kept.1.1.1.1.1.1.1.1.1.1.1.1.0 refl)
-          (subst (shows old.trees) (sym (each_each g (λ (u : Unit). u.id) (λ (u : Unit). u.id) same_id f)) it.shown);
+            (subst (shows old.trees) (sym (each_each g (λ (u : Unit). u.id) (λ (u : Unit). u.id) same_id f)) it.shown);
       }
 
 pub kept_by : {A B : Type 0} (view : A → B) (b : Bool) (x y : A) → view x ≡ view y → view (cond b x y) ≡ view y
@@ -124,9 +124,9 @@ pub drafts_more : (draft : Bool) (ids : List ℕ) (id : ℕ) (c : Catalogue)
     → each (λ (u : Unit). drafted draft (has_id id u) u) (with_status ids draft c).forest ≡ (with_status (ids ++ id ∷ []) draft c).forest
 drafts_more draft ids id c = each_each (λ (u : Unit). drafted draft (is_chosen ids u) u) (λ (u : Unit). drafted draft (has_id id u) u) (λ (u : Unit). drafted draft (is_chosen (ids ++ id ∷ []) u) u)
     (λ u.
-      ap (λ b. drafted draft b (drafted draft (is_chosen ids u) u)) (ap (nat_eq id) (kept_by (λ (u : Unit). u.id) (is_chosen ids u) (record u { draft = draft }) u refl))
-      ∙ twice draft (is_chosen ids u) (has_id id u) u
-      ∙ ap (λ b. drafted draft b u) (sym (any_more (λ i. has_id i u) ids id)))
+    ap (λ b. drafted draft b (drafted draft (is_chosen ids u) u)) (ap (nat_eq id) (kept_by (λ (u : Unit). u.id) (is_chosen ids u) (record u { draft = draft }) u refl))
+    ∙ twice draft (is_chosen ids u) (has_id id u) u
+    ∙ ap (λ b. drafted draft b u) (sym (any_more (λ i. has_id i u) ids id)))
     c.forest
 
 pub status_of_none : (draft : Bool) (c : Catalogue) → with_status [] draft c ≡ c

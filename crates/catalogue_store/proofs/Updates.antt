@@ -1,5 +1,5 @@
 -- What UPDATE and DELETE leave of a table of typed records.
-use Rattle.std.proofs.Common.{◌≡◌, ℕ, ℤ, List, [], ◌∷◌, map, filter, drop, Bool, true, false, not, if◌then◌else◌, cond, refl, sym, ap, ap₂, subst, ◌∙◌}
+use Rattle.std.proofs.Common.{◌≡◌, ℤ, List, [], ◌∷◌, map, filter, drop, Bool, true, not, if◌then◌else◌, refl, sym, ap, ap₂, ◌∙◌}
 use Rattle.std.specs.List.{AllByRecursion}
 use Rattle.std.specs.List.Sorted.{IsPermutation}
 use Rattle.sqlite.specs.declared.types.Value.TheVariants.{Int}
@@ -14,7 +14,7 @@ use Rattle.sqlite_rules.specs.Lists.{Has}
 use Rattle.sqlite_rules.proofs.ListLemmas.{all_from}
 use Rattle.sqlite_trees.proofs.ListLemmas.{map-map}
 use Rattle.catalogue_store.specs.Order.{Rises}
-use Rattle.catalogue_store.proofs.Rows.{by_key, removed, replaced, changed}
+use Rattle.catalogue_store.proofs.Rows.{by_key, removed, replaced}
 
 pub given_as : (news rows : List Row) → numbered Given rows news ≡ news
 given_as [] rows = refl

@@ -1,11 +1,10 @@
 -- What a file of rows makes of a catalogue.
-use Rattle.std.specs.Prelude.{ℕ, zero, suc, ◌+◌, nat_eq, nat_lt, Bool, true, false, not, ◌&&◌, ◌||◌, if◌then◌else◌, List, [], ◌∷◌, ◌++◌, length, map, filter, find, Option, Some, None, option_map, unwrap_or, Result, Ok, Err}
-use Rattle.std.specs.List.{flat_map, list_any}
+use Rattle.std.specs.Prelude.{ℕ, suc, ◌+◌, nat_lt, Bool, not, ◌&&◌, if◌then◌else◌, List, [], ◌∷◌, ◌++◌, length, filter, find, Option, Some, None, option_map, unwrap_or, Result, Ok, Err}
+use Rattle.std.specs.List.{flat_map}
 use Rattle.std.specs.Option.{option_eq}
 use Rattle.std.specs.Str.{bytes_eq}
 use Rattle.isad_core.specs.Texts.{Bytes}
 use Rattle.isad_core.specs.declared.values.BoxKey.{BoxKey}
-use Rattle.isad_core.specs.declared.values.Values.{Values}
 use Rattle.atom_csv.specs.declared.file.Row.{Row}
 use Rattle.tree_core.specs.Forest.{Forest, Empty, Node, has, path, each, join}
 use Rattle.catalogue_store.specs.Units.{Unit, is_from}

@@ -1,9 +1,8 @@
 -- The rows of the catalogue's tables. A row is its rowid and then its columns; the column that is the INTEGER PRIMARY
 -- KEY is kept as NULL.
-use Rattle.std.specs.Prelude.{ℕ, ◌+◌, ℤ, pos, Bool, true, false, if◌then◌else◌, List, [], ◌∷◌, map, Option, Some, None, option_map}
+use Rattle.std.specs.Prelude.{ℕ, ◌+◌, ℤ, pos, Bool, true, false, List, [], ◌∷◌, option_map}
 use Rattle.std.specs.declared.cmp.Ordering.{Ordering}
 use Rattle.std.specs.Ordering.{int_cmp, ordering_then}
-use Rattle.sqlite.specs.declared.types.Value.{Value}
 use Rattle.sqlite.specs.declared.types.Value.TheVariants.{Null, Int, Text}
 use Rattle.sqlite.specs.Order.{Row}
 use Rattle.sqlite.specs.Values.{or_null}
@@ -32,7 +31,6 @@ settings_cells o =
 abbrev pub office_cells : Version → OfficeRow → Row
 office_cells version o =
     Int (pos (version_number version)) ∷ settings_cells o
-
 
 abbrev pub office_row : Version → OfficeRow → Row
 office_row version o = Int (pos 1) ∷ Null ∷ office_cells version o

@@ -1,7 +1,7 @@
 -- The tables of an office, in the order in which they are made: the desk's, the catalogue's, and that of the places.
 -- Every table is STRICT, and none has a CHECK. The table of the places is the last, so that a file that is brought
 -- from version 1 to version 2 has the very schema of one that was made in version 2.
-use Rattle.std.specs.Prelude.{ℕ, Bool, true, false, List, [], ◌∷◌, ◌++◌, Option, Some, None, codes, map}
+use Rattle.std.specs.Prelude.{ℕ, Bool, true, false, List, [], ◌∷◌, Option, Some, None, codes, map}
 use Rattle.sqlite.specs.Collation.TheVariants.{Binary}
 use Rattle.sqlite.specs.declared.types.Value.TheVariants.{Null}
 use Rattle.sqlite.specs.Table.{Table}

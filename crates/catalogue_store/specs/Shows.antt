@@ -1,5 +1,5 @@
 -- When the tables show a catalogue: each table has the rows that its part of the catalogue names, and no others.
-use Rattle.std.specs.Prelude.{◌≡◌, ℕ, zero, suc, ◌+◌, nat_eq, ℤ, Bool, true, List, [], ◌∷◌, map, filter, Option, Some, None, IsPermutation}
+use Rattle.std.specs.Prelude.{◌≡◌, ℕ, zero, suc, ◌+◌, nat_eq, true, List, [], ◌∷◌, map, filter, Option, Some, None, IsPermutation}
 use Rattle.std.specs.List.{AllByRecursion}
 use Rattle.std.proofs.Common.{◌∙◌}
 use Rattle.std.specs.Ordering.{int_cmp}

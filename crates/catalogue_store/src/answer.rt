@@ -5,11 +5,9 @@ ghost use Rattle.std.specs.Prelude.{◌≡◌, List, map, IfOk};
 use crate::fault::StoreFault;
 use crate::office::OfficeRow;
 use isad_core::{BoxKey, Day, Text};
-
 use sqlite::Row;
 use std::alloc::Global;
 use tree_core::Link;
-
 
 /// What a row of a query tells.
 pub(crate) trait FromRow {

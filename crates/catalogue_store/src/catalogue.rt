@@ -14,8 +14,8 @@ ghost use Rattle.catalogue_store.specs.Shows.{Shows, ShowsUnits};
 ghost use Rattle.catalogue_store.specs.Step.{InOffice, Continues, Looks, IsCut};
 ghost use Rattle.catalogue_store.specs.Units.{«Unit» as Described, is_from};
 
-use crate::making::{create_containers, create_units};
 use crate::fault::StoreFault;
+use crate::making::{create_containers, create_units};
 use crate::office::{OfficeRow, insert_office};
 use crate::places::Places;
 use crate::units::units_from;

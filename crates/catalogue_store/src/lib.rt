@@ -5,13 +5,12 @@ mod answer;
 mod catalogue;
 mod closing;
 mod containers;
-mod making;
 mod elements;
 mod fault;
 mod links;
+mod making;
 mod office;
 mod places;
-
 mod units;
 mod value;
 

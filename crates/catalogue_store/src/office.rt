@@ -72,13 +72,19 @@ pub(crate) fn insert_office<P: Places, S: Alter>(
 }
 
 /// The rows of the table: one.
-fn office_rows<S: Alter>(alloc: Global, conn: &mut Connection<S>) -> Result<Vec<OfficeRow>, StoreFault>
+fn office_rows<S: Alter>(
+    alloc: Global,
+    conn: &mut Connection<S>,
+) -> Result<Vec<OfficeRow>, StoreFault>
     requires inside { InOffice (state S.Store conn.old) }
     ensures rows { HasCleanDisk (state S.Store conn.new) → (version : Version) (o : OfficeRow) → ShowsOffice version (state S.Store conn.old).now.trees o → IfOk result (λ found. found.items ≡ o ∷ []) }
     ensures looks { OnOk result (Looks (state S.Store conn.old) (state S.Store conn.new)) }
     ensures cut { OnErr result (IsCut (state S.Store conn.old) (state S.Store conn.new)) }
 {
-    let rows = conn.query_all("SELECT country, repo, seats, daily, hands, run_size, day, next_unit FROM office ORDER BY one", &[])?;
+    let rows = conn.query_all(
+        "SELECT country, repo, seats, daily, hands, run_size, day, next_unit FROM office ORDER BY one",
+        &[],
+    )?;
     read_all(alloc, &rows)
 }
 
@@ -94,7 +100,10 @@ fn count_units<S: Alter>(alloc: Global, conn: &mut Connection<S>) -> Result<Vec<
 }
 
 /// How many containers there are.
-fn count_containers<S: Alter>(alloc: Global, conn: &mut Connection<S>) -> Result<Vec<u64>, StoreFault>
+fn count_containers<S: Alter>(
+    alloc: Global,
+    conn: &mut Connection<S>,
+) -> Result<Vec<u64>, StoreFault>
     requires inside { InOffice (state S.Store conn.old) }
     ensures rows { HasCleanDisk (state S.Store conn.new) → (xs : List (ℕ × BoxKey)) → (state S.Store conn.old).now.trees 18 ≡ map container_row xs → IfOk result (λ found. found.items ≡ capped (length xs) ∷ []) }
     ensures looks { OnOk result (Looks (state S.Store conn.old) (state S.Store conn.new)) }

@@ -1,4 +1,4 @@
-use Rattle.std.proofs.Common.{rules, ◌≡◌, refl, [], ◌∷◌, ◌∙◌, map}
+use Rattle.std.proofs.Common.{rules, []}
 use Rattle.sqlite.specs.Held.{state}
 use Rattle.sqlite.specs.Change.{KeepsRows}
 use Rattle.tree_core.specs.Forest.{Empty}
@@ -75,11 +75,11 @@ returns-clause-shows g c start making clean =
     let inside : InTransaction g.P.Places.version a3 = λ clean. ((step3.1 clean).0.schema_is, (step3.1 clean).1) in
     let a4 = state g.S.Store c.insert_office.new.conn in
     on_ok_both c.insert_office.result (Goes a3 a4) (PutsRow 13 (office_row g.P.Places.version c.args.row.now) a3.now a4.now)
-      (Shows g.P.Places.shows g.P.Places.version a4.now c.args.row.now (record { forest = Empty; containers = []; next = c.args.row.now.next_unit }))
-      (λ last puts.
-        let clean3 = early a3 a4 _ last.on.crash clean in
-        shows_beginning g.P.Places.version g.P.Places.shows g.met.P.Places.shows_same start a3.now a4.now c.args.row.now (step3.1 clean3).0 (last.schema clean) puts (c.in_ok-create.ensures.nothing start step2.1 clean3))
-      (c.insert_office.ensures.goes inside) (c.insert_office.ensures.puts inside clean)
+    (Shows g.P.Places.shows g.P.Places.version a4.now c.args.row.now (record { forest = Empty; containers = []; next = c.args.row.now.next_unit }))
+    (λ last puts.
+    let clean3 = early a3 a4 _ last.on.crash clean in
+    shows_beginning g.P.Places.version g.P.Places.shows g.met.P.Places.shows_same start a3.now a4.now c.args.row.now (step3.1 clean3).0 (last.schema clean) puts (c.in_ok-create.ensures.nothing start step2.1 clean3))
+    (c.insert_office.ensures.goes inside) (c.insert_office.ensures.puts inside clean)
 
 pub returns-clause-desk : goal.returns-clause-desk
 returns-clause-desk g c start making clean =
@@ -95,5 +95,5 @@ returns-clause-desk g c start making clean =
     let inside : InTransaction g.P.Places.version a3 = λ clean. ((step3.1 clean).0.schema_is, (step3.1 clean).1) in
     let a4 = state g.S.Store c.insert_office.new.conn in
     on_ok_both c.insert_office.result (Goes a3 a4) (PutsRow 13 (office_row g.P.Places.version c.args.row.now) a3.now a4.now) (KeepsRows desk_tables start.trees a4.now.trees)
-      (λ last puts. desk_kept g.P.Places.version start a3.now a4.now c.args.row.now (step3.1 (early a3 a4 _ last.on.crash clean)).0 puts)
-      (c.insert_office.ensures.goes inside) (c.insert_office.ensures.puts inside clean)
+    (λ last puts. desk_kept g.P.Places.version start a3.now a4.now c.args.row.now (step3.1 (early a3 a4 _ last.on.crash clean)).0 puts)
+    (c.insert_office.ensures.goes inside) (c.insert_office.ensures.puts inside clean)

@@ -1,4 +1,4 @@
-use Rattle.std.proofs.Common.{rules, ap, ◌≡◌, refl, subst, sym, ◌∙◌, map, slice_get}
+use Rattle.std.proofs.Common.{ap, ◌≡◌, subst, sym, ◌∙◌, map, slice_get}
 use Rattle.catalogue_store.specs.Units.{Unit, is_from}
 use Rattle.catalogue_store.specs.Finding.{Finds}
 use Rattle.catalogue_store.proofs.Finding.{finds_first}

@@ -1,10 +1,10 @@
-use Rattle.std.proofs.Common.{rules, ◌≡◌, ℕ, List, sym, subst, ◌∙◌}
+use Rattle.std.proofs.Common.{◌≡◌, ℕ, List, sym, subst, ◌∙◌}
 use Rattle.sqlite.specs.Effect.{Database}
 use Rattle.sqlite.specs.Held.{state}
 use Rattle.tree_core.specs.Forest.{each}
 use Rattle.catalogue_store.specs.Units.{Unit}
 use Rattle.catalogue_store.specs.Shows.{Shows}
-use Rattle.catalogue_store.specs.Statuses.{chosen_units, with_status}
+use Rattle.catalogue_store.specs.Statuses.{with_status}
 use Rattle.catalogue_store.proofs.Calls.{early}
 use Rattle.catalogue_store.proofs.closing.set_status.Goals as goal
 

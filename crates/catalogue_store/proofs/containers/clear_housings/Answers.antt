@@ -1,11 +1,8 @@
-use Rattle.std.proofs.Common.{rules, refl, ap, sym, pos}
+use Rattle.std.proofs.Common.{rules, refl}
 use Rattle.sqlite.specs.Held.{state}
 use Rattle.sqlite.specs.State.{HasCleanDisk}
-use Rattle.catalogue_store.specs.Schema.{Links}
 use Rattle.catalogue_store.specs.Step.{IsCut}
-use Rattle.catalogue_store.specs.Added.{unit_of}
-use Rattle.catalogue_store.proofs.Values.{bound_maybe}
-use Rattle.catalogue_store.proofs.Calls.{early, in_office, in_version, write_cut, write_went}
+use Rattle.catalogue_store.proofs.Calls.{early, in_office, write_cut, write_went}
 use Rattle.catalogue_store.proofs.Changes.{clear_housings_text, clear_housings_command, clear_housings_is, clear_housings_plain, clear_housings_done, clear_housings_rows, clear_housings_touches}
 use Rattle.catalogue_store.proofs.containers.clear_housings.Goals as goal
 

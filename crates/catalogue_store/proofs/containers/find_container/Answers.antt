@@ -1,18 +1,13 @@
-use Rattle.std.proofs.Common.{◌≡◌, ℕ, List, map, filter, nat_eq, true, rules, refl, ap, sym, pos, ◌∙◌}
+use Rattle.std.proofs.Common.{◌≡◌, ℕ, List, map, filter, nat_eq, rules, sym, ◌∙◌}
 use Rattle.std.proofs.lemmas.Result.{IfOk-weaker}
 use Rattle.sqlite.specs.Held.{state}
 use Rattle.sqlite.specs.State.{HasCleanDisk}
 use Rattle.isad_core.specs.declared.values.BoxKey.{BoxKey}
-use Rattle.tree_core.specs.declared.rows.Link.{Link}
-use Rattle.catalogue_store.specs.Schema.{Version, Links}
-use Rattle.catalogue_store.specs.Units.{Unit, is_from}
-use Rattle.catalogue_store.specs.Merging.{is_same_box}
-use Rattle.catalogue_store.specs.Rows.{ElementRow, HousingRow, by_number, by_element, by_housing, by_container, by_id}
+use Rattle.catalogue_store.specs.Rows.{by_container}
 use Rattle.catalogue_store.specs.Order.{IsOrdered}
 use Rattle.catalogue_store.specs.Step.{IsCut, Looks}
-use Rattle.catalogue_store.specs.declared.office.OfficeRow.{OfficeRow}
 use Rattle.sqlite_trees.proofs.ListLemmas.{map-map}
-use Rattle.catalogue_store.proofs.Calls.{early, in_office, in_version, read_cut, read_looks, cut_looks, on_ok_from}
+use Rattle.catalogue_store.proofs.Calls.{early, in_office, read_cut, read_looks, cut_looks, on_ok_from}
 use Rattle.catalogue_store.proofs.Selects.{find_container_text, find_container_command, find_container_is, find_container_plain, find_container_rows}
 use Rattle.catalogue_store.proofs.containers.find_container.Goals as goal
 
@@ -43,4 +38,4 @@ returns-clause-rows g c clean xs stored =
     let at = λ (clean : HasCleanDisk new). c.requires.inside (early old new _ c.query_all.ensures.survives clean) in
     let got = find_container_rows old new c.args.n xs _ (at clean).0 (at clean).1 stored shown in
     IfOk-weaker c.read_all.result (λ all. all.items ≡ map (λ (c2 : ℕ × BoxKey). c2.1) got.0) (λ all. (ys : List (ℕ × BoxKey)) × IsOrdered by_container (filter (λ (c2 : ℕ × BoxKey). nat_eq c.args.n c2.0) xs) ys × (all.items ≡ map (λ (c2 : ℕ × BoxKey). c2.1) ys)) (λ all same. (got.0, (got.1, got.2), same))
-      (c.read_all.ensures (map (λ (c2 : ℕ × BoxKey). c2.1) got.0) (c.deref.ensures.value ∙ got.3 ∙ sym (map-map _ (λ (c2 : ℕ × BoxKey). c2.1) got.0)))
+    (c.read_all.ensures (map (λ (c2 : ℕ × BoxKey). c2.1) got.0) (c.deref.ensures.value ∙ got.3 ∙ sym (map-map _ (λ (c2 : ℕ × BoxKey). c2.1) got.0)))

@@ -1,18 +1,12 @@
-use Rattle.std.proofs.Common.{◌≡◌, ℕ, List, map, filter, nat_eq, true, rules, refl, ap, sym, pos, ◌∙◌}
+use Rattle.std.proofs.Common.{◌≡◌, List, map, filter, nat_eq, rules, sym, ◌∙◌}
 use Rattle.std.proofs.lemmas.Result.{IfOk-weaker}
 use Rattle.sqlite.specs.Held.{state}
 use Rattle.sqlite.specs.State.{HasCleanDisk}
-use Rattle.isad_core.specs.declared.values.BoxKey.{BoxKey}
-use Rattle.tree_core.specs.declared.rows.Link.{Link}
-use Rattle.catalogue_store.specs.Schema.{Version, Links}
-use Rattle.catalogue_store.specs.Units.{Unit, is_from}
-use Rattle.catalogue_store.specs.Merging.{is_same_box}
-use Rattle.catalogue_store.specs.Rows.{ElementRow, HousingRow, by_number, by_element, by_housing, by_container, by_id}
+use Rattle.catalogue_store.specs.Rows.{HousingRow, by_housing}
 use Rattle.catalogue_store.specs.Order.{IsOrdered}
 use Rattle.catalogue_store.specs.Step.{IsCut, Looks}
-use Rattle.catalogue_store.specs.declared.office.OfficeRow.{OfficeRow}
 use Rattle.sqlite_trees.proofs.ListLemmas.{map-map}
-use Rattle.catalogue_store.proofs.Calls.{early, in_office, in_version, read_cut, read_looks, cut_looks, on_ok_from}
+use Rattle.catalogue_store.proofs.Calls.{early, in_office, read_cut, read_looks, cut_looks, on_ok_from}
 use Rattle.catalogue_store.proofs.Selects.{housed_text, housed_command, housed_is, housed_plain, housed_rows}
 use Rattle.catalogue_store.proofs.containers.housed_in.Goals as goal
 
@@ -43,4 +37,4 @@ returns-clause-rows g c clean xs stored =
     let at = λ (clean : HasCleanDisk new). c.requires.inside (early old new _ c.query_all.ensures.survives clean) in
     let got = housed_rows old new c.args.container xs _ (at clean).0 (at clean).1 stored shown in
     IfOk-weaker c.read_all.result (λ all. all.items ≡ map (λ (h : HousingRow). h.unit) got.0) (λ all. (ys : List HousingRow) × IsOrdered by_housing (filter (λ (h : HousingRow). nat_eq c.args.container h.container) xs) ys × (all.items ≡ map (λ (h : HousingRow). h.unit) ys)) (λ all same. (got.0, (got.1, got.2), same))
-      (c.read_all.ensures (map (λ (h : HousingRow). h.unit) got.0) (c.deref.ensures.value ∙ got.3 ∙ sym (map-map _ (λ (h : HousingRow). h.unit) got.0)))
+    (c.read_all.ensures (map (λ (h : HousingRow). h.unit) got.0) (c.deref.ensures.value ∙ got.3 ∙ sym (map-map _ (λ (h : HousingRow). h.unit) got.0)))

@@ -1,11 +1,8 @@
-use Rattle.std.proofs.Common.{rules, refl, ap, sym, pos}
+use Rattle.std.proofs.Common.{rules, refl}
 use Rattle.sqlite.specs.Held.{state}
 use Rattle.sqlite.specs.State.{HasCleanDisk}
-use Rattle.catalogue_store.specs.Schema.{Links}
 use Rattle.catalogue_store.specs.Step.{IsCut}
-use Rattle.catalogue_store.specs.Added.{unit_of}
-use Rattle.catalogue_store.proofs.Values.{bound_maybe}
-use Rattle.catalogue_store.proofs.Calls.{early, in_office, in_version, write_cut, write_went}
+use Rattle.catalogue_store.proofs.Calls.{early, in_office, write_cut, write_went}
 use Rattle.catalogue_store.proofs.Inserts.{insert_housing_text, insert_housing_command, insert_housing_is, insert_housing_plain, insert_housing_done, insert_housing_rows, insert_housing_touches, insert_housing_fresh}
 use Rattle.catalogue_store.proofs.containers.insert_housing.Goals as goal
 

@@ -1,11 +1,8 @@
-use Rattle.std.proofs.Common.{rules, refl, ap, sym, pos}
+use Rattle.std.proofs.Common.{rules, refl}
 use Rattle.sqlite.specs.Held.{state}
 use Rattle.sqlite.specs.State.{HasCleanDisk}
-use Rattle.catalogue_store.specs.Schema.{Links}
 use Rattle.catalogue_store.specs.Step.{IsCut}
-use Rattle.catalogue_store.specs.Added.{unit_of}
-use Rattle.catalogue_store.proofs.Values.{bound_maybe}
-use Rattle.catalogue_store.proofs.Calls.{early, in_office, in_version, write_cut, write_went}
+use Rattle.catalogue_store.proofs.Calls.{early, in_office, write_cut, write_went}
 use Rattle.catalogue_store.proofs.Inserts.{insert_element_text, insert_element_command, insert_element_is, insert_element_plain, insert_element_done, insert_element_rows, insert_element_touches, insert_element_fresh}
 use Rattle.catalogue_store.proofs.elements.insert_element.Goals as goal
 

@@ -1,4 +1,4 @@
-use Rattle.std.proofs.Common.{rules, ◌≡◌, ℕ, List, [], ◌∷◌, ap, sym, subst, option_copied}
+use Rattle.std.proofs.Common.{◌≡◌, List, [], ◌∷◌, ap, sym, subst, option_copied}
 use Rattle.sqlite.specs.Held.{state}
 use Rattle.sqlite.specs.Edit.{next_rowid}
 use Rattle.catalogue_store.specs.Adding.{AreElements, WithTexts, text_cells}
@@ -18,7 +18,7 @@ returns-in-Some-clause-adds g c clean xs at =
     let row : ElementRow = record { row = next_rowid (a.now.trees 16); unit = unit; k = c.element_number.result; value = value } in
     let e : text_cells c.args.place (option_copied c.args.text) ≡ (element_number c.args.place, value) ∷ [] = ap (λ t. text_cells c.args.place (option_copied t)) c.in-Some.is in
     on_ok_then c.insert_element.result (PutsRow 16 (element_row row) a.now b.now) ((ys : List ElementRow) × AreElements b.now.trees ys × WithTexts unit (text_cells c.args.place (option_copied c.args.text)) xs ys)
-      (λ puts.
-        let it = one_element a.now b.now unit c.element_number.result value xs at puts in
-        (it.0, it.1, subst (λ cells. WithTexts unit cells xs it.0) (sym e) (subst (λ k. WithTexts unit ((k, value) ∷ []) xs it.0) c.element_number.ensures.number it.2)))
-      (c.insert_element.ensures.puts clean)
+    (λ puts.
+    let it = one_element a.now b.now unit c.element_number.result value xs at puts in
+    (it.0, it.1, subst (λ cells. WithTexts unit cells xs it.0) (sym e) (subst (λ k. WithTexts unit ((k, value) ∷ []) xs it.0) c.element_number.ensures.number it.2)))
+    (c.insert_element.ensures.puts clean)

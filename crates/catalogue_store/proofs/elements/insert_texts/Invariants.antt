@@ -1,10 +1,8 @@
-use Rattle.std.proofs.Common.{◌≡◌, List, [], ◌∷◌, take, map, ℕ}
+use Rattle.std.proofs.Common.{◌≡◌, List, [], ◌∷◌}
 use Rattle.sqlite.specs.Held.{state}
 use Rattle.sqlite.specs.State.{HasCleanDisk}
-use Rattle.isad_core.specs.Texts.{Bytes}
 use Rattle.catalogue_store.specs.Adding.{AreElements, WithTexts}
 use Rattle.catalogue_store.specs.Rows.{ElementRow}
-use Rattle.catalogue_store.specs.Shows.{texts_from, element_number}
 use Rattle.catalogue_store.specs.Step.{InOffice, Goes, OnlyTouches}
 use Rattle.catalogue_store.proofs.TextLemmas.{first_cells}
 use Rattle.catalogue_store.proofs.elements.insert_texts.Given as goal

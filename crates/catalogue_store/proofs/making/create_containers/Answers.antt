@@ -1,4 +1,4 @@
-use Rattle.std.proofs.Common.{rules, ◌≡◌}
+use Rattle.std.proofs.Common.{rules}
 use Rattle.sqlite.specs.Held.{state}
 use Rattle.catalogue_store.specs.Step.{Continues, IsCut}
 use Rattle.catalogue_store.specs.Creation.{IsMaking}
@@ -35,7 +35,7 @@ returns-clause-made g c start making =
     let on2 = continues_then a0 a1 a2 on1 step2.0 in
     let a3 = state g.S.Store c.create_index.new.conn in
     on_ok_then c.create_index.result (Continues a2 a3 × IsMaking s6 start a3) (Continues a0 a3 × IsMaking s6 start a3) (λ last. (continues_then a0 a2 a3 on2 last.0, last.1))
-      (c.create_index.ensures.made start s5 s6 step2.1 housing_indexed)
+    (c.create_index.ensures.made start s5 s6 step2.1 housing_indexed)
 
 pub returns-clause-cut : goal.returns-clause-cut
 returns-clause-cut g c start making =

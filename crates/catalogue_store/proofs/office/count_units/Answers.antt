@@ -1,20 +1,7 @@
-use Rattle.std.proofs.Common.{length, [], ◌∷◌, ◌≡◌, ℕ, List, map, filter, nat_eq, true, rules, refl, ap, sym, pos, ◌∙◌}
-use Rattle.std.proofs.lemmas.Result.{IfOk-weaker}
+use Rattle.std.proofs.Common.{length, [], ◌∷◌, rules, ◌∙◌}
 use Rattle.sqlite.specs.Held.{state}
-use Rattle.sqlite.specs.State.{HasCleanDisk}
-use Rattle.isad_core.specs.declared.values.BoxKey.{BoxKey}
-use Rattle.tree_core.specs.declared.rows.Link.{Link}
-use Rattle.catalogue_store.specs.Schema.{Version, Links}
-use Rattle.catalogue_store.specs.Units.{Unit, is_from}
-use Rattle.catalogue_store.specs.Merging.{is_same_box}
-use Rattle.catalogue_store.specs.Rows.{ElementRow, HousingRow, by_number, by_element, by_housing, by_container, by_id}
-use Rattle.catalogue_store.specs.Order.{IsOrdered}
 use Rattle.catalogue_store.specs.Step.{IsCut, Looks}
-use Rattle.catalogue_store.specs.declared.office.OfficeRow.{OfficeRow}
-use Rattle.sqlite_trees.proofs.ListLemmas.{map-map}
-use Rattle.catalogue_store.proofs.Calls.{early, in_office, in_version, read_cut, read_looks, cut_looks, on_ok_from}
-use Rattle.sqlite.proofs.Callers.{one_permutation}
-use Rattle.catalogue_store.specs.Rows.{settings_cells}
+use Rattle.catalogue_store.proofs.Calls.{early, in_office, read_cut, read_looks, cut_looks, on_ok_from}
 use Rattle.catalogue_store.specs.Counting.{capped}
 use Rattle.catalogue_store.proofs.Selects.{count_units_text, count_units_command, count_units_is, count_units_plain, count_units_rows}
 use Rattle.catalogue_store.proofs.office.count_units.Goals as goal

@@ -1,11 +1,8 @@
-use Rattle.std.proofs.Common.{rules, refl, ap, sym, pos}
+use Rattle.std.proofs.Common.{rules, refl}
 use Rattle.sqlite.specs.Held.{state}
 use Rattle.sqlite.specs.State.{HasCleanDisk}
-use Rattle.catalogue_store.specs.Schema.{Links}
 use Rattle.catalogue_store.specs.Step.{IsCut}
-use Rattle.catalogue_store.specs.Added.{unit_of}
-use Rattle.catalogue_store.proofs.Values.{bound_maybe}
-use Rattle.catalogue_store.proofs.Calls.{early, office_of, in_office, in_version, write_cut, write_went}
+use Rattle.catalogue_store.proofs.Calls.{early, office_of, in_office, write_cut, write_went}
 use Rattle.catalogue_store.proofs.Inserts.{insert_office_text, insert_office_command, insert_office_is, insert_office_plain, insert_office_done, insert_office_rows, insert_office_touches, insert_office_fresh}
 use Rattle.catalogue_store.proofs.office.insert_office.Goals as goal
 

@@ -1,4 +1,4 @@
-use Rattle.std.proofs.Common.{rules, ◌≡◌, ℕ, List, [], ◌∷◌, length, get_or, ap, sym, subst, ◌∙◌}
+use Rattle.std.proofs.Common.{rules, ◌≡◌, length, ap, sym, ◌∙◌}
 use Rattle.sqlite.specs.Effect.{Database}
 use Rattle.sqlite.specs.Held.{state}
 use Rattle.std.proofs.Common.{refl}
@@ -7,7 +7,7 @@ use Rattle.tree_core.specs.Forest.{nodes}
 use Rattle.catalogue_store.specs.Counting.{capped}
 use Rattle.catalogue_store.specs.Rows.{counted_from}
 use Rattle.catalogue_store.proofs.Offices.{last_of, length-nodes, length-counted, only_one}
-use Rattle.catalogue_store.specs.Step.{InOffice, IsCut}
+use Rattle.catalogue_store.specs.Step.{IsCut}
 use Rattle.catalogue_store.proofs.Calls.{early, office_of, still_office, goes_then, looks_then, cut_then}
 use Rattle.catalogue_store.proofs.office.office_row.Goals as goal
 
@@ -58,8 +58,8 @@ returns-clause-answers g c clean o k it =
     let row = last_of c.pop.new.self.items c.in-Some-len1-len1.row o (sym (c.in_ok-rows.ensures.rows at_b g.P.Places.version o at.office) ∙ c.in-Some-len1-len1.ensures.items) in
     let counted = c.in_ok-units.ensures.rows at_d at.units.units (ap (λ (db : Database). db.trees 14) same_b ∙ at.units.rows) in
     let units = only_one c.in_ok-units.units.items c.as_slice.result.now (capped (length at.units.units)) c.as_slice.ensures.value counted
-        ∙ ap capped (length_permutation (nodes k.forest) at.units.units at.units.are ∙ length-nodes k.forest) in
+    ∙ ap capped (length_permutation (nodes k.forest) at.units.units at.units.are ∙ length-nodes k.forest) in
     let containers = only_one c.in_ok-containers.containers.items c.as_slice-2.result.now (capped (length (counted_from 1 k.containers))) c.as_slice-2.ensures.value
-        (c.in_ok-containers.ensures.rows clean (counted_from 1 k.containers) (ap (λ (db : Database). db.trees 18) same_d ∙ at.containers))
-        ∙ ap capped (length-counted 1 k.containers) in
+    (c.in_ok-containers.ensures.rows clean (counted_from 1 k.containers) (ap (λ (db : Database). db.trees 18) same_d ∙ at.containers))
+    ∙ ap capped (length-counted 1 k.containers) in
     rw (row, units, containers) refl

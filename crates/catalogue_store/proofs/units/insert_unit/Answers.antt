@@ -1,11 +1,9 @@
-use Rattle.std.proofs.Common.{rules, refl, ap, sym, pos}
+use Rattle.std.proofs.Common.{rules, refl}
 use Rattle.sqlite.specs.Held.{state}
 use Rattle.sqlite.specs.State.{HasCleanDisk}
-use Rattle.catalogue_store.specs.Schema.{Links}
 use Rattle.catalogue_store.specs.Step.{IsCut}
 use Rattle.catalogue_store.specs.Added.{unit_of}
-use Rattle.catalogue_store.proofs.Values.{bound_maybe}
-use Rattle.catalogue_store.proofs.Calls.{early, in_office, in_version, write_cut, write_went}
+use Rattle.catalogue_store.proofs.Calls.{early, in_office, write_cut, write_went}
 use Rattle.catalogue_store.proofs.Inserts.{insert_unit_text, insert_unit_command, insert_unit_is, insert_unit_plain, insert_unit_done, insert_unit_rows, insert_unit_touches, insert_unit_fresh}
 use Rattle.catalogue_store.proofs.units.insert_unit.Goals as goal
 
