@@ -1,0 +1,11 @@
+pub mod BoxLemmas
+pub mod ColumnLemmas
+pub mod EntryLemmas
+pub mod FieldLemmas
+pub mod LineLemmas
+pub mod OnLiterals
+pub mod RecordLemmas
+pub mod SourceLemmas
+pub mod TextLemmas
+pub mod ToldLemmas
+pub mod TrimLemmas

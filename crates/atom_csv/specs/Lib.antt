@@ -1,0 +1,16 @@
+pub mod Causes
+pub mod Columns
+pub mod Entries
+pub mod Fields
+pub mod FileOf
+pub mod Findings
+pub mod Known
+pub mod Reads
+pub mod Source
+pub mod Told
+pub mod Values
+pub use Rattle.csv.specs.Machine
+pub use Rattle.csv.specs.Reading
+pub use Rattle.csv.specs.Records
+pub use Rattle.isad_core.specs.Elements
+pub use Rattle.isad_core.specs.Texts

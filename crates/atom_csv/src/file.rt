@@ -1,26 +1,57 @@
-//! Files and their rows.
-use isad_core::{List, Text, Values};
+//! What a file tells.
+ghost use Rattle.std.specs.Prelude.{◌≡◌};
 
-/// A row of a file.
-#[derive(Debug, Drop)]
+use isad_core::{List, Text, Values};
+use std::alloc::{AllocError, AllocFailed};
+
+/// A row of a file: what it tells of a unit.
+#[derive(Debug, PartialEq, Drop)]
 pub struct Row {
+    /// Its number, where the header is 1. Blank rows and translations count.
     pub row: u32,
+    /// Its legacyId, which is not blank and stands in no other row of the file.
     pub legacy: Text,
+    /// The legacyId of its parent, if it names one.
     pub parent: Option<Text>,
+    /// Whether it is published. A row that doesn't say so is a draft.
     pub published: bool,
+    /// What it tells of the description.
     pub values: Values,
 }
 
-/// A file.
-#[derive(Debug, Drop)]
+/// The rows of a file, without blank ones and translations.
+#[derive(Debug, PartialEq, Drop)]
 pub struct File {
     pub rows: List<Row>,
+    /// How many rows tell a unit of an earlier row again, in another language.
     pub translations: u32,
 }
 
-/// Why there is none.
-#[derive(Debug, PartialEq, Eq, Drop)]
+/// Why a file is refused.
+#[derive(Clone, Copy, Debug, PartialEq, Eq)]
 pub enum FileFault {
+    /// A growth was refused for want of memory.
     Memory,
+    /// The first row with a cause, and its lowest cause: row 0 is the file, and row 1 its header.
     Bad { row: u32, cause: u8 },
+}
+
+impl From<AllocError> for FileFault {
+    ghost use Rattle.atom_csv.specs.declared.file.FileFault.TheVariants.{Memory};
+
+    ghost from_gives = { λ _ e. e ≡ Memory };
+
+    fn from(_: AllocError) -> FileFault {
+        FileFault::Memory
+    }
+}
+
+impl<T: Drop> From<AllocFailed<T>> for FileFault {
+    ghost use Rattle.atom_csv.specs.declared.file.FileFault.TheVariants.{Memory};
+
+    ghost from_gives = { λ _ e. e ≡ Memory };
+
+    fn from(_: AllocFailed<T>) -> FileFault {
+        FileFault::Memory
+    }
 }

@@ -1,6 +1,23 @@
-//! Rows of AtoM archival description files.
+//! Reads AtoM's archival description CSV.
 #![tactic(auto)]
 
+mod boxes;
+mod cause;
+mod column;
+mod entries;
 mod file;
+mod findings;
+mod header;
+mod joined;
+pub mod laws;
+mod read;
+mod records;
+mod rows;
+mod trim;
+mod values;
 
 pub use file::{File, FileFault, Row};
+pub use read::read_file;
+
+#[cfg(test)]
+mod tests;

@@ -22,7 +22,7 @@ use Rattle.sqlite.proofs.Callers.{IsPlain, command_of, reads_as}
 use Rattle.sqlite_tied.specs.Compute.{everything}
 use Rattle.catalogue_store.specs.Schema.{Version, Links, Spans, schema, unit, container}
 use Rattle.catalogue_store.specs.Units.{Unit, is_from}
-use Rattle.catalogue_store.specs.Merging.{is_same_box}
+use Rattle.atom_csv.specs.Values.{is_same as is_same_box}
 use Rattle.catalogue_store.specs.Rows.{flag, office_row, settings_cells, unit_row, by_number, ElementRow, element_row, container_row, HousingRow, housing_row, link_row, by_id, by_element, by_housing, by_container}
 use Rattle.catalogue_store.specs.declared.office.OfficeRow.{OfficeRow}
 use Rattle.catalogue_store.proofs.Tests.{only, both, same_number, same_bytes, by_one_int, by_two_ints}

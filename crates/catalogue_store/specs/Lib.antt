@@ -15,3 +15,4 @@ pub mod Creation
 pub mod Order
 pub mod Tests
 pub mod Text
+pub mod Housing

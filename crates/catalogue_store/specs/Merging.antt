@@ -1,12 +1,13 @@
 -- What a file of rows makes of a catalogue.
-use Rattle.std.specs.Prelude.{ℕ, suc, ◌+◌, nat_lt, Bool, not, ◌&&◌, if◌then◌else◌, List, [], ◌∷◌, ◌++◌, length, filter, find, Option, Some, None, option_map, unwrap_or, Result, Ok, Err}
+use Rattle.std.specs.Prelude.{ℕ, suc, ◌+◌, ◌-◌, nat_eq, nat_lt, Bool, not, if◌then◌else◌, List, [], ◌∷◌, ◌++◌, length, filter, find, Option, Some, None, option_and_then, option_map, unwrap_or, Result, Ok, Err}
 use Rattle.std.specs.List.{flat_map}
-use Rattle.std.specs.Option.{option_eq}
+use Rattle.std.specs.Option.{option_eq, option_to_list}
 use Rattle.std.specs.Str.{bytes_eq}
 use Rattle.isad_core.specs.Texts.{Bytes}
 use Rattle.isad_core.specs.declared.values.BoxKey.{BoxKey}
+use Rattle.atom_csv.specs.Values.{distinct, is_same}
 use Rattle.atom_csv.specs.declared.file.Row.{Row}
-use Rattle.tree_core.specs.Forest.{Forest, Empty, Node, has, path, each, join}
+use Rattle.tree_core.specs.Forest.{Forest, Empty, Node, nodes, has, path, each, join}
 use Rattle.catalogue_store.specs.Units.{Unit, is_from}
 
 -- a catalogue: the units in their places, the containers, of which number n is the n-th, and the
@@ -28,11 +29,7 @@ is_known f source row = has (is_from source row.legacy) f
 
 -- the row has this number in its source
 abbrev pub has_legacy : Bytes → Row → Bool
-has_legacy legacy row = bytes_eq row.legacy legacy
-
--- the row stands right below this parent, or at the top for none
-abbrev pub names_parent : Option Bytes → Row → Bool
-names_parent parent row = option_eq bytes_eq row.parent parent
+has_legacy legacy row = bytes_eq legacy row.legacy
 
 -- ---- what can be wrong with a new row: its parent is not there, or it would lie too deep
 
@@ -51,86 +48,92 @@ abbrev pub cause_at : Option ℕ → Option ℕ
 cause_at None = Some 11
 cause_at (Some depth) = if nat_lt 64 depth then Some 12 else None
 
--- the new rows that have a cause, each by its place in the file, with that cause
+-- the new rows that have a cause, each by its number in the file, with that cause
 abbrev pub faults_below : Forest Unit → Bytes → List Row → List Row → List (ℕ × ℕ)
 faults_below f source above [] = []
 faults_below f source above (row ∷ rest) =
-    with_cause (cause_at (depth_under f source row.parent above)) (faults_below f source (row ∷ above) rest)
-  where
-    with_cause : Option ℕ → List (ℕ × ℕ) → List (ℕ × ℕ)
-    with_cause None later = later
-    with_cause (Some cause) later = (row.row, cause) ∷ later
+    option_to_list (option_map (λ cause. (row.row, cause)) (cause_at (depth_under f source row.parent above)))
+    ++ faults_below f source (row ∷ above) rest
 
 -- ---- the units after it
 
--- the rows with the numbers that their units get
-abbrev pub numbered_from : ℕ → List Row → List (ℕ × Row)
-numbered_from n [] = []
-numbered_from n (row ∷ rest) = (n, row) ∷ numbered_from (n + 1) rest
+-- a new row with the number that its unit gets, and the number of the unit right above it
+pub record New : Type 0 where
+  pub id : ℕ
+  pub parent : Option ℕ
+  pub row : Row
+
+-- The number of the unit that a new row names as its parent, where n is the next number: that of
+-- the nearest new row above it, or that of the catalogued unit.
+abbrev pub number_of : Forest Unit → Bytes → ℕ → List Row → Bytes → Option ℕ
+number_of f source n [] legacy = option_map (λ unit. unit.id) (find (is_from source legacy) (nodes f))
+number_of f source n (row ∷ above) legacy =
+    if has_legacy legacy row then Some (n - 1) else number_of f source (n - 1) above legacy
+
+-- the new rows, numbered in file order from n on; `above` has those above them, the nearest first
+abbrev pub numbered_from : Forest Unit → Bytes → ℕ → List Row → List Row → List New
+numbered_from f source n above [] = []
+numbered_from f source n above (row ∷ rest) =
+    record { id = n; parent = option_and_then (number_of f source n above) row.parent; row = row }
+    ∷ numbered_from f source (n + 1) (row ∷ above) rest
+
+-- the new rows right below a parent in file order, each with those below it: a row stands below a
+-- row that is further up in the file
+abbrev pub branches : Option ℕ → List New → Forest New
+branches parent [] = Empty
+branches parent (new ∷ rest) =
+    if option_eq nat_eq new.parent parent
+    then Node new (branches (Some new.id) rest) (branches parent rest)
+    else branches parent rest
 
 -- the unit of a new row: it has the row's status, and no closure
-abbrev pub new_unit : Bytes → ℕ × Row → Unit
-new_unit source (id, row) = record {
-  id = id;
+abbrev pub new_unit : Bytes → New → Unit
+new_unit source new = record {
+  id = new.id;
   source = source;
-  legacy = row.legacy;
-  values = row.values;
-  draft = not row.published;
+  legacy = new.row.legacy;
+  values = new.row.values;
+  draft = not new.row.published;
   until = None;
 }
 
--- the new units right below a parent in file order, each with those below it: a row stands below a
--- row that is further up in the file
-abbrev pub branches : Bytes → Option Bytes → List (ℕ × Row) → Forest Unit
-branches source parent [] = Empty
-branches source parent (new ∷ rest) =
-    if names_parent parent new.1
-    then Node (new_unit source new) (branches source (Some new.1.legacy) rest) (branches source parent rest)
-    else branches source parent rest
+abbrev pub new_units : Bytes → Option ℕ → List New → Forest Unit
+new_units source parent new = each (new_unit source) (branches parent new)
 
 -- a known unit takes the values of its row, and keeps its place, its status and its closure
 abbrev pub revised : Bytes → List Row → Unit → Unit
 revised source rows unit =
-    record unit { values = unwrap_or (option_map (λ row. row.values) (find (has_legacy unit.legacy) (of_unit rows))) unit.values }
-  where
-    of_unit : List Row → List Row
-    of_unit rows = if bytes_eq unit.source source then rows else []
+    if bytes_eq unit.source source
+    then record unit { values = unwrap_or (option_map (λ row. row.values) (find (has_legacy unit.legacy) rows)) unit.values }
+    else unit
 
 -- new units stand behind the old ones below their parents
-abbrev pub grown : Bytes → List (ℕ × Row) → Forest Unit → Forest Unit
+abbrev pub grown : Bytes → List New → Forest Unit → Forest Unit
 grown source new Empty = Empty
 grown source new (Node unit children others) =
-    Node unit (join (grown source new children) (if bytes_eq unit.source source then branches source (Some unit.legacy) new else Empty))
-    (grown source new others)
+    Node unit (join (grown source new children) (new_units source (Some unit.id) new)) (grown source new others)
 
-abbrev pub merged_forest : Bytes → List Row → List (ℕ × Row) → Forest Unit → Forest Unit
+abbrev pub merged_forest : Bytes → List Row → List New → Forest Unit → Forest Unit
 merged_forest source rows new f =
-    join (grown source new (each (revised source rows) f)) (branches source None new)
+    join (grown source new (each (revised source rows) f)) (new_units source None new)
 
 -- ---- the containers after it
 
--- one container: the same name, location and kind
-abbrev pub is_same_box : BoxKey → BoxKey → Bool
-is_same_box a b =
-    bytes_eq a.name b.name && (bytes_eq a.location b.location && bytes_eq a.kind b.kind)
+-- the number of a container: its place among these, from 1
+abbrev pub number_in : List BoxKey → BoxKey → Option ℕ
+number_in [] b = None
+number_in (c ∷ rest) b = if is_same c b then Some 1 else option_map suc (number_in rest b)
 
--- each container once, at its first place
-abbrev pub firsts : List BoxKey → List BoxKey
-firsts [] = []
-firsts (b ∷ rest) = b ∷ filter (λ later. not (is_same_box b later)) (firsts rest)
-
--- the number of a container: its place, from 1
 abbrev pub box_number : List BoxKey → BoxKey → ℕ
-box_number [] b = 0
-box_number (c ∷ rest) b = if is_same_box c b then 1 else suc (box_number rest b)
+box_number containers b = unwrap_or (number_in containers b) 0
 
 -- containers keep their numbers, and new ones get the next as they first appear
 abbrev pub merged_boxes : List Row → List BoxKey → List BoxKey
-merged_boxes rows containers = firsts (containers ++ flat_map (λ row. row.values.boxes) rows)
+merged_boxes rows containers = distinct (containers ++ flat_map (λ row. row.values.boxes) rows)
 
 -- ---- all of it
 
-abbrev pub merged : Catalogue → Bytes → List Row → List (ℕ × Row) → Catalogue
+abbrev pub merged : Catalogue → Bytes → List Row → List New → Catalogue
 merged s source rows new = record {
   forest = merged_forest source rows new s.forest;
   containers = merged_boxes rows s.containers;
@@ -148,4 +151,4 @@ abbrev pub merge : Catalogue → Bytes → List Row → Result Catalogue (ℕ ×
 merge s source rows = from_new (filter (λ row. not (is_known s.forest source row)) rows)
   where
     from_new : List Row → Result Catalogue (ℕ × ℕ)
-    from_new new = or_first (faults_below s.forest source [] new) (merged s source rows (numbered_from s.next new))
+    from_new new = or_first (faults_below s.forest source [] new) (merged s source rows (numbered_from s.forest source s.next [] new))

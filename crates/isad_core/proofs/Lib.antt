@@ -1,4 +1,5 @@
 pub mod DateLemmas
 pub mod DayLemmas
 pub mod PrintLemmas
+pub mod TextLemmas
 pub mod ValueLemmas

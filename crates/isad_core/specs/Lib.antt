@@ -5,3 +5,4 @@ pub mod Levels
 pub mod Printed
 pub mod Texts
 pub mod Values
+pub mod Worked

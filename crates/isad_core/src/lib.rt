@@ -5,6 +5,7 @@ mod aid;
 mod code;
 mod day;
 mod element;
+pub mod laws;
 mod level;
 mod list;
 mod page;

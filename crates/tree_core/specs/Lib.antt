@@ -4,5 +4,7 @@ pub mod Spans
 pub mod Shifts
 pub mod Withheld
 pub mod Marks
+pub mod SpanFaults
+pub mod LinkFaults
 pub mod Steps
 pub mod Worked

@@ -1,7 +1,8 @@
 ghost use Rattle.std.specs.Prelude.{◌≡◌, IfOk, vec_len};
 
 use super::{
-    Kept, Link, Mark, Span, clean_contents, clean_path, links, prune, spans, spans_of_links,
+    Kept, Link, LinkFault, Mark, Span, SpanFault, check_links, check_spans, clean_contents,
+    clean_path, links, prune, spans, spans_of_links,
 };
 use std::alloc::{AllocError, Global};
 use std::test::Fail;
@@ -233,4 +234,70 @@ fn folds_marks(rt: HostRuntime) {
     assert!(rt; clean_contents(&MARKS[..3], 19783, true));
     assert!(rt; clean_contents(&MARKS[..3], 19784, false));
     assert!(rt; clean_contents(&[unit, draft, permitted], 19783, false));
+}
+
+#[test]
+fn checks_spans(rt: HostRuntime) -> Result<(), Fail> {
+    let alloc = rt.alloc();
+    let rows = worked_spans(alloc)?;
+    assert_eq!(rt; check_spans(alloc, &rows), Ok(()));
+    assert_eq!(rt; check_spans(alloc, &[]), Ok(()));
+    let crossing = [span(1, 1, 4), span(2, 2, 5), span(3, 3, 6)];
+    assert_eq!(rt; check_spans(alloc, &crossing), Err(SpanFault::Cross));
+    let gap = [span(1, 1, 2), span(2, 4, 5)];
+    assert_eq!(rt; check_spans(alloc, &gap), Err(SpanFault::Gap));
+    let twice = [span(1, 1, 2), span(1, 4, 3)];
+    assert_eq!(rt; check_spans(alloc, &twice), Err(SpanFault::Twice));
+    let order = [span(1, 3, 4), span(2, 1, 2)];
+    assert_eq!(rt; check_spans(alloc, &order), Err(SpanFault::Order));
+    Ok(())
+}
+
+#[test]
+fn checks_links(rt: HostRuntime) -> Result<(), Fail> {
+    let alloc = rt.alloc();
+    let rows = worked_links(alloc)?;
+    assert_eq!(rt; check_links(alloc, &rows), Ok(()));
+    assert_eq!(rt; check_links(alloc, &[]), Ok(()));
+    let cycle = [link(1, Some(2), 1), link(2, Some(1), 1)];
+    assert_eq!(rt; check_links(alloc, &cycle), Err(LinkFault::Cycle));
+    let orphan = [link(1, Some(9), 1)];
+    assert_eq!(rt; check_links(alloc, &orphan), Err(LinkFault::NoParent));
+    let same_place = [link(1, None, 1), link(2, None, 1)];
+    assert_eq!(rt; check_links(alloc, &same_place), Err(LinkFault::Twice));
+    let same_id = [link(1, None, 1), link(1, None, 2)];
+    assert_eq!(rt; check_links(alloc, &same_id), Err(LinkFault::Twice));
+    let not_from_one = [link(1, None, 2)];
+    assert_eq!(rt; check_links(alloc, &not_from_one), Err(LinkFault::Ord));
+    Ok(())
+}
+
+/// Each change either happens or, where memory is refused, leaves the rows.
+#[test]
+fn changes_or_stays(rt: HostRuntime) -> Result<(), Fail> {
+    let mut links = worked_links(rt.alloc())?;
+    if links::move_last(&mut links, 2, Some(4)).is_err() {
+        assert_eq!(rt; links.as_slice(), worked_links(rt.alloc())?.as_slice());
+    }
+    let mut links = worked_links(rt.alloc())?;
+    if links::cut(&mut links, 1).is_err() {
+        assert_eq!(rt; links.as_slice(), worked_links(rt.alloc())?.as_slice());
+    }
+    let mut links = worked_links(rt.alloc())?;
+    if links::add_last(&mut links, Some(2), 5).is_err() {
+        assert_eq!(rt; links.as_slice(), worked_links(rt.alloc())?.as_slice());
+    }
+    let mut spans = worked_spans(rt.alloc())?;
+    if spans::move_last(&mut spans, 2, Some(4)).is_err() {
+        assert_eq!(rt; spans.as_slice(), worked_spans(rt.alloc())?.as_slice());
+    }
+    let mut spans = worked_spans(rt.alloc())?;
+    if spans::cut(&mut spans, 1).is_err() {
+        assert_eq!(rt; spans.as_slice(), worked_spans(rt.alloc())?.as_slice());
+    }
+    let mut spans = worked_spans(rt.alloc())?;
+    if spans::add_last(&mut spans, Some(2), 5).is_err() {
+        assert_eq!(rt; spans.as_slice(), worked_spans(rt.alloc())?.as_slice());
+    }
+    Ok(())
 }

@@ -3,7 +3,7 @@ use Rattle.std.proofs.lemmas.Result.{IfOk-weaker}
 use Rattle.sqlite.specs.Held.{state}
 use Rattle.sqlite.specs.State.{HasCleanDisk}
 use Rattle.isad_core.specs.declared.values.BoxKey.{BoxKey}
-use Rattle.catalogue_store.specs.Merging.{is_same_box}
+use Rattle.atom_csv.specs.Values.{is_same as is_same_box}
 use Rattle.catalogue_store.specs.Rows.{by_container}
 use Rattle.catalogue_store.specs.Order.{IsOrdered}
 use Rattle.catalogue_store.specs.Step.{IsCut, Looks}

@@ -1,0 +1,143 @@
+"""Compares the previews of random small files with those of the plain program.
+
+compare_preview.py FILES SEED PLAIN PROGRAM [WORD ..]
+
+PLAIN is the plain program as rustc built it. PROGRAM and its words read a file from standard input and
+write its finding aids, as `record_office preview --country GB --repo 0999` does. Of a file with a fault
+the row and the cause are compared. A file on which they differ is kept beside this script.
+"""
+
+import pathlib
+import random
+import re
+import subprocess
+import sys
+import tempfile
+
+READ = """legacyId parentId qubitParentSlug publicationStatus culture identifier title
+levelOfDescription physicalObjectName physicalObjectLocation physicalObjectType eventDates
+extentAndMedium eventActors eventActorHistories archivalHistory acquisition scopeAndContent appraisal
+accruals arrangement accessConditions reproductionConditions language script physicalCharacteristics
+findingAids locationOfOriginals locationOfCopies relatedUnitsOfDescription publicationNote generalNote
+archivistNote rules revisionHistory""".split()
+UNREAD = ["accessionNumber", "repository", "LegacyId", "title2", "", "digitalObjectURI"]
+TEXTS = ["", "", "a", "Minutes", " Maps ", "a b", 'say "x"', "one\ntwo", "one\r\ntwo", "x\ry", "a,b",
+         "|", "a|b", "NULL", "a|NULL|b", " NULL ", "null", "a||b", "\t", "é", "日本", "\u00a0", '"', "-",
+         "a\n\nb", "\ufeff", "\\N", "'", "a|a"]
+
+
+def field(text, wild=0):
+    """The text as a field of a CSV file: quoted where it has to be, and now and then oddly."""
+    if random.random() < wild / 4:
+        return random.choice(['"' + text, text + '"', f'"{text}"tail', f'{text}"x"', text])
+    if random.random() < 0.15 or re.search('[,"\r\n]', text):
+        return '"' + text.replace('"', '""') + '"'
+    return text
+
+
+def header():
+    names = ["legacyId", "parentId", "publicationStatus", "identifier", "title"]
+    names += random.sample(READ[2:3] + READ[4:], random.randrange(0, 8)) + random.sample(UNREAD, random.randrange(0, 2))
+    names = list(dict.fromkeys(names)) if random.random() < 0.97 else names
+    random.shuffle(names)
+    if random.random() < 0.01:
+        names.remove("legacyId")
+    if random.random() < 0.1:
+        names[0] = " " + names[0] + "\t"
+    return names
+
+
+class Made:
+    """What the rows of a file share: how often each oddity comes, and the ids so far."""
+
+    def __init__(self):
+        self.wild = random.choice([0, 0, 0.01, 0.05])
+        self.deep = random.random() < 0.3
+        self.draft = random.choice([0, 0.1, 0.3])
+        self.ids = []
+
+    def value(self, name, number):
+        wild = random.random() < self.wild
+        if name == "legacyId":
+            if wild:
+                return random.choice(["", " ", str(random.randrange(1, number + 2)), "é"])
+            legacy = random.choice([str(number), f" {number} "])
+            self.ids.append(legacy.strip())
+            return legacy
+        if name == "parentId":
+            above = self.ids[:-1] or [""]
+            if wild:
+                return random.choice([str(number), str(number + 1), "nowhere", "1", " "])
+            return above[-1] if self.deep and random.random() < 0.99 else random.choice(above + [""])
+        if name == "publicationStatus":
+            return random.choice(["Published", "published", " PUBLISHED"]) if random.random() >= self.draft else random.choice(["Draft", "", "Publish"])
+        if name == "culture":
+            return random.choice(["en", "fr", "en", ""]) if wild else "en"
+        if name == "qubitParentSlug":
+            return "dock" if wild or random.random() < 0.02 else ""
+        if name.startswith("physicalObject"):
+            return "|".join(random.choice(["Box 1", "Box 2", "Box 3", "", "NULL", " Box 1 "]) for _ in range(random.randrange(0, 4)))
+        if wild and random.random() < 0.1:
+            return "a" * random.choice([65535, 65536])
+        return random.choice(TEXTS)
+
+
+def row(made, names, number):
+    odd = random.random()
+    if odd < 0.03:
+        return random.choice(["", ",", " , ", ",".join([""] * len(names)), '""'])
+    values = [field(made.value(name.strip(), number), made.wild) for name in names]
+    if odd < 0.03 + made.wild / 20:
+        values = values[:-1] if random.random() < 0.5 else values + ["x"]
+    return ",".join(values)
+
+
+def file():
+    made, names, end = Made(), header(), random.choice(["\n", "\n", "\r\n", "\r"])
+    rows = random.choice([0, 1, 3, 6, 12, 30, 70, 90])
+    lines = [",".join(field(name) for name in names)]
+    for number in range(1, rows + 1):
+        lines.append(row(made, names, number))
+        if "culture" in names and made.ids and random.random() < 0.1:
+            again = {"legacyId": random.choice(made.ids), "culture": "fr"}
+            lines.append(",".join(again.get(name.strip(), "") for name in names))
+    text = end.join(lines) + (end if random.random() < 0.8 else "")
+    mark = b"\xef\xbb\xbf" if random.random() < 0.1 else b""
+    data = mark + text.encode()
+    if random.random() < 0.02:
+        data = data[: random.randrange(0, len(data) + 1)]
+    if random.random() < 0.01:
+        at = random.randrange(0, len(data) + 1)
+        data = data[:at] + b"\xff" + data[at:]
+    return data
+
+
+def answer(ran):
+    if ran.returncode == 1:
+        return [int(number) for number in re.findall(rb"\d+", ran.stderr or ran.stdout)[-2:]]
+    return (ran.returncode, ran.stdout)
+
+
+def main():
+    files, seed, plain, program = int(sys.argv[1]), int(sys.argv[2]), sys.argv[3], sys.argv[4:]
+    random.seed(seed)
+    faults, told, differ = {}, 0, 0
+    with tempfile.TemporaryDirectory() as room:
+        path = pathlib.Path(room) / "file.csv"
+        for number in range(files):
+            path.write_bytes(file())
+            ours = answer(subprocess.run(program, stdin=path.open("rb"), capture_output=True))
+            theirs = answer(subprocess.run([plain, "GB", "0999", path], capture_output=True))
+            if ours != theirs:
+                differ += 1
+                kept = pathlib.Path(__file__).parent / f"differs-{seed}-{number}.csv"
+                kept.write_bytes(path.read_bytes())
+                print(f"{kept}: {ours!r:.300}\n  plain: {theirs!r:.300}")
+            elif isinstance(ours, list):
+                faults[ours[1]] = faults.get(ours[1], 0) + 1
+            else:
+                told += bool(ours[1])
+    print(f"{files} files, {told} with finding aids, faults by cause {dict(sorted(faults.items()))}, {differ} differ")
+
+
+main()

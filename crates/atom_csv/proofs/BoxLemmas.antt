@@ -1,0 +1,230 @@
+-- Containers, one more at a time.
+use Rattle.std.proofs.Common.{◌≡◌, ◌∙◌, ◌+◌, ◌<◌, ◌++◌, ◌∷◌, [], ℕ, suc, Bool, true, false, List, length, take, get_or, refl, sym, ap, ap₂, subst, arith, Bor, cond, Ordering}
+use Rattle.std.specs.Prelude.{◌&&◌, ◌||◌, not, filter, if◌then◌else◌}
+use Rattle.std.specs.List.{enumerate_from, list_any}
+use Rattle.std.specs.Str.{bytes_eq}
+use Rattle.std.specs.Ordering.{is_eq, nat_cmp, ordering_then}
+use Rattle.std.specs.declared.cmp.Ordering.TheVariants as ord
+use Rattle.std.specs.Cmp.Lexicographic.{slice_cmp}
+use Rattle.std.specs.BTreeSet.{BTreeSet, contains}
+use Rattle.std.proofs.lemmas.Map.Text.{is_eq-slice_cmp}
+use Rattle.std.proofs.lemmas.Slice.Eq.{bytes_eq-Decides}
+use Rattle.std.proofs.lemmas.List.Elements.{filter-append}
+use Rattle.std.proofs.lemmas.List.Folds.{list_any-append}
+use Rattle.std.proofs.lemmas.List.{append-nil, length-map}
+use Rattle.std.proofs.Math.ListN.{get_or-map}
+use Rattle.std.proofs.lemmas.List.FromFn.{get_or-enumerate_from, length-enumerate_from}
+use Rattle.std.proofs.Math.Seq.{take-suc}
+use Rattle.isad_core.specs.Texts.{Bytes}
+use Rattle.atom_csv.specs.Fields.{is_empty, seen}
+use Rattle.isad_core.specs.declared.values.BoxKey.{BoxKey}
+use Rattle.atom_csv.specs.Values.{distinct, entry_at, is_named_box, is_same, triple, triples}
+use Rattle.atom_csv.specs.Known.{Holds, has, key}
+
+-- ---- the set in which the code keeps them
+
+abbrev pub Told : Type 0
+Told = Bor Bytes × Bor Bytes × Bor Bytes
+
+abbrev pub key_of : Told → BoxKey
+key_of k = key k.0.now k.1.now k.2.now
+
+-- how the set orders them
+abbrev pub compared : Told → Told → Ordering
+compared a b = ordering_then (ordering_then (slice_cmp nat_cmp a.0.now b.0.now) (slice_cmp nat_cmp a.1.now b.1.now)) (slice_cmp nat_cmp a.2.now b.2.now)
+
+eq_then : (a b : Ordering) → is_eq (ordering_then a b) ≡ (is_eq a && is_eq b)
+eq_then ord.Less b = refl
+eq_then ord.Equal b = refl
+eq_then ord.Greater b = refl
+
+and_assoc : (a b c : Bool) → ((a && b) && c) ≡ (a && (b && c))
+and_assoc true b c = refl
+and_assoc false b c = refl
+
+pub same_compared : (a b : Told) → is_eq (compared a b) ≡ is_same (key_of a) (key_of b)
+same_compared a b =
+    eq_then _ (slice_cmp nat_cmp a.2.now b.2.now)
+    ∙ (ap₂ (λ x y. x && y) (eq_then (slice_cmp nat_cmp a.0.now b.0.now) (slice_cmp nat_cmp a.1.now b.1.now) ∙ ap₂ (λ x y. x && y) (is_eq-slice_cmp a.0.now b.0.now) (is_eq-slice_cmp a.1.now b.1.now)) (is_eq-slice_cmp a.2.now b.2.now)
+    ∙ and_assoc (bytes_eq a.0.now b.0.now) (bytes_eq a.1.now b.1.now) (bytes_eq a.2.now b.2.now))
+
+any_compared : (a : Told) (ks : List Told) → list_any (λ k. is_eq (compared a k)) ks ≡ list_any (λ k. is_same (key_of a) (key_of k)) ks
+any_compared a [] = refl
+any_compared a (k ∷ ks) = ap₂ (λ x y. x || y) (same_compared a k) (any_compared a ks)
+
+pub contains_has : (known : BTreeSet Told) (a : Told) → contains compared known a ≡ has known (key_of a)
+contains_has known a = any_compared a known.keys
+
+-- what a query stands for, by reference
+abbrev pub lent : Bytes → Bor Bytes
+lent text = record { ref_ptr = (0, 0); now = text }
+
+abbrev pub asked : BoxKey → Told
+asked q = (lent q.name, lent q.location, lent q.kind)
+
+pub has_more : (old new : BTreeSet Told) (k : Told) → ((q : Told) → contains compared new q ≡ cond (is_eq (compared k q)) true (contains compared old q))
+    → (q : BoxKey) → has new q ≡ (is_same (key_of k) q || has old q)
+has_more old new k updates q =
+    sym (contains_has new (asked q)) ∙ (updates (asked q) ∙ (ap₂ (λ (b c : Bool). cond b true c) (same_compared k (asked q)) (contains_has old (asked q)) ∙ go (is_same (key_of k) q)))
+  where
+    go : (b : Bool) → cond b true (has old q) ≡ (b || has old q)
+    go true = refl
+    go false = refl
+
+-- ---- one more container
+
+bytes_eq_sym : (a b : Bytes) → bytes_eq a b ≡ bytes_eq b a
+bytes_eq_sym a b = go (bytes_eq a b) (bytes_eq b a) refl refl
+  where
+    go : (x y : Bool) → bytes_eq a b ≡ x → bytes_eq b a ≡ y → x ≡ y
+    go true true e f = refl
+    go false false e f = refl
+    go true false e f =
+        let yes : bytes_eq b a ≡ true = (bytes_eq-Decides b a).1 (sym ((bytes_eq-Decides a b).0 e)) in
+        sym yes ∙ f
+    go false true e f =
+        let yes : bytes_eq a b ≡ true = (bytes_eq-Decides a b).1 (sym ((bytes_eq-Decides b a).0 f)) in
+        sym e ∙ yes
+
+pub same_sym : (a b : BoxKey) → is_same a b ≡ is_same b a
+same_sym a b =
+    ap₂ (λ x y. x && y) (bytes_eq_sym a.name b.name) (ap₂ (λ x y. x && y) (bytes_eq_sym a.location b.location) (bytes_eq_sym a.kind b.kind))
+
+or_false : (a : Bool) → (a || false) ≡ a
+or_false true = refl
+or_false false = refl
+
+or_comm : (a b : Bool) → (a || b) ≡ (b || a)
+or_comm true true = refl
+or_comm true false = refl
+or_comm false true = refl
+or_comm false false = refl
+
+-- a container that stood already adds nothing
+pub distinct_more : (bs : List BoxKey) (b : BoxKey) → distinct (bs ++ b ∷ []) ≡ distinct bs ++ (if list_any (is_same b) bs then [] else b ∷ [])
+distinct_more [] b = refl
+distinct_more (c ∷ bs) b =
+    ap (λ ds. c ∷ filter (λ later. not (is_same c later)) ds) (distinct_more bs b)
+    ∙ (ap (λ ds. c ∷ ds) (filter-append (λ later. not (is_same c later)) (distinct bs) (if list_any (is_same b) bs then [] else b ∷ []))
+    ∙ ap (λ ds. distinct (c ∷ bs) ++ ds) (go (list_any (is_same b) bs) (is_same b c) (same_sym c b)))
+  where
+    go : (any same : Bool) → is_same c b ≡ same
+        → filter (λ later. not (is_same c later)) (if any then [] else b ∷ []) ≡ (if same || any then [] else b ∷ [])
+    go true true e = refl
+    go true false e = refl
+    go false true e = ap (λ (s : Bool). cond (not s) (b ∷ []) []) e
+    go false false e = ap (λ (s : Bool). cond (not s) (b ∷ []) []) e
+
+-- what stood, with one more
+stood_more : (bs : List BoxKey) (b q : BoxKey) → list_any (is_same q) (bs ++ b ∷ []) ≡ (is_same b q || list_any (is_same q) bs)
+stood_more bs b q =
+    list_any-append (is_same q) bs (b ∷ [])
+    ∙ (ap (λ s. list_any (is_same q) bs || s) (or_false (is_same q b) ∙ same_sym q b) ∙ or_comm (list_any (is_same q) bs) (is_same b q))
+
+length_seen : (xs : List (Bor Bytes)) → length (seen xs) ≡ length xs
+length_seen [] = refl
+length_seen (x ∷ xs) = ap suc (length_seen xs)
+
+-- the triples, one more at a time
+triples_more : (names : List (Bor Bytes)) (locations kinds : List Bytes) (i : ℕ) (d : Bor Bytes) → i < length names
+    → take (i + 1) (triples (seen names) locations kinds)
+    ≡ take i (triples (seen names) locations kinds) ++ key (get_or names i d).now (entry_at locations i) (entry_at kinds i) ∷ []
+triples_more names locations kinds i d lt =
+    let next : i + 1 ≡ suc i = omega arith in
+    let long : length (triples (seen names) locations kinds) ≡ length names =
+    length-map (enumerate_from 0 (seen names)) (triple locations kinds) ∙ (length-enumerate_from 0 (seen names) ∙ length_seen names) in
+    let there : i < length (seen names) = subst (λ n. i < n) (sym (length_seen names)) lt in
+    let within : i < length (triples (seen names) locations kinds) = subst (λ n. i < n) (sym long) lt in
+    let zero_i : 0 + i ≡ i = omega arith in
+    ap (λ n. take n (triples (seen names) locations kinds)) next
+    ∙ (take-suc (triples (seen names) locations kinds) i (triple locations kinds (0, d.now)) within
+    ∙ ap (λ b. take i (triples (seen names) locations kinds) ++ b ∷ [])
+    (get_or-map (triple locations kinds) (enumerate_from 0 (seen names)) i (0, d.now)
+    ∙ (ap (triple locations kinds) (get_or-enumerate_from 0 (seen names) i (0, d.now) there)
+    ∙ ap₂ (λ n text. triple locations kinds (n, text)) zero_i (get_or-map (λ (x : Bor Bytes). x.now) names i d))))
+
+-- the triples with a name, one more
+pub named_more : (names : List (Bor Bytes)) (locations kinds : List Bytes) (i : ℕ) (d : Bor Bytes) → i < length names
+    → filter is_named_box (take i (triples (seen names) locations kinds))
+    ++ (if is_empty (get_or names i d).now then [] else key (get_or names i d).now (entry_at locations i) (entry_at kinds i) ∷ [])
+    ≡ filter is_named_box (take (i + 1) (triples (seen names) locations kinds))
+named_more names locations kinds i d lt =
+    let before = take i (triples (seen names) locations kinds) in
+    let b = key (get_or names i d).now (entry_at locations i) (entry_at kinds i) in
+    ap (λ bs. filter is_named_box before ++ bs) (go (is_empty (get_or names i d).now))
+    ∙ sym (ap (filter is_named_box) (triples_more names locations kinds i d lt) ∙ filter-append is_named_box before (b ∷ []))
+  where
+    go : (e : Bool) → (if e then [] else key (get_or names i d).now (entry_at locations i) (entry_at kinds i) ∷ [])
+        ≡ cond (not e) (key (get_or names i d).now (entry_at locations i) (entry_at kinds i) ∷ []) []
+    go true = refl
+    go false = refl
+
+-- ---- what is kept, after one more was told
+
+abbrev pub Set : Type 0
+Set = BTreeSet Told
+
+-- a blank name adds nothing
+pub holds_blank : (known : Set) (boxes told : List BoxKey) (b : BoxKey) → is_empty b.name ≡ true → Holds known boxes told
+    → Holds known boxes (told ++ (if is_empty b.name then [] else b ∷ []))
+holds_blank known boxes told b blank h =
+    subst (Holds known boxes) (sym (ap (λ (e : Bool). told ++ (if e then [] else b ∷ [])) blank ∙ append-nil told)) h
+
+stood_after : (old new : Set) (boxes told : List BoxKey) (b : BoxKey) → Holds old boxes told → ((q : BoxKey) → has new q ≡ (is_same b q || has old q))
+    → (q : BoxKey) → has new q ≡ list_any (is_same q) (told ++ b ∷ [])
+stood_after old new boxes told b h added q = added q ∙ (ap (λ s. is_same b q || s) (h.stood q) ∙ sym (stood_more told b q))
+
+-- one that stood is kept once
+holds_again : (old new : Set) (boxes told : List BoxKey) (b : BoxKey) → Holds old boxes told → ((q : BoxKey) → has new q ≡ (is_same b q || has old q)) → has old b ≡ true
+    → Holds new boxes (told ++ b ∷ [])
+holds_again old new boxes told b h added stood = record {
+  kept = h.kept ∙ sym (distinct_more told b ∙ (ap (λ (s : Bool). distinct told ++ (if s then [] else b ∷ [])) (sym (h.stood b) ∙ stood) ∙ append-nil (distinct told)));
+  stood = stood_after old new boxes told b h added;
+}
+
+-- a new one is added
+holds_new : (old new : Set) (boxes told : List BoxKey) (b : BoxKey) → Holds old boxes told → ((q : BoxKey) → has new q ≡ (is_same b q || has old q)) → has old b ≡ false
+    → Holds new (boxes ++ b ∷ []) (told ++ b ∷ [])
+holds_new old new boxes told b h added stood = record {
+  kept = ap (λ bs. bs ++ b ∷ []) h.kept ∙ sym (distinct_more told b ∙ ap (λ (s : Bool). distinct told ++ (if s then [] else b ∷ [])) (sym (h.stood b) ∙ stood));
+  stood = stood_after old new boxes told b h added;
+}
+
+named_told : (known : Set) (boxes told : List BoxKey) (b : BoxKey) → is_empty b.name ≡ false → Holds known boxes (told ++ b ∷ [])
+    → Holds known boxes (told ++ (if is_empty b.name then [] else b ∷ []))
+named_told known boxes told b there h =
+    subst (Holds known boxes) (sym (ap (λ (e : Bool). told ++ (if e then [] else b ∷ [])) there)) h
+
+not_false : (b : Bool) → false ≡ not b → b ≡ true
+not_false true e = refl
+not_false false e = cc
+
+not_true : (b : Bool) → true ≡ not b → b ≡ false
+not_true true e = cc
+not_true false e = refl
+
+pub holds_known : (old new : Set) (boxes told : List BoxKey) (b : BoxKey) (is_new : Bool) → is_empty b.name ≡ false → ((q : BoxKey) → has new q ≡ (is_same b q || has old q))
+    → is_new ≡ not (has old b) → is_new ≡ false → Holds old boxes told → Holds new boxes (told ++ (if is_empty b.name then [] else b ∷ []))
+holds_known old new boxes told b is_new there added is none h =
+    named_told new boxes told b there (holds_again old new boxes told b h added (not_false (has old b) (sym none ∙ is)))
+
+pub holds_added : (old new : Set) (boxes after told : List BoxKey) (b item : BoxKey) (is_new : Bool) → is_empty b.name ≡ false → ((q : BoxKey) → has new q ≡ (is_same b q || has old q))
+    → is_new ≡ not (has old b) → is_new ≡ true → item ≡ b → after ≡ boxes ++ item ∷ [] → Holds old boxes told → Holds new after (told ++ (if is_empty b.name then [] else b ∷ []))
+holds_added old new boxes after told b item is_new there added is told_new same pushed h =
+    subst (λ bs. Holds new bs (told ++ (if is_empty b.name then [] else b ∷ []))) (sym (pushed ∙ ap (λ x. boxes ++ x ∷ []) same))
+    (named_told new (boxes ++ b ∷ []) told b there (holds_new old new boxes told b h added (not_true (has old b) (sym told_new ∙ is))))
+
+pub length-triples : (names : List (Bor Bytes)) (locations kinds : List Bytes) → length (triples (seen names) locations kinds) ≡ length names
+length-triples names locations kinds =
+    length-map (enumerate_from 0 (seen names)) (triple locations kinds) ∙ (length-enumerate_from 0 (seen names) ∙ length_seen names)
+
+pub holds_more : (names : List (Bor Bytes)) (locations kinds : List Bytes) (i : ℕ) (d : Bor Bytes) (known : Set) (boxes : List BoxKey) (location kind : Bytes) → i < length names
+    → location ≡ entry_at locations i → kind ≡ entry_at kinds i
+    → Holds known boxes (filter is_named_box (take i (triples (seen names) locations kinds))
+    ++ (if is_empty (get_or names i d).now then [] else key (get_or names i d).now location kind ∷ []))
+    → Holds known boxes (filter is_named_box (take (i + 1) (triples (seen names) locations kinds)))
+holds_more names locations kinds i d known boxes location kind lt place sort h =
+    subst (Holds known boxes)
+    (ap₂ (λ l k. filter is_named_box (take i (triples (seen names) locations kinds)) ++ (if is_empty (get_or names i d).now then [] else key (get_or names i d).now l k ∷ [])) place sort
+    ∙ named_more names locations kinds i d lt)
+    h

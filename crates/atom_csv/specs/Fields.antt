@@ -1,0 +1,72 @@
+-- The fields of a record, by the columns of a header.
+use Rattle.std.specs.Prelude.{ℕ, Bool, Option, Some, None, slice_get, unwrap_or, ◌==◌, if◌then◌else◌, List, [], ◌∷◌, reverse, length, map, position}
+use Rattle.std.specs.List.{list_all}
+use Rattle.std.specs.Borrow.{Bor}
+use Rattle.std.specs.Str.{bytes_eq}
+use Rattle.csv.specs.Records.{Row, fields_of}
+use Rattle.isad_core.specs.Texts.{Bytes, is_space}
+use Rattle.atom_csv.specs.declared.column.Column.{Column}
+use Rattle.atom_csv.specs.Columns.{columns, name_of}
+
+-- a text without white space at its start
+abbrev pub trim_start : Bytes → Bytes
+trim_start [] = []
+trim_start (b ∷ rest) = if is_space b then trim_start rest else b ∷ rest
+
+-- a text without white space at its end
+abbrev pub trim_end : Bytes → Bytes
+trim_end text = reverse (trim_start (reverse text))
+
+-- a text without white space at either end: where it was blank, nothing is left
+abbrev pub trimmed : Bytes → Bytes
+trimmed text = trim_end (trim_start text)
+
+-- nothing is there
+abbrev pub is_empty : Bytes → Bool
+is_empty text = length text == 0
+
+-- the fields of one record, each without white space at its ends
+abbrev pub Fields : Type 0
+Fields = List Bytes
+
+-- the name of a column stands in this field of the header
+abbrev pub is_named : Bytes → Bytes → Bool
+is_named name field = bytes_eq field name
+
+-- the field under the first column of this name: blank where there is none
+abbrev pub field_under : Bytes → Fields → Fields → Bytes
+field_under name [] fields = []
+field_under name (head ∷ heads) [] = []
+field_under name (head ∷ heads) (field ∷ fields) =
+    if is_named name head then field else field_under name heads fields
+
+-- what a record has in a column
+abbrev pub value : Column → Fields → Fields → Bytes
+value column = field_under (name_of column)
+
+-- each field is blank
+abbrev pub is_blank : Fields → Bool
+is_blank = list_all is_empty
+
+-- ---- the places of columns
+
+-- where the first column of this name stands
+abbrev pub place_of : Bytes → Fields → Option ℕ
+place_of name = position (is_named name)
+
+-- where each column that is read stands
+abbrev pub places_in : Fields → List (Option ℕ)
+places_in header = map (λ column. place_of (name_of column) header) columns
+
+-- the field at a place
+abbrev pub field_in : Option ℕ → Fields → Bytes
+field_in None fields = []
+field_in (Some i) fields = unwrap_or (slice_get fields i) []
+
+-- what fields are that the code holds by reference
+abbrev pub seen : List (Bor Bytes) → Fields
+seen = map (λ field. field.now)
+
+-- the fields of a record of the reader, each without white space at its ends
+abbrev pub fields_in : Row → Fields
+fields_in row = map trimmed (fields_of row)

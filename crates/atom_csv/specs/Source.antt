@@ -1,0 +1,31 @@
+-- What a reader of the records of a text has left.
+use Rattle.std.specs.Prelude.{◌≡◌, ◌+◌, true, Option, Some, List, [], length}
+use Rattle.std.specs.Borrow.{Bor}
+use Rattle.std.specs.Option.{option_map_or}
+use Rattle.std.specs.Str.{IsUtf8}
+use Rattle.csv.specs.Reading.{Ready, default_config, is_flexible, reader_config, reader_state, reader_trim, records_from, source_of}
+use Rattle.csv.specs.declared.reader.Reader.{Reader}
+use Rattle.csv.specs.declared.reader.Trim.TheVariants as trim
+use Rattle.isad_core.specs.Texts.{Bytes}
+
+-- a reader of bytes in memory
+abbrev pub Source : Type 0
+Source = Reader (Bor Bytes)
+
+-- the bytes that it has not read
+abbrev pub unread : Source → Option Bytes
+unread r = source_of (λ s. Some s.now) r
+
+-- the records that it has not given
+abbrev pub left : Source → List (List Bytes)
+left r = option_map_or (λ ys. records_from default_config (length ys + 1) (reader_state r) ys) (unread r) []
+
+-- it reads a text with the crate's settings, where records may differ in length and none is a header
+pub record IsReading (r : Source) : Type 0 where
+  pub config : reader_config r ≡ default_config
+  pub trim : reader_trim r ≡ trim.None
+  pub ready : Ready r
+  pub flexible : is_flexible r ≡ true
+  pub text : Bytes
+  pub source : unread r ≡ Some text
+  pub utf8 : IsUtf8 text

@@ -1,0 +1,29 @@
+-- What holds of every file that is told.
+use Rattle.std.specs.Prelude.{◌≡◌, Bool, false, List, [], ◌∷◌, IfSome}
+use Rattle.std.specs.List.{AllByRecursion}
+use Rattle.std.specs.Str.{bytes_eq}
+use Rattle.isad_core.specs.Texts.{Bytes, is_blank_text}
+use Rattle.isad_core.specs.declared.values.Values.{Values}
+use Rattle.atom_csv.specs.Values.{is_same}
+use Rattle.atom_csv.specs.declared.file.File.{File}
+
+-- a text that is not blank
+abbrev pub IsThere : Bytes → Type 0
+IsThere text = is_blank_text text ≡ false
+
+-- each two of them differ
+abbrev pub AllDiffer : {X : Type 0} → (X → X → Bool) → List X → Type 0
+AllDiffer same [] = Unit {0}
+AllDiffer same (x ∷ xs) = AllByRecursion (λ y. same x y ≡ false) xs × AllDiffer same xs
+
+-- no text of an element is blank, and neither is a container's name; no container stands twice
+pub record AreValues (values : Values) : Type 0 where
+  pub texts : AllByRecursion (λ text. IfSome text IsThere) values.texts
+  pub names : AllByRecursion (λ b. IsThere b.name) values.boxes
+  pub boxes : AllDiffer is_same values.boxes
+
+-- no legacyId is blank, and none stands twice; the values are values
+pub record IsTold (file : File) : Type 0 where
+  pub there : AllByRecursion (λ row. IsThere row.legacy) file.rows
+  pub once : AllDiffer (λ a b. bytes_eq a.legacy b.legacy) file.rows
+  pub values : AllByRecursion (λ row. AreValues row.values) file.rows

@@ -1,0 +1,83 @@
+-- The values of a description that a record tells.
+use Rattle.std.specs.Prelude.{ℕ, Bool, true, false, ◌&&◌, not, if◌then◌else◌, Option, Some, None, slice_get, unwrap_or, List, [], ◌∷◌, map, filter}
+use Rattle.std.specs.List.{enumerate_from, flat_map}
+use Rattle.std.specs.Str.{bytes_eq}
+use Rattle.isad_core.specs.Texts.{Bytes}
+use Rattle.isad_core.specs.Elements.{elements}
+use Rattle.isad_core.specs.declared.element.Element.{Element}
+use Rattle.isad_core.specs.declared.element.Element.TheVariants as element
+use Rattle.isad_core.specs.declared.values.BoxKey.{BoxKey}
+use Rattle.isad_core.specs.declared.values.Values.{Values}
+use Rattle.atom_csv.specs.declared.column.Column.{Column}
+use Rattle.atom_csv.specs.declared.column.Column.TheVariants as column
+use Rattle.atom_csv.specs.Columns.{columns_of, is_split}
+use Rattle.atom_csv.specs.Fields.{Fields, is_empty, value}
+use Rattle.atom_csv.specs.Entries.{entries, filled, joined}
+
+-- a text that is there
+abbrev pub nonblank : Bytes → Option Bytes
+nonblank text = if is_empty text then None else Some text
+
+-- ---- elements (ISAD(G) 3.1 to 3.7)
+
+-- what a column tells by the value in it: its entries, or the one text that it holds
+abbrev pub told_by : Column → Bytes → List Bytes
+told_by k text = if is_split k then entries text else text ∷ []
+
+-- the text of an element: what its columns tell, in their order
+abbrev pub text_of : Fields → Fields → Element → Bytes
+text_of header fields e = joined (filled (flat_map (λ k. told_by k (value k header fields)) (columns_of e)))
+
+-- the level of description is kept apart from the other elements
+abbrev pub is_level : Element → Bool
+is_level element.Level = true
+is_level _ = false
+
+-- the 25 other elements, in the standard's order
+unfoldable pub described : List Element
+described = filter (λ e. not (is_level e)) elements
+
+-- ---- containers
+
+-- the entry at a place: blank where there is none
+abbrev pub entry_at : List Bytes → ℕ → Bytes
+entry_at entries i = unwrap_or (slice_get entries i) []
+
+-- the container of a name and of what stands at the same place in the other columns
+abbrev pub triple : List Bytes → List Bytes → ℕ × Bytes → BoxKey
+triple locations kinds (i, name) =
+    record { name = name; location = entry_at locations i; kind = entry_at kinds i }
+
+-- entry i of the three columns makes the triple i; past the last name there is none with a name
+abbrev pub triples : List Bytes → List Bytes → List Bytes → List BoxKey
+triples names locations kinds = map (triple locations kinds) (enumerate_from 0 names)
+
+-- it has a name
+abbrev pub is_named_box : BoxKey → Bool
+is_named_box b = not (is_empty b.name)
+
+-- one container: the same name, location and kind
+abbrev pub is_same : BoxKey → BoxKey → Bool
+is_same a b =
+    bytes_eq a.name b.name && (bytes_eq a.location b.location && bytes_eq a.kind b.kind)
+
+-- each container once, at its first place
+abbrev pub distinct : List BoxKey → List BoxKey
+distinct [] = []
+distinct (b ∷ rest) = b ∷ filter (λ later. not (is_same b later)) (distinct rest)
+
+-- the containers of three columns: a blank name makes none, and shifts none
+abbrev pub boxes_of : Bytes → Bytes → Bytes → List BoxKey
+boxes_of names locations kinds =
+    distinct (filter is_named_box (triples (entries names) (entries locations) (entries kinds)))
+
+-- ---- all of them
+
+abbrev pub values_of : Fields → Fields → Values
+values_of header fields = record {
+  level = text_of header fields element.Level;
+  texts = map (λ e. nonblank (text_of header fields e)) described;
+  boxes = boxes_of (value column.PhysicalObjectName header fields)
+      (value column.PhysicalObjectLocation header fields)
+      (value column.PhysicalObjectType header fields);
+}

@@ -1,0 +1,25 @@
+//! The entries of a split column.
+ghost use Rattle.std.specs.Prelude.{◌≡◌, IfOk, OnOk, map};
+ghost use Rattle.isad_core.specs.Texts.{Bytes};
+ghost use Rattle.atom_csv.specs.Entries as spec;
+ghost use Rattle.atom_csv.specs.Fields.{seen};
+
+use crate::trim::trimmed;
+use std::alloc::{AllocError, Global};
+
+/// What a part of a cut text tells: `NULL` is blank.
+pub fn entry(part: &str) -> &str
+    ensures { result.now ≡ spec.entry_of part.now }
+{
+    match trimmed(part) {
+        "NULL" => "",
+        entry => entry,
+    }
+}
+
+/// The entries of a text, blank ones among them.
+pub fn entries(alloc: Global, text: &str) -> Result<Vec<&str>, AllocError>
+    ensures { IfOk result (λ v. seen v.items ≡ spec.entries text.now) }
+{
+    text.split('|').map(entry).collect(alloc)
+}

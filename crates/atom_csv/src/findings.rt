@@ -1,0 +1,133 @@
+//! What is found of a record, and the cause that it has.
+ghost use Rattle.std.specs.Prelude.{◌≡◌, IfNone, false, option_map};
+ghost use Rattle.atom_csv.specs.Fields.{fields_in};
+ghost use Rattle.atom_csv.specs.FileOf.{lowest};
+ghost use Rattle.atom_csv.specs.Fields as fields;
+ghost use Rattle.atom_csv.specs.FileOf as spec;
+ghost use Rattle.atom_csv.specs.Findings.{causes_of, findings};
+
+use crate::cause::Cause;
+use crate::column::Column;
+use crate::header::Header;
+use crate::trim::trimmed;
+use csv::StringRecord;
+use isad_core::Text;
+
+// The last row that is taken.
+const LAST_ROW: u32 = 20_001;
+
+// The most bytes that a field that is read may have.
+const LONGEST: usize = 65_535;
+
+/// What is found of a record.
+#[derive(Clone, Copy)]
+pub struct Findings {
+    pub is_blank: bool,
+    pub is_translation: bool,
+    pub other_width: bool,
+    pub no_legacy: bool,
+    pub stood: bool,
+    pub slug_alone: bool,
+    pub is_late: bool,
+    pub is_long: bool,
+}
+
+// Whether each field is blank.
+fn is_blank(row: &StringRecord) -> bool
+    ensures { result ≡ fields.is_blank (fields_in row.now) }
+{
+    for field in row.iter() {
+        if !trimmed(field).is_empty() {
+            return false;
+        }
+    }
+    true
+}
+
+// Whether a record is a translation, where the first row with its legacyId has this culture.
+fn is_translation(header: &Header, row: &StringRecord, stood: Option<&Text>) -> bool
+    ensures { result ≡ spec.is_translation header.now (fields_in row.now) (option_map (λ t. t.now) stood.entry) }
+{
+    match stood {
+        Some(first) => {
+            let own = header.value(Column::Culture, row);
+            let first = first.as_str();
+            !first.is_empty() && !own.is_empty() && first != own
+        }
+        None => false,
+    }
+}
+
+fn has_other_width(header: &Header, row: &StringRecord) -> bool
+    ensures { result ≡ spec.has_other_width header.now (fields_in row.now) }
+{
+    row.len() != header.width()
+}
+
+// Whether a record names its parent by a slug alone.
+fn names_slug(header: &Header, row: &StringRecord) -> bool
+    ensures { result ≡ spec.names_slug header.now (fields_in row.now) }
+{
+    !header.value(Column::QubitParentSlug, row).is_empty()
+        && header.value(Column::ParentId, row).is_empty()
+}
+
+// Whether a field that is read is too long.
+fn is_long(header: &Header, row: &StringRecord) -> bool
+    ensures { result ≡ spec.is_long header.now (fields_in row.now) }
+{
+    Column::all()
+        .iter()
+        .any(|column| header.value(*column, row).len() > LONGEST)
+}
+
+impl Findings {
+    /// What is found of a record in this row, where the first row with its legacyId has this
+    /// culture.
+    pub fn of(header: &Header, row: &StringRecord, stood: Option<&Text>, number: u32) -> Findings
+        ensures { result ≡ findings header.now (fields_in row.now) (option_map (λ t. t.now) stood.entry) number }
+    {
+        Findings {
+            is_blank: is_blank(row),
+            is_translation: is_translation(header, row, stood),
+            other_width: has_other_width(header, row),
+            no_legacy: header.value(Column::LegacyId, row).is_empty(),
+            stood: stood.is_some(),
+            slug_alone: names_slug(header, row),
+            is_late: number > LAST_ROW,
+            is_long: is_long(header, row),
+        }
+    }
+
+    /// The lowest cause.
+    pub fn lowest(self) -> Option<Cause>
+        ensures lowest { result ≡ lowest (causes_of self) }
+        ensures late { IfNone result (self.is_late ≡ false) }
+        ensures new { IfNone result (self.is_blank ≡ false → self.is_translation ≡ false
+            → (self.no_legacy ≡ false) × (self.stood ≡ false)) }
+    {
+        if !self.is_blank {
+            if self.other_width {
+                return Some(Cause::FieldCount);
+            }
+            if !self.is_translation {
+                if self.no_legacy {
+                    return Some(Cause::BlankLegacyId);
+                }
+                if self.stood {
+                    return Some(Cause::Repeated);
+                }
+                if self.slug_alone {
+                    return Some(Cause::Slug);
+                }
+            }
+        }
+        if self.is_late {
+            return Some(Cause::TooManyRows);
+        }
+        if self.is_long && !self.is_blank && !self.is_translation {
+            return Some(Cause::TooLong);
+        }
+        None
+    }
+}

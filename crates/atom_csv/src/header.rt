@@ -1,0 +1,136 @@
+//! The header of a file: which columns it has, and where.
+ghost use Rattle.std.specs.Prelude.{◌≡◌, ◌==◌, not, IfOk, count_by, map, nat_lt, length, position};
+ghost use Rattle.std.specs.List.{list_any};
+ghost use Rattle.csv.specs.Records.{fields_of};
+ghost use Rattle.atom_csv.specs.Columns.{columns, name_of};
+ghost use Rattle.atom_csv.specs.Fields.{field_in, fields_in, is_named, seen};
+ghost use Rattle.atom_csv.specs.Fields as spec;
+ghost use Rattle.atom_csv.specs.FileOf.{header_causes, lowest};
+
+use crate::cause::Cause;
+use crate::column::Column;
+use crate::trim::trimmed;
+use csv::StringRecord;
+use std::alloc::{AllocError, Global};
+use std::marker::Model;
+
+// The fields of a record, each without white space at its ends.
+fn names(alloc: Global, row: &StringRecord) -> Result<Vec<&str>, AllocError>
+    ensures { IfOk result (λ v. seen v.items ≡ fields_in row.now) }
+{
+    let mut names = Vec::new(alloc);
+    for field in row.iter() {
+        names.push(trimmed(field))?;
+    }
+    Ok(names)
+}
+
+// Where the first column of this name stands.
+fn place(header: &[&str], name: &str) -> Option<usize>
+    ensures { result ≡ position (λ field. is_named name.now field.now) header.now }
+{
+    header.iter().position(|field| *field == name)
+}
+
+// Whether a column has this name.
+fn has(header: &[&str], name: &str) -> bool
+    ensures { result ≡ list_any (λ field. is_named name.now field.now) header.now }
+{
+    header.iter().any(|field| *field == name)
+}
+
+// How many columns have this name.
+fn count(header: &[&str], name: &str) -> usize
+    ensures { result ≡ count_by (λ field. is_named name.now field.now) header.now }
+{
+    header.iter().filter(|field| **field == name).count()
+}
+
+// Whether a column that is read stands twice.
+fn has_twice(header: &[&str]) -> bool
+    ensures { result ≡ list_any (λ column.
+        nat_lt 1 (count_by (λ field. is_named (name_of column) field.now) header.now)) columns }
+{
+    Column::all()
+        .iter()
+        .any(|column| count(header, column.name()) > 1)
+}
+
+// Where each column that is read stands.
+fn places(alloc: Global, header: &[&str]) -> Result<Vec<Option<usize>>, AllocError>
+    ensures { IfOk result (λ v. v.items
+        ≡ map (λ column. position (λ field. is_named (name_of column) field.now) header.now) columns) }
+{
+    Column::all()
+        .iter()
+        .map(|column| place(header, column.name()))
+        .collect(alloc)
+}
+
+// The field of a record at a place.
+fn field_at<'r>(row: &'r StringRecord, place: Option<usize>) -> &'r str
+    ensures { result.now ≡ field_in place (fields_in row.now) }
+{
+    match place {
+        Some(i) => trimmed(row.get(i).unwrap_or("")),
+        None => "",
+    }
+}
+
+/// The names of a file's columns.
+#[derive(Drop)]
+pub struct Header<'a> {
+    names: Vec<&'a str>,
+    // Where each column that is read stands, so that no name is looked for twice.
+    places: Vec<Option<usize>>,
+}
+
+impl<'a> Model for Header<'a> {
+    ghost use Rattle.std.specs.Prelude.{◌≡◌};
+    ghost use Rattle.atom_csv.specs.Fields.{Fields, places_in, seen};
+
+    ghost Value = { Fields };
+
+    ghost view = { λ h. seen h.names.items };
+
+    ghost invariant = { λ h. h.places.items ≡ places_in (seen h.names.items) };
+}
+
+impl<'a> Header<'a> {
+    /// The header that a record is.
+    pub fn of(alloc: Global, row: &'a StringRecord) -> Result<Header<'a>, AllocError>
+        ensures { IfOk result (λ h. h ≡ fields_in row.now) }
+    {
+        let names = names(alloc, row)?;
+        let places = places(alloc, names.as_slice())?;
+        Ok(Header { names, places })
+    }
+
+    /// The lowest cause for which the file is refused, if there is one.
+    pub fn cause(&self) -> Option<Cause>
+        ensures { result ≡ lowest (header_causes self.now) }
+    {
+        let names = self.names.as_slice();
+        if !has(names, "legacyId") {
+            return Some(Cause::NoLegacyId);
+        }
+        if has_twice(names) {
+            return Some(Cause::HeaderTwice);
+        }
+        None
+    }
+
+    /// What a record has in a column.
+    pub fn value<'r>(&self, column: Column, row: &'r StringRecord) -> &'r str
+        ensures { result.now ≡ spec.value column self.now (fields_in row.now) }
+    {
+        field_at(row, self.places[column as usize])
+    }
+
+    /// How many columns there are.
+    pub fn width(&self) -> usize
+        ensures { result ≡ length self.now }
+    {
+        self.names.as_slice().len()
+    }
+}

@@ -1,0 +1,145 @@
+//! The rows below a header.
+ghost use Rattle.std.specs.Prelude.{◌≡◌, ◌≤◌, IfOk, OnOk, None, Some, codes, if◌then◌else◌, option_map};
+ghost use Rattle.std.specs.BTreeMap.{get_by_text};
+ghost use Rattle.std.specs.Str.{bytes_eq, str_eq_ignore_ascii_case};
+ghost use Rattle.isad_core.specs.Texts.{Bytes};
+ghost use Rattle.atom_csv.specs.Fields.{fields_in, is_empty};
+ghost use Rattle.atom_csv.specs.Values.{nonblank};
+ghost use Rattle.atom_csv.specs.FileOf as spec;
+
+use crate::column::Column;
+use crate::file::{FileFault, Row};
+use crate::findings::Findings;
+use crate::header::Header;
+use crate::values::values;
+use csv::StringRecord;
+use isad_core::{List, Text};
+use std::alloc::{AllocError, Global};
+use std::collections::BTreeMap;
+
+// A text, where it is not blank.
+fn optional(alloc: Global, text: &str) -> Result<Option<Text>, AllocError>
+    ensures { IfOk result (λ t. t ≡ nonblank text.now) }
+{
+    if text.is_empty() {
+        return Ok(None);
+    }
+    Ok(Some(Text::new(alloc, text)?))
+}
+
+fn is_published(status: &str) -> bool
+    ensures { result ≡ str_eq_ignore_ascii_case status.now (codes "Published") }
+{
+    status.eq_ignore_ascii_case("Published")
+}
+
+// The row that a record tells.
+fn row_of(
+    alloc: Global,
+    header: &Header,
+    row: &StringRecord,
+    number: u32,
+) -> Result<Row, AllocError>
+    ensures { IfOk result (λ r. r ≡ spec.row_of header.now (fields_in row.now) number) }
+{
+    Ok(Row {
+        row: number,
+        legacy: Text::new(alloc, header.value(Column::LegacyId, row))?,
+        parent: optional(alloc, header.value(Column::ParentId, row))?,
+        published: is_published(header.value(Column::PublicationStatus, row)),
+        values: values(alloc, header, row)?,
+    })
+}
+
+// The culture of the first row with each legacyId.
+type Cultures = BTreeMap<String, Text>;
+
+// The culture of the first row with this legacyId: a blank one stood nowhere.
+fn stood<'a>(cultures: &'a Cultures, id: &str) -> Option<&'a Text>
+    ensures { option_map (λ t. t.now) result ≡ (if is_empty id.now then None else get_by_text cultures.now id.now) }
+{
+    if id.is_empty() {
+        return None;
+    }
+    cultures.get(id)
+}
+
+// Keeps the culture of a row.
+#[tactic(auto, using(std::proofs::lemmas::Map::Text::text_keys))]
+fn remember(
+    cultures: &mut Cultures,
+    alloc: Global,
+    id: &str,
+    culture: &str,
+) -> Result<(), AllocError>
+    ensures { OnOk result ((q : Bytes) → get_by_text cultures.new q
+        ≡ (if bytes_eq q id.now then Some culture.now else get_by_text cultures.old q)) }
+{
+    let key = String::from_str(alloc, id)?;
+    cultures.insert(key, Text::new(alloc, culture)?)?;
+    Ok(())
+}
+
+/// What the records so far tell.
+#[derive(Drop)]
+pub struct Rows {
+    pub rows: List<Row>,
+    pub translations: u32,
+    cultures: Cultures,
+}
+
+impl Rows {
+    ghost use Rattle.std.specs.Prelude.{◌≡◌, ◌≤◌, ◌<◌, ◌++◌, ◌∷◌, ◌+◌, [], OnOk, IfErr, Err, length};
+    ghost use Rattle.std.specs.Prelude as std_list;
+    ghost use Rattle.atom_csv.specs.Fields.{Fields, fields_in};
+    ghost use Rattle.atom_csv.specs.FileOf.{below};
+    ghost use Rattle.atom_csv.specs.Reads.{IsBad, Tells};
+
+    /// Before the first record below the header.
+    pub fn new(alloc: Global) -> Rows
+        ensures none { result.translations ≡ 0 }
+        ensures told { (header : Fields) → Tells header [] result }
+    {
+        Rows {
+            rows: List::new(alloc),
+            translations: 0,
+            cultures: BTreeMap::new(alloc),
+        }
+    }
+
+    /// Adds what the next record tells, which has this row number, or gives its lowest cause.
+    pub fn add(
+        &mut self,
+        alloc: Global,
+        header: &Header,
+        row: &StringRecord,
+        number: u32,
+    ) -> Result<(), FileFault>
+        requires fits { self.old.translations < number }
+        ensures fits { OnOk result (self.new.translations ≤ number) }
+        ensures early { OnOk result (number ≤ 20001) }
+        ensures told { OnOk result ((above : std_list.List Fields) → number ≡ length above + 2
+            → Tells header.now above self.old → Tells header.now (above ++ fields_in row.now ∷ []) self.new) }
+        ensures bad { IfErr result (λ e. IsBad e (λ at cause. (above later : std_list.List Fields)
+            → number ≡ length above + 2 → Tells header.now above self.old
+            → below header.now (above ++ fields_in row.now ∷ later) ≡ Err (at, cause))) }
+    {
+        let id = header.value(Column::LegacyId, row);
+        let found = Findings::of(header, row, stood(&self.cultures, id), number);
+        if let Some(cause) = found.lowest() {
+            let cause = cause.number();
+            return Err(FileFault::Bad { row: number, cause });
+        }
+        if found.is_blank {
+            return Ok(());
+        }
+        if found.is_translation {
+            self.translations += 1;
+            return Ok(());
+        }
+        let culture = header.value(Column::Culture, row);
+        remember(&mut self.cultures, alloc, id, culture)?;
+        self.rows.push(row_of(alloc, header, row, number)?)?;
+        Ok(())
+    }
+}

@@ -1,0 +1,5 @@
+pub mod CharacterLemmas
+pub mod OrderLemmas
+pub mod RunLemmas
+pub mod SeatLemmas
+pub mod SlipLemmas

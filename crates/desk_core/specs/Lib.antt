@@ -1,0 +1,7 @@
+pub mod Checks
+pub mod Decisions
+pub mod Orders
+pub mod Refusals
+pub mod Runs
+pub mod Slips
+pub mod Worked

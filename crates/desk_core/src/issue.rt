@@ -1,0 +1,61 @@
+//! May a container be given to a ticket?
+ghost use Rattle.std.specs.Prelude.{◌≡◌};
+ghost use Rattle.std.specs.Result.{result_err};
+ghost use Rattle.std.specs.Option.{option_copied};
+ghost use Rattle.desk_core.specs.Checks.{issue_checks};
+ghost use Rattle.desk_core.specs.Decisions.{issue_facts};
+ghost use Rattle.desk_core.specs.Refusals.{first_that_holds};
+
+use crate::reader::{Limits, Place, Reader};
+use crate::refusal::Refusal;
+use isad_core::Day;
+
+/// What an issue is decided by, besides the reader.
+#[derive(Debug, Clone, Copy, PartialEq, Eq)]
+pub struct AtDesk {
+    pub place: Place,
+    /// The ticket of the first order that waits for it.
+    pub head: Option<u64>,
+    /// It is open to the reader today.
+    pub is_open: bool,
+}
+
+/// May the container be given to the ticket? No container is one that is not known; no reader is a
+/// ticket that was not given, which can be first for nothing.
+pub fn may_issue(
+    container: Option<&AtDesk>,
+    ticket: u64,
+    reader: Option<&Reader>,
+    today: Day,
+    limits: &Limits,
+) -> Result<(), Refusal>
+    ensures { result_err result
+        ≡ first_that_holds (issue_checks
+        (issue_facts (option_copied container.entry) ticket (option_copied reader.entry) today limits.now)) }
+{
+    let Some(container) = container else {
+        return Err(Refusal::UnknownContainer);
+    };
+    if container.place != Place::Desk {
+        return Err(Refusal::NotAtDesk);
+    }
+    let Some(reader) = reader else {
+        return Err(Refusal::NotFirst);
+    };
+    if container.head != Some(ticket) {
+        return Err(Refusal::NotFirst);
+    }
+    if reader.until < today {
+        return Err(Refusal::TicketExpired);
+    }
+    if reader.seat.is_none() {
+        return Err(Refusal::NotSeated);
+    }
+    if reader.held >= limits.hands {
+        return Err(Refusal::HandsFull);
+    }
+    if !container.is_open {
+        return Err(Refusal::NotAvailable);
+    }
+    Ok(())
+}

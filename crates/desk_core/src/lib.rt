@@ -1,0 +1,22 @@
+//! The reading room's decisions, from values that are handed in. No tables.
+#![tactic(auto)]
+
+mod issue;
+pub mod laws;
+mod order;
+mod reader;
+mod refusal;
+mod run;
+mod seat;
+mod slip;
+
+pub use issue::{AtDesk, may_issue};
+pub use order::{Ask, may_order};
+pub use reader::{Limits, Place, Reader};
+pub use refusal::Refusal;
+pub use run::{Candidate, pick_reshelve, pick_run};
+pub use seat::{may_leave, may_sit};
+pub use slip::slip_text;
+
+#[cfg(test)]
+mod tests;

@@ -1,0 +1,138 @@
+//! Why a command or a query is refused.
+ghost use Rattle.std.specs.Prelude.{◌≡◌};
+ghost use Rattle.desk_core.specs.Refusals.{name_of, number_of};
+
+/// A refusal, in the order of its number.
+#[derive(Debug, Clone, Copy, PartialEq, Eq)]
+pub enum Refusal {
+    /// The unit, or the parent that is named, is not known.
+    UnknownUnit,
+    /// No such ticket was given.
+    UnknownTicket,
+    /// No such container is known.
+    UnknownContainer,
+    /// The ticket's last day is before today.
+    TicketExpired,
+    /// The container is not known, or not open to the reader today.
+    NotAvailable,
+    /// An order of this ticket for the container waits or is out.
+    AlreadyOrdered,
+    /// The ticket has placed as many orders today as it may, cancelled ones too.
+    DailyLimit,
+    /// Every seat is taken.
+    NoSeatFree,
+    /// The ticket has a seat.
+    AlreadySeated,
+    /// The ticket has no seat.
+    NotSeated,
+    /// Containers are out with the ticket.
+    HoldsContainers,
+    /// No such order was placed.
+    UnknownOrder,
+    /// The order waits no more.
+    OrderNotWaiting,
+    /// The container is on the shelf, or out.
+    NotAtDesk,
+    /// The first waiting order is another ticket's, or none waits.
+    NotFirst,
+    /// As many containers are out with the ticket as may be.
+    HandsFull,
+    /// The container is not out.
+    NotIssued,
+    /// The day that is to be opened is not after today.
+    DayNotLater,
+    /// A container is still out.
+    StillIssued,
+    /// The parent is the unit itself, or lies below it.
+    IntoItself,
+    /// A container that is out would not be open to its reader: the lowest such.
+    WithReader { container: u64 },
+    /// The first faulty row of a file, and its least cause.
+    BadFile { row: u32, cause: u8 },
+    /// There are as many as there may be.
+    Full,
+    /// There is no container to move.
+    NothingToMove,
+    /// A unit would lie too deep.
+    TooDeep,
+    /// No such run was made.
+    UnknownRun,
+    /// The name is not one that is taken.
+    BadName,
+    /// The ticket has no permit for the unit.
+    NoPermit,
+}
+
+impl Refusal {
+    /// Its number, from 1 to 28.
+    pub fn code(self) -> u32
+        ensures { result ≡ number_of self }
+    {
+        match self {
+            Refusal::UnknownUnit => 1,
+            Refusal::UnknownTicket => 2,
+            Refusal::UnknownContainer => 3,
+            Refusal::TicketExpired => 4,
+            Refusal::NotAvailable => 5,
+            Refusal::AlreadyOrdered => 6,
+            Refusal::DailyLimit => 7,
+            Refusal::NoSeatFree => 8,
+            Refusal::AlreadySeated => 9,
+            Refusal::NotSeated => 10,
+            Refusal::HoldsContainers => 11,
+            Refusal::UnknownOrder => 12,
+            Refusal::OrderNotWaiting => 13,
+            Refusal::NotAtDesk => 14,
+            Refusal::NotFirst => 15,
+            Refusal::HandsFull => 16,
+            Refusal::NotIssued => 17,
+            Refusal::DayNotLater => 18,
+            Refusal::StillIssued => 19,
+            Refusal::IntoItself => 20,
+            Refusal::WithReader { .. } => 21,
+            Refusal::BadFile { .. } => 22,
+            Refusal::Full => 23,
+            Refusal::NothingToMove => 24,
+            Refusal::TooDeep => 25,
+            Refusal::UnknownRun => 26,
+            Refusal::BadName => 27,
+            Refusal::NoPermit => 28,
+        }
+    }
+
+    /// Its name, as it is told to whoever asked.
+    pub fn name(self) -> &'static str
+        ensures { result.now ≡ name_of self }
+    {
+        match self {
+            Refusal::UnknownUnit => "UnknownUnit",
+            Refusal::UnknownTicket => "UnknownTicket",
+            Refusal::UnknownContainer => "UnknownContainer",
+            Refusal::TicketExpired => "TicketExpired",
+            Refusal::NotAvailable => "NotAvailable",
+            Refusal::AlreadyOrdered => "AlreadyOrdered",
+            Refusal::DailyLimit => "DailyLimit",
+            Refusal::NoSeatFree => "NoSeatFree",
+            Refusal::AlreadySeated => "AlreadySeated",
+            Refusal::NotSeated => "NotSeated",
+            Refusal::HoldsContainers => "HoldsContainers",
+            Refusal::UnknownOrder => "UnknownOrder",
+            Refusal::OrderNotWaiting => "OrderNotWaiting",
+            Refusal::NotAtDesk => "NotAtDesk",
+            Refusal::NotFirst => "NotFirst",
+            Refusal::HandsFull => "HandsFull",
+            Refusal::NotIssued => "NotIssued",
+            Refusal::DayNotLater => "DayNotLater",
+            Refusal::StillIssued => "StillIssued",
+            Refusal::IntoItself => "IntoItself",
+            Refusal::WithReader { .. } => "WithReader",
+            Refusal::BadFile { .. } => "BadFile",
+            Refusal::Full => "Full",
+            Refusal::NothingToMove => "NothingToMove",
+            Refusal::TooDeep => "TooDeep",
+            Refusal::UnknownRun => "UnknownRun",
+            Refusal::BadName => "BadName",
+            Refusal::NoPermit => "NoPermit",
+        }
+    }
+}

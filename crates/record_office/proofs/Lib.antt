@@ -1,0 +1,4 @@
+pub mod Needs
+pub mod PerformedLemmas
+pub mod Rows
+pub mod StreamLemmas

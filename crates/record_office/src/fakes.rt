@@ -1,0 +1,181 @@
+//! Streams for tests: they give and take bytes in pieces, are interrupted, and fail where a test says.
+ghost use Rattle.std.specs.Prelude.{IsErr};
+
+use std::env::{Env, FillError};
+use std::io::{self, ErrorKind, Read, Write};
+
+fn broken<T>() -> io::Result<T>
+    ensures { IsErr result }
+{
+    Err(io::Error::from(ErrorKind::Other))
+}
+
+fn interrupted<T>() -> io::Result<T>
+    ensures { IsErr result }
+{
+    Err(io::Error::from(ErrorKind::Interrupted))
+}
+
+/// Gives its bytes in pieces of at most that length, each after an interruption if asked, and then its end, or
+/// fails there if asked.
+#[derive(Drop)]
+pub struct Pieces<'a> {
+    bytes: &'a [u8],
+    piece: usize,
+    interrupts: bool,
+    is_ready: bool,
+    fails: bool,
+}
+
+impl<'a> Pieces<'a> {
+    /// Gives all that it can at once, and then its end.
+    pub fn of(bytes: &'a [u8]) -> Pieces<'a> {
+        Pieces {
+            bytes,
+            piece: usize::MAX,
+            interrupts: false,
+            is_ready: false,
+            fails: false,
+        }
+    }
+
+    /// Gives pieces of that length, each after an interruption.
+    pub fn interrupted(bytes: &'a [u8], piece: usize) -> Pieces<'a> {
+        Pieces {
+            piece,
+            interrupts: true,
+            ..Pieces::of(bytes)
+        }
+    }
+
+    /// Fails after the bytes.
+    pub fn failing(bytes: &'a [u8]) -> Pieces<'a> {
+        Pieces {
+            fails: true,
+            ..Pieces::of(bytes)
+        }
+    }
+}
+
+impl Read for Pieces<'_> {
+    fn read(&mut self, buf: &mut [u8]) -> io::Result<usize> {
+        if self.interrupts && !self.is_ready {
+            self.is_ready = true;
+            return interrupted();
+        }
+        self.is_ready = false;
+        if self.bytes.is_empty() && self.fails {
+            return broken();
+        }
+        let n = self.piece.min(self.bytes.len()).min(buf.len());
+        for i in 0..n {
+            buf[i] = self.bytes[i];
+        }
+        self.bytes = &self.bytes[n..];
+        Ok(n)
+    }
+}
+
+/// Takes that many bytes, in pieces of at most that length, each after an interruption if asked, and then fails.
+/// It fails to flush if asked.
+#[derive(Drop)]
+pub struct Page {
+    pub held: Vec<u8>,
+    room: usize,
+    piece: usize,
+    interrupts: bool,
+    is_ready: bool,
+    holds_back: bool,
+}
+
+impl Page {
+    /// Takes all.
+    pub fn new(held: Vec<u8>) -> Page {
+        Page {
+            held,
+            room: usize::MAX,
+            piece: usize::MAX,
+            interrupts: false,
+            is_ready: false,
+            holds_back: false,
+        }
+    }
+
+    /// Takes all, and fails to flush it.
+    pub fn unflushed(held: Vec<u8>) -> Page {
+        Page {
+            holds_back: true,
+            ..Page::new(held)
+        }
+    }
+
+    /// Takes so many bytes and then fails.
+    pub fn narrow(held: Vec<u8>, room: usize) -> Page {
+        Page {
+            room,
+            ..Page::new(held)
+        }
+    }
+
+    /// Takes pieces of that length, each after an interruption.
+    pub fn interrupted(held: Vec<u8>, piece: usize) -> Page {
+        Page {
+            piece,
+            interrupts: true,
+            ..Page::new(held)
+        }
+    }
+}
+
+impl Write for Page {
+    fn write(&mut self, buf: &[u8]) -> io::Result<usize> {
+        if self.interrupts && !self.is_ready {
+            self.is_ready = true;
+            return interrupted();
+        }
+        self.is_ready = false;
+        if self.room == 0 {
+            return broken();
+        }
+        let n = buf.len().min(self.piece).min(self.room);
+        self.held.extend_from_slice(&buf[..n])?;
+        self.room -= n;
+        Ok(n)
+    }
+
+    fn flush(&mut self) -> io::Result<()> {
+        if self.interrupts && !self.is_ready {
+            self.is_ready = true;
+            return interrupted();
+        }
+        self.is_ready = false;
+        if self.holds_back { broken() } else { Ok(()) }
+    }
+}
+
+/// An environment with these arguments.
+#[derive(Drop)]
+pub struct Spoken<'a>(pub &'a [&'a [u8]]);
+
+impl Env for Spoken<'_> {
+    fn arg(&self, i: usize, buf: &mut [u8]) -> Result<usize, FillError> {
+        let Some(word) = self.0.get(i) else {
+            return Err(FillError::NotPresent);
+        };
+        if word.len() > buf.len() {
+            return Err(FillError::TooLong);
+        }
+        for k in 0..word.len() {
+            buf[k] = word[k];
+        }
+        Ok(word.len())
+    }
+
+    fn var(&self, _name: &str, _buf: &mut [u8]) -> Result<usize, FillError> {
+        Err(FillError::NotPresent)
+    }
+
+    fn var_at(&self, _i: usize, _buf: &mut [u8]) -> Result<usize, FillError> {
+        Err(FillError::NotPresent)
+    }
+}

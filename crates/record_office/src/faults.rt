@@ -1,0 +1,99 @@
+//! Why a command was not done, with its exit status and its message.
+ghost use Rattle.std.specs.Prelude.{◌≡◌, IfOk};
+ghost use Rattle.record_office.specs.Faults.{bad_file_line, message_of, status_of};
+
+use crate::streams::{ReadFault, WriteFault};
+use crate::tasks::TaskFault;
+use isad_core::Text;
+use std::alloc::{AllocError, Global};
+
+/// Why a command was not done.
+#[derive(Debug, Drop)]
+pub enum Fault {
+    /// It was refused. This is the line that says so.
+    Refused(Text),
+    /// The words name no task. This is what to tell their writer.
+    Words(Text),
+    /// A file or a standard stream could not be read or written.
+    File,
+    /// There was no memory.
+    Memory,
+}
+
+impl Fault {
+    /// The exit status.
+    pub fn status(&self) -> u8
+        ensures { result ≡ status_of self.now }
+    {
+        match self {
+            Fault::Refused(_) => 1,
+            Fault::Words(_) => 2,
+            Fault::File | Fault::Memory => 3,
+        }
+    }
+
+    /// What stands on standard error.
+    pub fn message(&self) -> &str
+        ensures { result.now ≡ message_of self.now }
+    {
+        match self {
+            Fault::Refused(line) => line.as_str(),
+            Fault::Words(text) => text.as_str(),
+            Fault::File => "file fault\n",
+            Fault::Memory => "no memory\n",
+        }
+    }
+}
+
+/// The line that refuses a file for a cause in a row.
+pub fn bad_file(alloc: Global, row: u32, cause: u8) -> Result<Text, AllocError>
+    ensures { IfOk result (λ t. t ≡ bad_file_line row cause) }
+{
+    Ok(Text(format!(in alloc; "refused 22 BadFile row {row} cause {cause}\n")?))
+}
+
+impl From<AllocError> for Fault {
+    ghost use Rattle.record_office.specs.declared.faults.Fault.TheVariants.{Memory};
+
+    ghost from_gives = { λ _ e. e ≡ Memory };
+
+    fn from(_: AllocError) -> Fault {
+        Fault::Memory
+    }
+}
+
+impl From<TaskFault> for Fault {
+    ghost use Rattle.record_office.specs.Faults.{fault_of_words};
+
+    ghost from_gives = { λ f e. e ≡ fault_of_words f };
+
+    fn from(fault: TaskFault) -> Fault {
+        match fault {
+            TaskFault::Memory => Fault::Memory,
+            TaskFault::Words(text) => Fault::Words(text),
+        }
+    }
+}
+
+impl From<ReadFault> for Fault {
+    ghost use Rattle.record_office.specs.Faults.{fault_of_reading};
+
+    ghost from_gives = { λ f e. e ≡ fault_of_reading f };
+
+    fn from(fault: ReadFault) -> Fault {
+        match fault {
+            ReadFault::Memory => Fault::Memory,
+            ReadFault::Failed => Fault::File,
+        }
+    }
+}
+
+impl From<WriteFault> for Fault {
+    ghost use Rattle.record_office.specs.declared.faults.Fault.TheVariants.{File};
+
+    ghost from_gives = { λ _ e. e ≡ File };
+
+    fn from(_: WriteFault) -> Fault {
+        Fault::File
+    }
+}

@@ -1,0 +1,31 @@
+//! The program: one command of a record office, from its words and streams to its exit status.
+#![tactic(auto)]
+
+mod command_line;
+mod commands;
+#[cfg(test)]
+mod fakes;
+mod faults;
+mod perform;
+mod streams;
+mod tasks;
+#[cfg(test)]
+mod tests;
+mod words;
+
+use std::process::ExitCode;
+
+fn main(rt: HostRuntime) -> ExitCode {
+    let status = match words::given(&rt, rt.alloc()) {
+        Ok(words) => perform::perform(
+            &rt,
+            rt.alloc(),
+            words.as_slice(),
+            &mut rt.stdin(),
+            &mut rt.stdout(),
+            &mut rt.stderr(),
+        ),
+        Err(fault) => perform::tell(&fault.into(), &mut rt.stderr()),
+    };
+    ExitCode::from(status)
+}

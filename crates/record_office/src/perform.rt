@@ -1,0 +1,41 @@
+//! One command, from its words and streams to its exit status.
+ghost use Rattle.std.specs.Prelude.{◌≡◌, ◌≤◌, map};
+ghost use Rattle.std.specs.String.{string_bytes};
+ghost use Rattle.record_office.specs.Faults.{message_of, status_of};
+ghost use Rattle.record_office.specs.Performed.{Performs, Tells};
+
+use crate::commands::run;
+use crate::faults::Fault;
+use crate::streams::write_whole;
+use std::alloc::Global;
+use std::io::{Read, Write};
+use std::rt::Files;
+
+/// Does one command with these as standard input, output and error, and gives the exit status.
+pub fn perform<F: Files, R: Read, W: Write, E: Write>(
+    rt: &F,
+    alloc: Global,
+    words: &[String],
+    reader: &mut R,
+    out: &mut W,
+    err: &mut E,
+) -> u8
+    ensures performs { Performs (map string_bytes words.now) (R.remaining reader.old) (R.remaining reader.new)
+        (W.contents out.old) (W.contents out.new) (E.contents err.old) (E.contents err.new) result }
+    ensures status { result ≤ 3 }
+{
+    match run(rt, alloc, words, reader, out) {
+        Ok(()) => 0,
+        Err(fault) => tell(&fault, err),
+    }
+}
+
+/// Tells on standard error why a command was not done, and gives the exit status, which stands whether or not
+/// standard error takes the text.
+pub fn tell<E: Write>(fault: &Fault, err: &mut E) -> u8
+    ensures status { result ≡ status_of fault.now }
+    ensures told { Tells (E.contents err.old) (E.contents err.new) (message_of fault.now) }
+{
+    let _ = write_whole(err, fault.message().as_bytes());
+    fault.status()
+}

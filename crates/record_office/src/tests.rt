@@ -1,0 +1,234 @@
+use crate::fakes::{Page, Pieces, Spoken};
+use crate::perform::perform;
+use crate::tasks::{Task, TaskFault};
+use crate::words::{given, task};
+use std::alloc::Global;
+use std::process::Abort;
+use std::rt::Files;
+use std::test::Fail;
+use std::{env, fs};
+
+// The first of the worked files, and what its preview prints.
+const FONDS: &str =
+    "legacyId,parentId,identifier,title,levelOfDescription,publicationStatus\n1,,HUL,Hull Dock Company,Fonds,Published\n2,1,1,Minutes,Series,Published\n";
+
+const AIDS: &str = "GB 0999 HUL [Fonds] Hull Dock Company\n  GB 0999 HUL/1 [Series] Minutes\n";
+
+// What clap tells of no words, and of a preview.
+const NO_COMMAND: &str =
+    "error: 'record_office' requires a subcommand but one was not provided\n  [subcommands: preview]\n\nUsage: record_office <COMMAND>\n\nFor more information, try '--help'.\n";
+
+const HELP: &str =
+    "Prints the finding aids of a CSV file's published descriptions\n\nUsage: record_office preview --country <country> --repo <repo> [FILE]\n\nArguments:\n  [FILE]  The CSV file; standard input if it is left out\n\nOptions:\n      --country <country>  The country code, such as GB\n      --repo <repo>        The repository code, such as 0999\n  -h, --help               Print help\n";
+
+const PREVIEW: &str = "preview --country GB --repo 0999";
+
+// The words of a text.
+fn words_of(alloc: Global, text: &str) -> Result<Vec<String>, Fail> {
+    let mut words = Vec::new(alloc);
+    for word in text.split_whitespace() {
+        words.push(String::from_str(alloc, word)?)?;
+    }
+    Ok(words)
+}
+
+// Performs the words over streams, and wants this exit status, this output and this told.
+fn expect<R: Abort + Files>(
+    rt: &R,
+    alloc: Global,
+    words: &str,
+    mut reader: Pieces<'_>,
+    mut out: Page,
+    wanted: (u8, &[u8], &str),
+) -> Result<(), Fail> {
+    let mut err = Page::new(Vec::new(alloc));
+    let said = words_of(alloc, words)?;
+    let status = perform(rt, alloc, said.as_slice(), &mut reader, &mut out, &mut err);
+    let (wanted_status, wanted_out, wanted_err) = wanted;
+    assert_eq!(rt; status, wanted_status, "status of {words}");
+    assert_eq!(rt; out.held.as_slice(), wanted_out, "output of {words}");
+    assert_eq!(rt;
+        err.held.as_slice(),
+        wanted_err.as_bytes(),
+        "told of {words}"
+    );
+    Ok(())
+}
+
+#[test]
+fn a_preview_is_printed(rt: HostRuntime) -> Result<(), Fail> {
+    let alloc = rt.alloc();
+    for piece in 1..9usize {
+        let reader = Pieces::interrupted(FONDS.as_bytes(), piece);
+        let out = Page::interrupted(Vec::new(alloc), piece);
+        expect(&rt, alloc, PREVIEW, reader, out, (0, AIDS.as_bytes(), ""))?;
+    }
+    Ok(())
+}
+
+#[test]
+fn a_file_is_read(rt: HostRuntime) -> Result<(), Fail> {
+    let alloc = rt.alloc();
+    let folder = env::temp_dir(&rt)?;
+    let path = folder.join(alloc, "record_office_test.csv")?;
+    fs::write(&rt, path.as_path(), FONDS)?;
+    let there = format!(in alloc; "{PREVIEW} {}", path.as_str())?;
+    let out = Page::new(Vec::new(alloc));
+    expect(
+        &rt,
+        alloc,
+        there.as_str(),
+        Pieces::failing(b""),
+        out,
+        (0, AIDS.as_bytes(), ""),
+    )?;
+    fs::remove_file(&rt, path.as_path())?;
+    // Now it is not there; and a folder is opened, and cannot be read.
+    let folder_named = format!(in alloc; "{PREVIEW} /")?;
+    for words in [there.as_str(), folder_named.as_str()] {
+        let out = Page::new(Vec::new(alloc));
+        let reader = Pieces::of(FONDS.as_bytes());
+        expect(&rt, alloc, words, reader, out, (3, b"", "file fault\n"))?;
+    }
+    Ok(())
+}
+
+#[test]
+fn files_are_refused(rt: HostRuntime) -> Result<(), Fail> {
+    let alloc = rt.alloc();
+    let header = "legacyId,parentId,identifier,title,levelOfDescription,publicationStatus\n";
+    let late = "legacyId,parentId,title\n1,,Top\n3,2,Low\n2,1,Mid\n";
+    for (file, status, told) in [
+        ("", 1, "refused 22 BadFile row 1 cause 2\n"),
+        (header, 0, ""),
+        (late, 1, "refused 22 BadFile row 3 cause 11\n"),
+    ] {
+        // Where nothing is printed, standard output need not take anything.
+        let out = Page::narrow(Vec::new(alloc), 0);
+        let reader = Pieces::of(file.as_bytes());
+        expect(&rt, alloc, PREVIEW, reader, out, (status, b"", told))?;
+    }
+    Ok(())
+}
+
+#[test]
+fn streams_fail(rt: HostRuntime) -> Result<(), Fail> {
+    let alloc = rt.alloc();
+    let file = FONDS.as_bytes();
+    for n in 0..file.len() {
+        let out = Page::new(Vec::new(alloc));
+        let reader = Pieces::failing(&file[..n]);
+        expect(&rt, alloc, PREVIEW, reader, out, (3, b"", "file fault\n"))?;
+    }
+    let aids = AIDS.as_bytes();
+    for n in 0..aids.len() {
+        let out = Page::narrow(Vec::new(alloc), n);
+        let broken = (3, &aids[..n], "file fault\n");
+        expect(&rt, alloc, PREVIEW, Pieces::of(file), out, broken)?;
+    }
+    let out = Page::unflushed(Vec::new(alloc));
+    let unflushed = (3, aids, "file fault\n");
+    expect(&rt, alloc, PREVIEW, Pieces::of(file), out, unflushed)
+}
+
+#[test]
+fn a_status_stands_without_its_text(rt: HostRuntime) -> Result<(), Fail> {
+    let alloc = rt.alloc();
+    let told = b"refused 22 BadFile row 1 cause 2\n";
+    let words = words_of(alloc, PREVIEW)?;
+    for n in 0..told.len() {
+        let mut out = Page::new(Vec::new(alloc));
+        let mut err = Page::narrow(Vec::new(alloc), n);
+        let mut reader = Pieces::of(b"");
+        let status = perform(
+            &rt,
+            alloc,
+            words.as_slice(),
+            &mut reader,
+            &mut out,
+            &mut err,
+        );
+        assert_eq!(rt; status, 1);
+        assert_eq!(rt; err.held.as_slice(), &told[..n]);
+    }
+    Ok(())
+}
+
+#[test]
+fn words_name_no_task(rt: HostRuntime) -> Result<(), Fail> {
+    let alloc = rt.alloc();
+    for (words, told) in [("", NO_COMMAND), ("preview --help", HELP)] {
+        let out = Page::new(Vec::new(alloc));
+        let reader = Pieces::failing(b"");
+        expect(&rt, alloc, words, reader, out, (2, b"", told))?;
+    }
+    for words in [
+        "check --store f",
+        "help",
+        "--help",
+        "preview -h",
+        "--version",
+        "preview",
+        "preview --country GB",
+        "preview --country --repo 0999",
+        "preview --country GB --country FR --repo 0999",
+        "preview --count GB --repo 0999",
+        "preview --country GB --repo 0999 a b",
+        "-- preview --country GB --repo 0999",
+    ] {
+        let said = words_of(alloc, words)?;
+        match task(alloc, said.as_slice()) {
+            Err(TaskFault::Words(text)) => assert!(rt; text.as_str().ends_with("\n")),
+            other => panic!(rt; "{words} gave {other:?}"),
+        }
+    }
+    Ok(())
+}
+
+#[test]
+fn words_name_a_preview(rt: HostRuntime) -> Result<(), Fail> {
+    let alloc = rt.alloc();
+    for (words, wanted_country, wanted_repo, wanted_file) in [
+        (PREVIEW, "GB", "0999", "none"),
+        ("preview --country= --repo=x=y a.csv", "", "x=y", "a.csv"),
+        ("preview a.csv --repo 1 --country FR", "FR", "1", "a.csv"),
+        ("preview --country GB --repo 1 -- -h", "GB", "1", "-h"),
+        ("preview --country GB --repo 1 -", "GB", "1", "-"),
+    ] {
+        let said = words_of(alloc, words)?;
+        match task(alloc, said.as_slice()) {
+            Ok(
+                Task::Preview {
+                    country,
+                    repo,
+                    file,
+                },
+            ) => {
+                assert_eq!(rt; country.as_str(), wanted_country);
+                assert_eq!(rt; repo.as_str(), wanted_repo);
+                let path = file.as_ref().map_or("none", |path| path.as_str());
+                assert_eq!(rt; path, wanted_file);
+            }
+            Err(fault) => panic!(rt; "{words} gave {fault:?}"),
+        }
+    }
+    Ok(())
+}
+
+#[test]
+fn words_are_given(rt: HostRuntime) -> Result<(), Fail> {
+    let alloc = rt.alloc();
+    let spoken = (
+        Spoken(&[b"record_office", b"preview", "é".as_bytes()]),
+        alloc,
+    );
+    let words = given(&spoken, alloc).ok().ok_or("no words")?;
+    assert_eq!(rt; words.len(), 2);
+    assert_eq!(rt; words[1].as_str(), "é");
+    let spoken = (Spoken(&[b"record_office", b"\xff"]), alloc);
+    match given(&spoken, alloc) {
+        Err(TaskFault::Words(text)) => assert!(rt; text.as_str().starts_with("error: ")),
+        other => panic!(rt; "words that are no text gave {other:?}"),
+    }
+    Ok(())
+}
