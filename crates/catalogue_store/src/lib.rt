@@ -1,2 +1,22 @@
-//! Units, containers and places: what an office knows of its archives.
+//! Units, containers and places: what an office knows of its archives, in tables.
 #![tactic(auto)]
+
+mod answer;
+mod catalogue;
+mod closing;
+mod containers;
+mod elements;
+mod fault;
+mod links;
+mod making;
+mod office;
+mod places;
+mod units;
+mod value;
+
+pub use catalogue::{create, known};
+pub use closing::{set_closure, set_status};
+pub use fault::StoreFault;
+pub use links::LinkPlaces;
+pub use office::{Office, OfficeRow, office_row};
+pub use units::NewUnit;

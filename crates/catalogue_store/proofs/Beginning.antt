@@ -1,0 +1,38 @@
+-- What a new office shows.
+use Rattle.std.proofs.Common.{◌≡◌, ℕ, [], refl, ap, ◌∙◌}
+use Rattle.std.proofs.lemmas.List.Sorted.{IsPermutation-refl}
+use Rattle.sqlite.specs.Effect.{Database}
+use Rattle.sqlite.specs.Change.{KeepsRows}
+use Rattle.sqlite.specs.Tree.{Trees, put_row}
+use Rattle.tree_core.specs.Forest.{Forest, Empty}
+use Rattle.catalogue_store.specs.Creation.{HasMade}
+use Rattle.catalogue_store.specs.Schema.{Version, schema, desk_tables}
+use Rattle.catalogue_store.specs.Rows.{office_row}
+use Rattle.catalogue_store.specs.Shows.{Shows}
+use Rattle.catalogue_store.specs.Step.{PutsRow}
+use Rattle.catalogue_store.specs.declared.office.OfficeRow.{OfficeRow}
+
+pub shows_beginning : (v : Version) (shows : Trees → Forest ℕ → Type 0) → ((old new : Trees) (f : Forest ℕ) → new 24 ≡ old 24 → shows old f → shows new f)
+    → (start mid new : Database) (o : OfficeRow) → HasMade (schema v) start mid → new.schema ≡ mid.schema → PutsRow 13 (office_row v o) mid new → shows mid.trees Empty
+    → Shows shows v new o (record { forest = Empty; containers = []; next = o.next_unit })
+shows_beginning v shows same start mid new o made schema_is puts placed =
+    let none = made.empty in
+    let kept = puts.only in
+    record {
+      catalogue = record {
+        schema_is = schema_is ∙ made.schema_is;
+        office = puts.rows ∙ ap (put_row (office_row v o)) none.0;
+        next = refl;
+        units = record { units = []; rows = kept.1.1.1.1.1.1.1.1.0 refl ∙ none.1.0; rise = tt; are = IsPermutation-refl [] };
+        elements = record { elements = []; rows = kept.1.1.1.1.1.1.1.1.1.0 refl ∙ none.1.1.0; rise = tt; are = tt; others = tt };
+        containers = kept.1.1.1.1.1.1.1.1.1.1.0 refl ∙ none.1.1.1.0;
+        housings = record { housings = []; rows = kept.1.1.1.1.1.1.1.1.1.1.1.0 refl ∙ none.1.1.1.1.0; rise = tt; are = tt; others = tt };
+      };
+      shown = same mid.trees new.trees Empty (kept.1.1.1.1.1.1.1.1.1.1.1.1.0 refl) placed;
+    }
+
+pub desk_kept : (v : Version) (start mid new : Database) (o : OfficeRow) → HasMade (schema v) start mid → PutsRow 13 (office_row v o) mid new → KeepsRows desk_tables start.trees new.trees
+desk_kept v start mid new o made puts =
+    let kept = made.kept in
+    let only = puts.only in
+    (only.0 refl ∙ kept.0, (only.1.0 refl ∙ kept.1.0, (only.1.1.0 refl ∙ kept.1.1.0, (only.1.1.1.0 refl ∙ kept.1.1.1.0, (only.1.1.1.1.0 refl ∙ kept.1.1.1.1.0, (only.1.1.1.1.1.0 refl ∙ kept.1.1.1.1.1.0, (only.1.1.1.1.1.1.0 refl ∙ kept.1.1.1.1.1.1.0, tt)))))))

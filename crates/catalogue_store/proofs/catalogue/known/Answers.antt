@@ -1,0 +1,12 @@
+use Rattle.std.proofs.Common.{ap, ◌≡◌, subst, sym, ◌∙◌, map, slice_get}
+use Rattle.catalogue_store.specs.Units.{Unit, is_from}
+use Rattle.catalogue_store.specs.Finding.{Finds}
+use Rattle.catalogue_store.proofs.Finding.{finds_first}
+use Rattle.catalogue_store.proofs.catalogue.known.Goals as goal
+
+pub returns-clause-finds : goal.returns-clause-finds
+returns-clause-finds g c clean f shows =
+    let is = is_from c.args.source.now c.args.legacy.now in
+    let got = c.in_ok-found.ensures.rows clean shows.units shows.rows in
+    let e : c.copied.result ≡ slice_get (map (λ (u : Unit). u.id) got.0) 0 = c.copied.ensures ∙ c.first.ensures.value ∙ ap (λ l. slice_get l 0) (c.deref.ensures.value ∙ got.2) in
+    subst (Finds is f) (sym e) (finds_first is f shows.units got.0 shows.are got.1.0)

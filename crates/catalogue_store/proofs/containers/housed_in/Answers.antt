@@ -1,0 +1,40 @@
+use Rattle.std.proofs.Common.{◌≡◌, List, map, filter, nat_eq, rules, sym, ◌∙◌}
+use Rattle.std.proofs.lemmas.Result.{IfOk-weaker}
+use Rattle.sqlite.specs.Held.{state}
+use Rattle.sqlite.specs.State.{HasCleanDisk}
+use Rattle.catalogue_store.specs.Rows.{HousingRow, by_housing}
+use Rattle.catalogue_store.specs.Order.{IsOrdered}
+use Rattle.catalogue_store.specs.Step.{IsCut, Looks}
+use Rattle.sqlite_trees.proofs.ListLemmas.{map-map}
+use Rattle.catalogue_store.proofs.Calls.{early, in_office, read_cut, read_looks, cut_looks, on_ok_from}
+use Rattle.catalogue_store.proofs.Selects.{housed_text, housed_command, housed_is, housed_plain, housed_rows}
+use Rattle.catalogue_store.proofs.containers.housed_in.Goals as goal
+
+pub returns-in_err-rows-clause-cut : goal.returns-in_err-rows-clause-cut
+returns-in_err-rows-clause-cut g c =
+    let old = state g.S.Store c.args.conn.now in
+    let new = state g.S.Store c.query_all.new.self in
+    let cut : IsCut old new = read_cut housed_text _ old new housed_command (in_office housed_text housed_command old (c.requires.inside) housed_is housed_plain) c.in_err-rows.field-0.0 c.in_err-rows.ensures.err c.query_all.ensures.survives in
+    search (rules, cut)
+
+pub returns-clause-looks : goal.returns-clause-looks
+returns-clause-looks g c =
+    let old = state g.S.Store c.args.conn.now in
+    let new = state g.S.Store c.query_all.new.self in
+    on_ok_from c.read_all.result (Looks old new) (read_looks housed_text _ old new housed_command (in_office housed_text housed_command old (c.requires.inside) housed_is housed_plain) _ c.in_ok-rows.ensures.ok c.query_all.ensures.survives)
+
+pub returns-clause-cut : goal.returns-clause-cut
+returns-clause-cut g c =
+    let old = state g.S.Store c.args.conn.now in
+    let new = state g.S.Store c.query_all.new.self in
+    cut_looks c.read_all.result old new (read_looks housed_text _ old new housed_command (in_office housed_text housed_command old (c.requires.inside) housed_is housed_plain) _ c.in_ok-rows.ensures.ok c.query_all.ensures.survives)
+
+pub returns-clause-rows : goal.returns-clause-rows
+returns-clause-rows g c clean xs stored =
+    let old = state g.S.Store c.args.conn.now in
+    let new = state g.S.Store c.query_all.new.self in
+    let shown = rw (c.number.ensures) at (c.in_ok-rows.ensures.ok clean) in
+    let at = λ (clean : HasCleanDisk new). c.requires.inside (early old new _ c.query_all.ensures.survives clean) in
+    let got = housed_rows old new c.args.container xs _ (at clean).0 (at clean).1 stored shown in
+    IfOk-weaker c.read_all.result (λ all. all.items ≡ map (λ (h : HousingRow). h.unit) got.0) (λ all. (ys : List HousingRow) × IsOrdered by_housing (filter (λ (h : HousingRow). nat_eq c.args.container h.container) xs) ys × (all.items ≡ map (λ (h : HousingRow). h.unit) ys)) (λ all same. (got.0, (got.1, got.2), same))
+    (c.read_all.ensures (map (λ (h : HousingRow). h.unit) got.0) (c.deref.ensures.value ∙ got.3 ∙ sym (map-map _ (λ (h : HousingRow). h.unit) got.0)))

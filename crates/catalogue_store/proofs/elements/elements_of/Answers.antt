@@ -1,0 +1,41 @@
+use Rattle.std.proofs.Common.{◌≡◌, List, map, filter, nat_eq, rules, sym, ◌∙◌}
+use Rattle.std.proofs.lemmas.Result.{IfOk-weaker}
+use Rattle.sqlite.specs.Held.{state}
+use Rattle.sqlite.specs.State.{HasCleanDisk}
+use Rattle.catalogue_store.specs.Rows.{ElementRow, by_element}
+use Rattle.catalogue_store.specs.Order.{IsOrdered}
+use Rattle.catalogue_store.specs.Step.{IsCut, Looks}
+use Rattle.sqlite_trees.proofs.ListLemmas.{map-map}
+use Rattle.catalogue_store.proofs.Calls.{early, in_office, read_cut, read_looks, cut_looks, on_ok_from}
+use Rattle.catalogue_store.proofs.Selects.{elements_text, elements_command, elements_is, elements_plain, elements_rows}
+use Rattle.catalogue_store.specs.declared.answer.Element.{Element}
+use Rattle.catalogue_store.proofs.elements.elements_of.Goals as goal
+
+pub returns-in_err-rows-clause-cut : goal.returns-in_err-rows-clause-cut
+returns-in_err-rows-clause-cut g c =
+    let old = state g.S.Store c.args.conn.now in
+    let new = state g.S.Store c.query_all.new.self in
+    let cut : IsCut old new = read_cut elements_text _ old new elements_command (in_office elements_text elements_command old (c.requires.inside) elements_is elements_plain) c.in_err-rows.field-0.0 c.in_err-rows.ensures.err c.query_all.ensures.survives in
+    search (rules, cut)
+
+pub returns-clause-looks : goal.returns-clause-looks
+returns-clause-looks g c =
+    let old = state g.S.Store c.args.conn.now in
+    let new = state g.S.Store c.query_all.new.self in
+    on_ok_from c.read_all.result (Looks old new) (read_looks elements_text _ old new elements_command (in_office elements_text elements_command old (c.requires.inside) elements_is elements_plain) _ c.in_ok-rows.ensures.ok c.query_all.ensures.survives)
+
+pub returns-clause-cut : goal.returns-clause-cut
+returns-clause-cut g c =
+    let old = state g.S.Store c.args.conn.now in
+    let new = state g.S.Store c.query_all.new.self in
+    cut_looks c.read_all.result old new (read_looks elements_text _ old new elements_command (in_office elements_text elements_command old (c.requires.inside) elements_is elements_plain) _ c.in_ok-rows.ensures.ok c.query_all.ensures.survives)
+
+pub returns-clause-rows : goal.returns-clause-rows
+returns-clause-rows g c clean xs stored =
+    let old = state g.S.Store c.args.conn.now in
+    let new = state g.S.Store c.query_all.new.self in
+    let shown = rw (c.number.ensures) at (c.in_ok-rows.ensures.ok clean) in
+    let at = λ (clean : HasCleanDisk new). c.requires.inside (early old new _ c.query_all.ensures.survives clean) in
+    let got = elements_rows old new c.args.unit xs _ (at clean).0 (at clean).1 stored shown in
+    IfOk-weaker c.read_all.result (λ all. all.items ≡ map (λ (e : ElementRow). (let x : Element = record { k = e.k; value = e.value } in x)) got.0) (λ all. (ys : List ElementRow) × IsOrdered by_element (filter (λ (e : ElementRow). nat_eq c.args.unit e.unit) xs) ys × (all.items ≡ map (λ (e : ElementRow). (let x : Element = record { k = e.k; value = e.value } in x)) ys)) (λ all same. (got.0, (got.1, got.2), same))
+    (c.read_all.ensures (map (λ (e : ElementRow). (let x : Element = record { k = e.k; value = e.value } in x)) got.0) (c.deref.ensures.value ∙ got.3 ∙ sym (map-map _ (λ (e : ElementRow). (let x : Element = record { k = e.k; value = e.value } in x)) got.0)))

@@ -1,0 +1,38 @@
+use Rattle.std.proofs.Common.{Option, length, get_or, ◌≡◌, ◌<◌, ◌+◌, ◌∙◌, List, [], ◌∷◌, ◌++◌, ap, sym, subst, option_copied}
+use Rattle.sqlite.specs.Held.{state}
+use Rattle.isad_core.specs.Texts.{Bytes}
+use Rattle.catalogue_store.specs.Adding.{WithTexts, text_cells}
+use Rattle.catalogue_store.proofs.Calls.{early, goes_then}
+use Rattle.catalogue_store.proofs.Touching.{touched_again}
+use Rattle.catalogue_store.proofs.TextLemmas.{first_cells, texts_then, cells_step}
+use Rattle.catalogue_store.proofs.elements.insert_texts.Goals as goal
+
+pub loop-text-preserved : goal.loop-text-preserved
+loop-text-preserved g c =
+    let a = state g.S.Store c.args.conn.now in
+    let b = state g.S.Store c.loop-text.conn in
+    let d = state g.S.Store c.insert_text.new.conn in
+    let unit = c.args.unit in
+    let texts = c.args.values.now.texts in
+    let i = c.loop-text.text-index in
+    let text = option_copied c.as_ref.result in
+    let invariant = c.loop-text.invariant in
+    let last = c.in_ok-insert_text.ensures.goes in
+    let cells : (first_cells i texts ++ text_cells c.loop-text.place text) ≡ first_cells (i + 1) texts =
+    cells_step texts i c.loop-text.place text invariant.0 (subst (λ (l : List (Option Bytes)). i < length l) c.as_slice-text-items.ensures c.loop-text-test.true)
+    (c.as_ref.ensures.value ∙ c.text-item.is ∙ ap (λ (l : List (Option Bytes)). get_or l i c.text-item.result) c.as_slice-text-items.ensures ∙ ap (get_or texts i) (sym c.as_ref.ensures.value)) in (
+      ap (λ n. n + 1) invariant.0,
+      (
+        invariant.1.0,
+        (
+          goes_then a b d invariant.1.1.0 last,
+          (
+            λ clean. touched_again (16 ∷ []) a.now b.now d.now (invariant.1.1.1.0 (early b d _ last.on.crash clean)) (c.in_ok-insert_text.ensures.only clean),
+            λ clean xs at.
+                let before = invariant.1.1.1.1 (early b d _ last.on.crash clean) xs at in
+                let one = c.in_ok-insert_text.ensures.adds clean before.0 before.1 in
+                (one.0, one.1, subst (λ cells. WithTexts unit cells xs one.0) cells (texts_then unit (first_cells i texts) (text_cells c.loop-text.place text) xs before.0 one.0 before.2 one.2)),
+          ),
+        ),
+      ),
+    )

@@ -1,0 +1,33 @@
+use Rattle.std.proofs.Common.{length, [], ◌∷◌, rules, ◌∙◌}
+use Rattle.sqlite.specs.Held.{state}
+use Rattle.catalogue_store.specs.Step.{IsCut, Looks}
+use Rattle.catalogue_store.proofs.Calls.{early, in_office, read_cut, read_looks, cut_looks, on_ok_from}
+use Rattle.catalogue_store.specs.Counting.{capped}
+use Rattle.catalogue_store.proofs.Selects.{count_units_text, count_units_command, count_units_is, count_units_plain, count_units_rows}
+use Rattle.catalogue_store.proofs.office.count_units.Goals as goal
+
+pub returns-in_err-rows-clause-cut : goal.returns-in_err-rows-clause-cut
+returns-in_err-rows-clause-cut g c =
+    let old = state g.S.Store c.args.conn.now in
+    let new = state g.S.Store c.query_all.new.self in
+    let cut : IsCut old new = read_cut count_units_text _ old new count_units_command (in_office count_units_text count_units_command old (c.requires.inside) count_units_is count_units_plain) c.in_err-rows.field-0.0 c.in_err-rows.ensures.err c.query_all.ensures.survives in
+    search (rules, cut)
+
+pub returns-clause-looks : goal.returns-clause-looks
+returns-clause-looks g c =
+    let old = state g.S.Store c.args.conn.now in
+    let new = state g.S.Store c.query_all.new.self in
+    on_ok_from c.read_all.result (Looks old new) (read_looks count_units_text _ old new count_units_command (in_office count_units_text count_units_command old (c.requires.inside) count_units_is count_units_plain) _ c.in_ok-rows.ensures.ok c.query_all.ensures.survives)
+
+pub returns-clause-cut : goal.returns-clause-cut
+returns-clause-cut g c =
+    let old = state g.S.Store c.args.conn.now in
+    let new = state g.S.Store c.query_all.new.self in
+    cut_looks c.read_all.result old new (read_looks count_units_text _ old new count_units_command (in_office count_units_text count_units_command old (c.requires.inside) count_units_is count_units_plain) _ c.in_ok-rows.ensures.ok c.query_all.ensures.survives)
+
+pub returns-clause-rows : goal.returns-clause-rows
+returns-clause-rows g c clean xs stored =
+    let old = state g.S.Store c.args.conn.now in
+    let new = state g.S.Store c.query_all.new.self in
+    let at = c.requires.inside (early old new _ c.query_all.ensures.survives clean) in
+    c.read_all.ensures (capped (length xs) ∷ []) (c.deref.ensures.value ∙ count_units_rows old new xs _ at.0 at.1 stored (c.in_ok-rows.ensures.ok clean))

@@ -1,0 +1,141 @@
+//! Rows that a query answers, read one by one.
+
+ghost use Rattle.std.specs.Prelude.{◌≡◌, List, map, IfOk};
+
+use crate::fault::StoreFault;
+use crate::office::OfficeRow;
+use isad_core::{BoxKey, Day, Text};
+use sqlite::Row;
+use std::alloc::Global;
+use tree_core::Link;
+
+/// What a row of a query tells.
+pub(crate) trait FromRow {
+    ghost use Rattle.sqlite.specs.Order.{Row};
+
+    /// The cells that stand for it.
+    ghost cells: { Self → Row };
+
+    fn read(row: &Row) -> Result<Self, StoreFault>
+    where
+        Self: Sized,
+        ensures { (x : Self) → row.now ≡ cells x → IfOk result (λ y. y ≡ x) };
+}
+
+impl FromRow for u64 {
+    ghost use Rattle.std.specs.Prelude.{pos, [], ◌∷◌};
+    ghost use Rattle.sqlite.specs.declared.types.Value.TheVariants.{Int};
+
+    ghost cells = { λ n. Int (pos n) ∷ [] };
+
+    fn read(row: &Row) -> Result<u64, StoreFault> {
+        Ok(row.get(0)?)
+    }
+}
+
+/// A text of a unit, by the number of its element, 1 to 26 without 4.
+#[derive(Drop)]
+pub(crate) struct Element {
+    pub k: u64,
+    pub value: Text,
+}
+
+impl FromRow for Element {
+    ghost use Rattle.std.specs.Prelude.{pos, [], ◌∷◌};
+    ghost use Rattle.sqlite.specs.declared.types.Value.TheVariants.{Int, Text as words_cell};
+
+    ghost cells = { λ e. Int (pos e.k) ∷ words_cell e.value ∷ [] };
+
+    fn read(row: &Row) -> Result<Element, StoreFault> {
+        Ok(Element {
+            k: row.get(0)?,
+            value: Text(row.get(1)?),
+        })
+    }
+}
+
+/// A container of a unit by its number, at its place in the unit's order from 1.
+#[derive(Clone, Copy)]
+pub(crate) struct Housing {
+    pub ord: u64,
+    pub container: u64,
+}
+
+impl FromRow for Housing {
+    ghost use Rattle.std.specs.Prelude.{pos, [], ◌∷◌};
+    ghost use Rattle.sqlite.specs.declared.types.Value.TheVariants.{Int};
+
+    ghost cells = { λ h. Int (pos h.ord) ∷ Int (pos h.container) ∷ [] };
+
+    fn read(row: &Row) -> Result<Housing, StoreFault> {
+        Ok(Housing {
+            ord: row.get(0)?,
+            container: row.get(1)?,
+        })
+    }
+}
+
+impl FromRow for BoxKey {
+    ghost use Rattle.std.specs.Prelude.{[], ◌∷◌};
+    ghost use Rattle.sqlite.specs.declared.types.Value.TheVariants.{Text as words_cell};
+
+    ghost cells = { λ b. words_cell b.name ∷ words_cell b.location ∷ words_cell b.kind ∷ [] };
+
+    fn read(row: &Row) -> Result<BoxKey, StoreFault> {
+        Ok(BoxKey {
+            name: Text(row.get(0)?),
+            location: Text(row.get(1)?),
+            kind: Text(row.get(2)?),
+        })
+    }
+}
+
+impl FromRow for Link {
+    ghost use Rattle.std.specs.Prelude.{pos, [], ◌∷◌, option_map};
+    ghost use Rattle.sqlite.specs.Values.{or_null};
+    ghost use Rattle.sqlite.specs.declared.types.Value.TheVariants.{Int};
+
+    ghost cells = { λ l. Int (pos l.id) ∷ or_null Int (option_map pos l.parent) ∷ Int (pos l.ord) ∷ [] };
+
+    fn read(row: &Row) -> Result<Link, StoreFault> {
+        Ok(Link {
+            id: row.get(0)?,
+            parent: row.get(1)?,
+            ord: row.get(2)?,
+        })
+    }
+}
+
+impl FromRow for OfficeRow {
+    ghost use Rattle.catalogue_store.specs.Rows.{settings_cells};
+
+    ghost cells = { settings_cells };
+
+    fn read(row: &Row) -> Result<OfficeRow, StoreFault> {
+        let number: i32 = row.get(6)?;
+        let Some(day) = Day::from_number(number) else {
+            return Err(StoreFault::Schema);
+        };
+        Ok(OfficeRow {
+            country: Text(row.get(0)?),
+            repo: Text(row.get(1)?),
+            seats: row.get(2)?,
+            daily: row.get(3)?,
+            hands: row.get(4)?,
+            run_size: row.get(5)?,
+            day,
+            next_unit: row.get(7)?,
+        })
+    }
+}
+
+/// Reads all rows of an answer.
+pub(crate) fn read_all<T: FromRow + Drop>(alloc: Global, rows: &[Row]) -> Result<Vec<T>, StoreFault>
+    ensures { (xs : List T) → rows.now ≡ map T.cells xs → IfOk result (λ all. all.items ≡ xs) }
+{
+    let mut all = Vec::new(alloc);
+    for row in rows {
+        all.push(T::read(row)?)?;
+    }
+    Ok(all)
+}

@@ -1,0 +1,57 @@
+//! The calls on the whole catalogue.
+
+ghost use Rattle.std.specs.Prelude.{◌≡◌, ◌<◌, ◌^◌, [], OnOk, OnErr, IfOk};
+ghost use Rattle.sqlite.specs.Held.{state};
+ghost use Rattle.sqlite.specs.State.{HasCleanDisk};
+ghost use Rattle.sqlite.specs.Effect.{Database};
+ghost use Rattle.sqlite.specs.Change.{KeepsRows};
+ghost use Rattle.tree_core.specs.Forest.{Forest, Empty};
+ghost use Rattle.catalogue_store.specs.Creation.{IsMaking};
+ghost use Rattle.catalogue_store.specs.Finding.{Finds};
+ghost use Rattle.catalogue_store.specs.Merging.{Catalogue};
+ghost use Rattle.catalogue_store.specs.Schema.{desk_schema, desk_tables};
+ghost use Rattle.catalogue_store.specs.Shows.{Shows, ShowsUnits};
+ghost use Rattle.catalogue_store.specs.Step.{InOffice, Continues, Looks, IsCut};
+ghost use Rattle.catalogue_store.specs.Units.{«Unit» as Described, is_from};
+
+use crate::fault::StoreFault;
+use crate::making::{create_containers, create_units};
+use crate::office::{OfficeRow, insert_office};
+use crate::places::Places;
+use crate::units::units_from;
+use isad_core::Text;
+use sqlite::{Alter, Connection};
+use std::alloc::Global;
+
+/// Makes the catalogue's tables beside the desk's, which are there, and the office's row.
+pub fn create<P: Places, S: Alter>(
+    conn: &mut Connection<S>,
+    row: &OfficeRow,
+) -> Result<(), StoreFault>
+    requires { row.now.next_unit < 2 ^ 63 }
+    ensures shows { (start : Database) → IsMaking desk_schema start (state S.Store conn.old) → HasCleanDisk (state S.Store conn.new) → OnOk result (Shows P.shows P.version (state S.Store conn.new).now row.now (record { forest = Empty; containers = []; next = row.now.next_unit })) }
+    ensures desk { (start : Database) → IsMaking desk_schema start (state S.Store conn.old) → HasCleanDisk (state S.Store conn.new) → OnOk result (KeepsRows desk_tables start.trees (state S.Store conn.new).now.trees) }
+    ensures goes { (start : Database) → IsMaking desk_schema start (state S.Store conn.old) → OnOk result (Continues (state S.Store conn.old) (state S.Store conn.new)) }
+    ensures cut { (start : Database) → IsMaking desk_schema start (state S.Store conn.old) → OnErr result (IsCut (state S.Store conn.old) (state S.Store conn.new)) }
+{
+    create_units(conn)?;
+    create_containers(conn)?;
+    P::create(conn)?;
+    insert_office::<P, S>(conn, row)
+}
+
+/// The number of the unit that has this number in this source, where it is catalogued.
+pub fn known<S: Alter>(
+    alloc: Global,
+    conn: &mut Connection<S>,
+    source: &Text,
+    legacy: &Text,
+) -> Result<Option<u64>, StoreFault>
+    requires inside { InOffice (state S.Store conn.old) }
+    ensures finds { HasCleanDisk (state S.Store conn.new) → (f : Forest Described) → ShowsUnits (state S.Store conn.old).now.trees f → IfOk result (Finds (is_from source.now legacy.now) f) }
+    ensures looks { OnOk result (Looks (state S.Store conn.old) (state S.Store conn.new)) }
+    ensures cut { OnErr result (IsCut (state S.Store conn.old) (state S.Store conn.new)) }
+{
+    let found = units_from(alloc, conn, source, legacy)?;
+    Ok(found.first().copied())
+}

@@ -1,0 +1,43 @@
+//! Why a call on the tables fails.
+
+use sqlite::{Error, ErrorCode};
+use std::alloc::{AllocError, AllocFailed};
+
+/// After a fault the caller's transaction is to be taken back: it goes on with what was done so far,
+/// or has been taken back already.
+#[derive(Clone, Copy, Debug, PartialEq, Eq)]
+pub enum StoreFault {
+    /// A growth was refused, in memory or of the store's size.
+    Memory,
+    /// The store's disk failed.
+    Disk,
+    /// The tables are not ours, or, where they are made, some are there.
+    Schema,
+}
+
+impl From<AllocError> for StoreFault {
+    fn from(_: AllocError) -> StoreFault {
+        StoreFault::Memory
+    }
+}
+
+impl<T: Drop> From<AllocFailed<T>> for StoreFault {
+    fn from(_: AllocFailed<T>) -> StoreFault {
+        StoreFault::Memory
+    }
+}
+
+impl From<Error> for StoreFault {
+    fn from(error: Error) -> StoreFault {
+        match error {
+            Error::SqliteFailure(ErrorCode::OutOfMemory) => StoreFault::Memory,
+            Error::SqliteFailure(
+                ErrorCode::SystemIoFailure
+                | ErrorCode::DatabaseCorrupt
+                | ErrorCode::DiskFull
+                | ErrorCode::Closed,
+            ) => StoreFault::Disk,
+            _ => StoreFault::Schema,
+        }
+    }
+}
