@@ -1,0 +1,144 @@
+#!/usr/bin/env python3
+"""Wrong rules, one at a time, in a copy of the repository: each has to be refused by a law or a worked row.
+
+bench/wrong_rules.py [WORD ..]: tries those rules whose label has one of the words, or all of them. It edits one
+definition at a time in a copy and checks the office. Build the libraries first (rt check in crates/office)."""
+import os, re, subprocess, sys, tempfile, time
+SRC=os.path.dirname(os.path.dirname(os.path.abspath(__file__)))
+W=os.path.join(tempfile.mkdtemp(),'copy')
+O='crates/office/specs/'; C='crates/catalogue_store/specs/'
+E=[
+# seats and tickets
+('a ticket expires on its last day',O+'State.antt','int_lt reader.until s.day','int_le reader.until s.day'),
+('a taken seat is taken over',O+'State.antt','sit t (Some u ∷ seats) = Some u ∷ sit t seats','sit t (Some u ∷ seats) = Some t ∷ seats'),
+('leaving frees every seat',O+'State.antt','cond (is_seat_of t seat) None seat','cond (is_seat_of t seat) None None'),
+('OpenDay leaves the seats',O+'Rules.antt','record s { day = day; seats = replicate s.settings.seats None }','record s { day = day }'),
+('OpenDay to an earlier day',O+'Rules.antt','unless (int_lt s.day day) DayNotLater\n    ∷ ',''),
+('OpenDay though containers are out',O+'Rules.antt','    ∷ when (list_any (is_out s) (containers s)) StillIssued\n',''),
+('OpenDay tells StillIssued first',O+'Rules.antt','unless (int_lt s.day day) DayNotLater\n    ∷ when (list_any (is_out s) (containers s)) StillIssued','when (list_any (is_out s) (containers s)) StillIssued\n    ∷ unless (int_lt s.day day) DayNotLater'),
+('Renew changes nothing',O+'Rules.antt','renewed until (r ∷ rs) (suc zero) = record r { until = until } ∷ rs','renewed until (r ∷ rs) (suc zero) = r ∷ rs'),
+('a blank name is taken',O+'Rules.antt','(not (is_blank_text name) && list_all','(true && list_all'),
+('a control character is taken in a name',O+'Rules.antt','nat_le 32 b && not (nat_eq b 127)','not (nat_eq b 127)'),
+('a source may have a space',O+'Rules.antt','(nat_eq b 46 ||','(nat_eq b 32 ||'),
+('any source is taken',O+'Rules.antt','unless (is_source source) BadName\n    ∷ bad_file','bad_file'),
+# permits
+('a permit ends before its day',O+'State.antt','int_le day permit.until','int_lt day permit.until'),
+('a permit opens every unit',O+'State.antt','nat_eq permit.unit u && int_le day permit.until','int_le day permit.until'),
+('permits open nothing',O+'State.antt','(is_permitted s.day (s.permits t))','(λ u. false)'),
+('a second permit shortens',O+'State.antt','until = cond (int_lt p.until day) day p.until','until = cond (int_lt p.until day) p.until day'),
+('a second permit replaces',O+'State.antt','until = cond (int_lt p.until day) day p.until','until = day'),
+('Permit tells the asked day',O+'State.antt','cond (nat_eq p.unit u) (cond (int_lt p.until day) day p.until) (granted_until u day ps)','cond (nat_eq p.unit u) day (granted_until u day ps)'),
+('Revoke takes all permits',O+'State.antt','not (nat_eq permit.unit u)','not (nat_eq permit.unit permit.unit)'),
+('permits outlive their unit',O+'Rules.antt','filter (λ permit. has_unit (cut (has_id u) s.forest) permit.unit) (s.permits t)','s.permits t'),
+('no check 28',O+'Rules.antt','    ∷ unless (has_permit s t u) NoPermit\n',''),
+('Permit for an unknown unit',O+'Rules.antt','    ∷ unless (has_unit s.forest u) UnknownUnit\n    ∷ when (not (has_permit s t u) && nat_le','    ∷ when (not (has_permit s t u) && nat_le'),
+('no limit of permits',O+'Rules.antt','    ∷ when (not (has_permit s t u) && nat_le most_permits (length (s.permits t))) Full\n',''),
+# orders
+('any container is open',O+'State.antt','some_and (λ box. is_open s.forest box (is_permitted s.day (s.permits t)) s.day) (numbered s.boxes c)','some_and (λ box. true) (numbered s.boxes c)'),
+('an order that is out does not count as ordered',O+'State.antt','list_any (is_by s t) (s.queue c) || is_out_with s t c','list_any (is_by s t) (s.queue c)'),
+('an order that waits does not count as ordered',O+'State.antt','list_any (is_by s t) (s.queue c) || is_out_with s t c','is_out_with s t c'),
+('the daily limit counts every day',O+'State.antt','nat_eq order.ticket t && int_eq order.day day','nat_eq order.ticket t'),
+('the daily limit counts every ticket',O+'State.antt','nat_eq order.ticket t && int_eq order.day day','int_eq order.day day'),
+('Order goes to the front of the queue',O+'Rules.antt','(s.queue c ++ suc (length s.orders) ∷ [])','(suc (length s.orders) ∷ s.queue c)'),
+('Order tells the number before',O+'Rules.antt','done.Order (suc (length s.orders))','done.Order (length s.orders)'),
+('Cancel leaves the order in the queue',O+'Rules.antt','queue = put s.queue c (without o (s.queue c)); past','past'),
+('Cancel does not end the order',O+'Rules.antt','queue = put s.queue c (without o (s.queue c)); past = put s.past o (Some state.Cancelled)','queue = put s.queue c (without o (s.queue c))'),
+('Cancel of an order that does not wait',O+'Rules.antt','    ∷ unless (waits s o) OrderNotWaiting\n',''),
+# runs
+('Run does not look whether it is open',O+'State.antt','(is_shelf (s.place order.container) && opens s order.ticket order.container)','(is_shelf (s.place order.container))'),
+('Run takes boxes from anywhere',O+'State.antt','(is_shelf (s.place order.container) && opens s order.ticket order.container)','(opens s order.ticket order.container)'),
+('Run takes any waiting order',O+'State.antt','some_and (nat_eq o) (first (s.queue order.container))','stands o (s.queue order.container)'),
+('Run takes all',O+'State.antt','take s.settings.run (filter (is_due s) (numbers_to (length s.orders)))','filter (is_due s) (numbers_to (length s.orders))'),
+('Run takes the highest container first',O+'State.antt','(filter (is_due s) (numbers_to (length s.orders)))','(filter (is_due s) (Rattle.std.specs.Prelude.reverse (numbers_to (length s.orders))))'),
+('Run leaves the boxes on the shelf',O+'Rules.antt','cond (brings (next_run s) c) Desk (s.place c)','cond (brings (next_run s) c) Shelf (s.place c)'),
+('Run keeps no line',O+'State.antt','lines = filter_map (line_for s) (picked s)','lines = []'),
+('a line names the ticket by the order',O+'State.antt','order = o; ticket = order.ticket','order = o; ticket = o'),
+('Reshelve takes boxes that are waited for',O+'State.antt','is_desk (s.place c) && is_empty (s.queue c)','is_desk (s.place c)'),
+('Reshelve leaves them at the desk',O+'Rules.antt','cond (stands c (idle s)) Shelf (s.place c)','s.place c'),
+# issue and return
+('Issue leaves the order in the queue',O+'Rules.antt','queue = put s.queue c os; place = put s.place c (Out o)','place = put s.place c (Out o)'),
+('Issue to whoever asks',O+'Rules.antt','first = some_and (is_by s t) (first (s.queue c));','first = is_some (first (s.queue c));'),
+('Issue of a box that is not at the desk',O+'Rules.antt','at_desk = is_desk (s.place c);','at_desk = true;'),
+('Issue to an expired ticket',O+'Rules.antt','expired = is_expired s t;\n      seated = is_seated s t;\n      held = held s t;','expired = false;\n      seated = is_seated s t;\n      held = held s t;'),
+('TakeSeat by an expired ticket',O+'Rules.antt','expired = is_expired s t;\n      seated = is_seated s t;\n      free','expired = false;\n      seated = is_seated s t;\n      free'),
+('Order by an expired ticket',O+'Rules.antt','expired = is_expired s t;\n      available','expired = false;\n      available'),
+('Issue to one who does not sit',O+'Rules.antt','seated = is_seated s t;\n      held = held s t;\n      hands','seated = true;\n      held = held s t;\n      hands'),
+('Issue one too many',O+'Rules.antt','hands = s.settings.hands;','hands = suc s.settings.hands;'),
+('Issue of what is withheld',O+'Rules.antt','hands = s.settings.hands;\n      available = opens s t c;','hands = s.settings.hands;\n      available = true;'),
+('hands count what others have',O+'State.antt','held s t = count_by (is_out_with s t) (containers s)','held s t = count_by (is_out s) (containers s)'),
+('Return puts the box on the shelf',O+'Rules.antt','place = put s.place c Desk; past','place = put s.place c Shelf; past'),
+('Return ends it as cancelled',O+'Rules.antt','past = put s.past o (Some state.Done)','past = put s.past o (Some state.Cancelled)'),
+('Return does not end the order',O+'Rules.antt','place = put s.place c Desk; past = put s.past o (Some state.Done)','place = put s.place c Desk'),
+('Return of what is not out',O+'Rules.antt','    ∷ unless (is_out s c) NotIssued\n',''),
+# the gate
+('no gate at Import',O+'Rules.antt','    ∷ gate (after s (command.Import source file))\n',''),
+('no gate at SetStatus',O+'Rules.antt','    ∷ gate (after s (command.SetStatus u draft whole))\n',''),
+('no gate at SetClosure',O+'Rules.antt','    ∷ gate (after s (command.SetClosure u until))\n',''),
+('no gate at Move',O+'Rules.antt','    ∷ gate (after s (command.Move u parent))\n',''),
+('no gate at Remove',O+'Rules.antt','    ∷ gate (after s (command.Remove u))\n',''),
+('no gate at Revoke',O+'Rules.antt','    ∷ gate (after s (command.Revoke t u))\n',''),
+('the gate names the highest container',O+'Rules.antt','first_that (is_kept_from_holder s) (containers s)','first_that (is_kept_from_holder s) (Rattle.std.specs.Prelude.reverse (containers s))'),
+# catalogue
+('a branch is set by its head alone',O+'Rules.antt','is_chosen true u f unit = list_any (has_id unit.id) (branch (has_id u) f)','is_chosen true u f unit = has_id u unit'),
+('a unit alone sets its branch',O+'Rules.antt','is_chosen false u f unit = has_id u unit','is_chosen false u f unit = list_any (has_id unit.id) (branch (has_id u) f)'),
+('a branch counts as one',O+'Rules.antt','chosen true u f = length (branch (has_id u) f)','chosen true u f = 1'),
+('a closure closes every unit',O+'Rules.antt','cond (has_id u unit) (record unit { until = until }) unit','record unit { until = until }'),
+('a unit may go below its own child',O+'Rules.antt','list_any (has_id p) (branch (has_id u) f)','nat_eq p u'),
+('a branch may go as deep as it likes',O+'Rules.antt','    ∷ when (nat_lt most_deep (depth_after u parent s.forest)) TooDeep\n',''),
+('depth counts the parent alone',O+'Rules.antt','depth parent f + height (tree (has_id u) f)','depth parent f + 1'),
+('Move to an unknown parent',O+'Rules.antt','    ∷ unless (has_place has_id parent s.forest) UnknownUnit\n',''),
+('Remove tells one',O+'Rules.antt','done.Remove (length (branch (has_id u) s.forest))','done.Remove 1'),
+('own boxes do not hide those above',C+'Housing.antt','own_or (box ∷ boxes) above = box ∷ boxes','own_or (box ∷ boxes) above = above'),
+('only own boxes count',C+'Housing.antt','own_or [] above = above','own_or [] above = []'),
+('an empty box is open',C+'Housing.antt','is_some_there (contents f box) && list_all','true && list_all'),
+('a box is open where something in it is',C+'Housing.antt','list_all (λ path. not','list_any (λ path. not'),
+('a closure lasts to its day',C+'Units.antt','int_lt today until','Rattle.std.specs.Prelude.int_le today until'),
+# import
+('an import keeps the next number',O+'Rules.antt','next_unit = intake.catalogue.next;','next_unit = s.next_unit;'),
+('an import keeps the old containers',O+'Rules.antt','boxes = intake.catalogue.containers;','boxes = s.boxes;'),
+('every known row is the same',O+'Intake.antt','some_and (λ unit. same_values unit.values row.values) (unit_of f source row)','some_and (λ unit. true) (unit_of f source row)'),
+('translations are not told',O+'Intake.antt','    intake.file.translations\n','    0\n'),
+('no remark on levels',O+'Intake.antt','remark_if (is_level_above (rank_of unit.values.level) (rank_of parent.values.level)) (LevelTooHigh row)','[]'),
+('a level beside its own is remarked on',O+'Intake.antt','is_level_above (Some rank) (Some other) = nat_lt rank other','is_level_above (Some rank) (Some other) = nat_lt rank (1 + other)'),
+('no remark on tops',O+'Intake.antt','remark_if (lacks_essential top.values) (LacksEssential row)','[]'),
+('a status comes with the file',C+'Merging.antt','    then record unit { values','    then record unit { draft = not unit.draft; values'),
+# what is shown
+('closed units are shown whole',O+'Queries.antt','public_of s.day s.forest','public_of (Rattle.std.specs.Prelude.pos 4000000) s.forest'),
+('every element is found above',O+'Pages.antt','cond (is_found_above element) (nearest_value element higher) None','nearest_value element higher'),
+('nothing is found above',O+'Pages.antt','cond (is_found_above element) (nearest_value element higher) None','None'),
+('own values are said to be from above',O+'Pages.antt','own_or (Some text) = Some (element, text, None)','own_or (Some text) = Some (element, text, Some unit.code)'),
+('a page has own boxes alone',O+'Pages.antt','boxes_or press None unit.values.boxes (nearest_boxes press higher)','boxes_or press None unit.values.boxes []'),
+('a page lists no children',O+'Pages.antt','below = side_by_side press (map identifier_of way) children;','below = [];'),
+('an aid below a unit forgets those above',O+'Pages.antt','(above_last (path (is_numbered u) f)) 0','[] 0'),
+('ended orders are listed',O+'Queries.antt','is_by s t o && (waits s o || is_out_now s o)','is_by s t o'),
+('keys of an import in another order',O+'Json.antt','((codes "changed", count changed)\n    ∷ (codes "new", count new)','((codes "new", count new)\n    ∷ (codes "changed", count changed)'),
+]
+def run(cmd,cwd):
+    p=subprocess.run(cmd,cwd=cwd,capture_output=True,text=True); return p.stdout+p.stderr
+if __name__=='__main__':
+    only=sys.argv[1:] 
+    subprocess.run(['cp','-r',SRC,W])
+    passed=[]; n=0
+    for label,f,old,new in E:
+        if only and not any(o in label for o in only): continue
+        p=W+'/'+f; orig=open(p).read()
+        if old not in orig: print(f'NOT APPLIED | {label}',flush=True); continue
+        s=orig.replace(old,new,1)
+        open(p,'w').write(s); n+=1
+        t=time.time()
+        out=''
+        if f.startswith(C):
+            out=run(['rt','lib'],W+'/crates/catalogue_store')
+        o2=run(['rt','check'],W+'/crates/office') if ('logic=proved' in out or not f.startswith(C)) else out
+        dt=time.time()-t
+        spec_err=[l for l in o2.split('\n') if 'error' in l and '/specs/' in l]
+        names=sorted(set(m.group(1)+'.'+m.group(2) for m in re.finditer(r'proofs/([\w/]+)\.antt:\d+:\d+: error: `([\w-]+)`',o2)))
+        rows=[x for x in names if x.startswith('Rows.') or x.startswith('AnswerRows.')]
+        others=[x for x in names if not(x.startswith('Rows.') or x.startswith('AnswerRows.')) and '/' not in x]
+        if 'logic=proved' in o2:
+            print(f'LET THROUGH {dt:4.1f}s | {label}',flush=True); passed.append(label)
+        elif spec_err: print(f'DOES NOT READ | {label} | {spec_err[0][:200]}',flush=True)
+        else: print(f'refused {dt:4.1f}s | {label} | rows: {", ".join(rows)} | proofs: {", ".join(others)}',flush=True)
+        open(p,'w').write(orig)
+        if f.startswith(C): run(['rt','lib'],W+'/crates/catalogue_store')
+    print(f'{n} tried, {len(passed)} let through: {passed}')
