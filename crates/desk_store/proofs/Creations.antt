@@ -113,4 +113,3 @@ permit_defined = record { table = free permit; says = record { is = refl; plain 
 pub permit_by_unit_indexed : DefinesIndex [] s9 permit_by_unit_text desk_schema
 unfolding understood everything
 permit_by_unit_indexed = record { at = 6; table = permit; index = free_index permit_by_unit; says = record { is = refl; plain = (refl, refl); whole = refl }; place = refl; defined = refl; is = refl; same = refl; more = reader ∷ seat ∷ orders ∷ holding ∷ run ∷ run_line ∷ permit ∷ []; first = refl; rest = refl }
-

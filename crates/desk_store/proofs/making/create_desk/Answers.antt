@@ -6,6 +6,13 @@ use Rattle.catalogue_store.specs.Schema.{desk_schema}
 use Rattle.catalogue_store.proofs.Calls.{cut_then, continues_then, on_ok_then, on_err_then}
 use Rattle.desk_store.proofs.making.create_desk.Goals as goal
 
+pub returns-in_err-create_readers-clause-cut : goal.returns-in_err-create_readers-clause-cut
+returns-in_err-create_readers-clause-cut g c start making =
+    let a0 = state g.S.Store c.args.conn.now in
+    let a1 = state g.S.Store c.create_readers.new.conn in
+    let one : IsCut a0 a1 = c.in_err-create_readers.ensures.cut start making in
+    search (rules, one)
+
 pub returns-in_err-create_orders-clause-cut : goal.returns-in_err-create_orders-clause-cut
 returns-in_err-create_orders-clause-cut g c start making =
     let a0 = state g.S.Store c.args.conn.now in

@@ -2,7 +2,6 @@ use Rattle.std.proofs.Common.{rules, []}
 use Rattle.sqlite.specs.Held.{state}
 use Rattle.catalogue_store.specs.Step.{Continues, IsCut}
 use Rattle.catalogue_store.specs.Creation.{IsMaking}
-use Rattle.catalogue_store.specs.Schema.{no_schema, desk_schema}
 use Rattle.desk_store.proofs.Creations.{orders_by_container_indexed, orders_by_ticket_indexed, orders_defined, s2, s3, s4, s5}
 use Rattle.catalogue_store.proofs.Calls.{cut_then, continues_then, on_ok_then, on_err_then}
 use Rattle.desk_store.proofs.making.create_orders.Goals as goal
