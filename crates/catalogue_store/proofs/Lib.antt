@@ -29,4 +29,6 @@ pub mod Changes
 pub mod LinkChanges
 pub mod UnitReads
 pub mod OfficeChanges
+pub mod BoxNumbers
+pub mod Numbered
 pub mod Creations
