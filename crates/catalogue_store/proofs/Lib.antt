@@ -3,6 +3,7 @@ pub mod Sorted
 pub mod Tests
 pub mod Rows
 pub mod Queries
+pub mod Limits
 pub mod Counts
 pub mod Joins
 pub mod Steps
@@ -26,5 +27,9 @@ pub mod Inserts
 pub mod Selects
 pub mod Changes
 pub mod LinkChanges
+pub mod UnitReads
+pub mod OfficeChanges
+pub mod BoxNumbers
+pub mod Numbered
 pub mod Creations
 pub mod Transactions
