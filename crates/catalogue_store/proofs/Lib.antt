@@ -28,3 +28,5 @@ pub mod Changes
 pub mod LinkChanges
 pub mod Creations
 pub mod PlaceReads
+pub mod Climbing
+pub mod MarkReads

@@ -10,6 +10,7 @@ mod fault;
 mod link_reads;
 mod links;
 mod making;
+mod marks;
 mod office;
 mod places;
 mod units;
