@@ -33,3 +33,6 @@ pub mod BoxNumbers
 pub mod Numbered
 pub mod Creations
 pub mod Transactions
+pub mod PlaceReads
+pub mod Climbing
+pub mod MarkReads

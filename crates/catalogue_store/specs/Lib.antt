@@ -17,3 +17,5 @@ pub mod Order
 pub mod Tests
 pub mod Text
 pub mod Housing
+pub mod Marking
+pub mod Marked
