@@ -12,6 +12,7 @@ pub mod Cascades
 pub mod Errors
 pub mod Failures
 pub mod Refusals
+pub mod Causes
 pub mod Reading
 pub mod Calls
 pub mod Touching
