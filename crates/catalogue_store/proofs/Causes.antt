@@ -1,5 +1,5 @@
 -- Why a statement fails on our tables, where the disk is clean and no limit is set.
-use Rattle.std.proofs.Common.{◌≡◌, ◌⊎◌, inl, inr, ℕ, zero, suc, ◌<◌, List, [], ◌∷◌, length, get_or, false, Ok, Err, Result, None, IfErr, sym, ap, subst, subst₂, ◌∙◌, append-nil, arith}
+use Rattle.std.proofs.Common.{◌≡◌, ◌⊎◌, inl, inr, ℕ, zero, suc, ◌<◌, List, [], ◌∷◌, length, get_or, true, false, Ok, Err, Result, Option, Some, None, IsSome, Any, IfErr, sym, ap, subst, subst₂, ◌∙◌, append-nil, arith}
 use Rattle.sqlite.specs.Order.{Row}
 use Rattle.sqlite.specs.Schema.{Schema}
 use Rattle.sqlite.specs.Tree.{Trees}
@@ -12,19 +12,14 @@ use Rattle.sqlite.specs.Listing.{understood, reads_listing, IsSourceOf}
 use Rattle.sqlite.specs.State.{State, HasCleanDisk, FailsToQuery, IsNotRun, Fails, store_error}
 use Rattle.sqlite.specs.State as state
 use Rattle.sqlite_schema.specs.declared.program.Program.{Program}
-use Rattle.sqlite_value.specs.declared.keys.Key.{Key}
-use Rattle.sqlite.specs.Term.{Term, Env}
-use Rattle.sqlite.specs.Query.{inner, end}
-use Rattle.sqlite.specs.Program.{overlay}
-use Rattle.sqlite_sql.specs.Program.{QueryOverflows}
-use Rattle.sqlite_sql.specs.Group.{Aggregate, value_over}
+use Rattle.sqlite.specs.Term.{Env}
+use Rattle.sqlite_sql.specs.Group.{Aggregate, Overflows, value_over}
 use Rattle.sqlite.proofs.Callers.{IsPlain, command_of}
 use Rattle.catalogue_store.specs.Faults.{fault_of, IsUnlimited, HasCause}
 use Rattle.catalogue_store.specs.Step.{Continues}
 use Rattle.catalogue_store.specs.declared.fault.StoreFault.{StoreFault}
 use Rattle.catalogue_store.specs.declared.fault.StoreFault.TheVariants as fault
-use Rattle.catalogue_store.proofs.Queries.{plain_query}
-use Rattle.catalogue_store.proofs.Counts.{summary_query, count_rows}
+use Rattle.catalogue_store.proofs.Counts.{over, count_rows}
 use Rattle.catalogue_store.proofs.Failures.{IsWhole, no_statement}
 
 -- ---- causes
@@ -82,16 +77,22 @@ module _ (sql : List ℕ) (params : Row) (old new : State) (schema : Schema) (ha
     | inr failed ↦ failed_cause old new e failed
   ]
 
--- ---- no SUM overflows
+-- a query without a limit is refused for its types or a SUM alone
+pub none_refuse : {A B C X O : Type 0} → (A × X) ⊎ ((B × O) ⊎ (C × (let none : Option ℕ = None in IsSome none))) → (X → ⊥) → (O → ⊥) → ⊥
+none_refuse (inl refused) typed sure = typed refused.1
+none_refuse (inr (inl over)) typed sure = sure over.1
+none_refuse (inr (inr cut)) typed sure = absurd (let limited : false ≡ true = cut.1 in cc)
 
-pub sums_nothing : (t : ℕ) (where_terms project : List Term) (order : List (Term × Key)) (db : Trees) (params : Row) → QueryOverflows (plain_query (inner t end) where_terms project order) (overlay db []) params → ⊥
-sums_nothing t where_terms project order db params (inl h) = h
-sums_nothing t where_terms project order db params (inr h) = h.4
+-- where nothing is summed, nothing overflows
+pub sums_nothing : {X : Type 0} (rows : List X) → ⊥ ⊎ Any (λ (_ : X). ⊥) rows → ⊥
+sums_nothing rows (inl h) = h
+sums_nothing rows (inr h) = h.4
 
 only_counts : (k : ℕ) (a : Aggregate) (group : List Env) → k < 1 → get_or (count_rows ∷ []) k a ≡ a → value_over group a ≡ None → ⊥
 only_counts zero a group low is none = let counted : value_over group count_rows ≡ None = ap (value_over group) is ∙ none in cc
 only_counts (suc k) a group low is none = absurd (omega (arith, low))
 
-pub counts_always : (t : ℕ) (where_terms : List Term) (db : Trees) (params : Row) → QueryOverflows (summary_query (inner t end) where_terms count_rows) (overlay db []) params → ⊥
-counts_always t where_terms db params (inl h) = let a = h.2.4 in only_counts a.0 a.1 h.2.1 a.2 a.3 a.4
-counts_always t where_terms db params (inr h) = h.4
+-- a count does not overflow
+pub counts_always : {X : Type 0} (rows : List X) (all : List Env) → Overflows (Some (over count_rows)) all ⊎ Any (λ (_ : X). ⊥) rows → ⊥
+counts_always rows all (inl h) = let a = h.2.4 in only_counts a.0 a.1 h.2.1 a.2 a.3 a.4
+counts_always rows all (inr h) = h.4

@@ -28,3 +28,4 @@ pub mod Selects
 pub mod Changes
 pub mod LinkChanges
 pub mod Creations
+pub mod ReadCauses

@@ -4,6 +4,7 @@ pub mod Publishing
 pub mod Schema
 pub mod Step
 pub mod Faults
+pub mod Legible
 pub mod Rows
 pub mod Shows
 pub mod Added

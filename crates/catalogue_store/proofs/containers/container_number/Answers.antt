@@ -39,4 +39,4 @@ returns-clause-rows g c clean xs stored =
     let at = λ (clean : HasCleanDisk new). c.requires.inside (early old new _ c.query_all.ensures.survives clean) in
     let got = container_number_rows old new c.args.key.now xs _ (at clean).0 (at clean).1 stored shown in
     IfOk-weaker c.read_all.result (λ all. all.items ≡ map (λ (c2 : ℕ × BoxKey). c2.0) got.0) (λ all. (ys : List (ℕ × BoxKey)) × IsOrdered by_container (filter (λ (c2 : ℕ × BoxKey). is_same_box c2.1 c.args.key.now) xs) ys × (all.items ≡ map (λ (c2 : ℕ × BoxKey). c2.0) ys)) (λ all same. (got.0, (got.1, got.2), same))
-    (c.read_all.ensures (map (λ (c2 : ℕ × BoxKey). c2.0) got.0) (c.deref.ensures.value ∙ got.3 ∙ sym (map-map _ (λ (c2 : ℕ × BoxKey). c2.0) got.0)))
+    (c.read_all.ensures.value (map (λ (c2 : ℕ × BoxKey). c2.0) got.0) (c.deref.ensures.value ∙ got.3 ∙ sym (map-map _ (λ (c2 : ℕ × BoxKey). c2.0) got.0)))

@@ -37,4 +37,4 @@ returns-clause-rows g c clean xs stored =
     let at = λ (clean : HasCleanDisk new). c.requires.inside (early old new _ c.query_all.ensures.survives clean) in
     let got = housed_rows old new c.args.container xs _ (at clean).0 (at clean).1 stored shown in
     IfOk-weaker c.read_all.result (λ all. all.items ≡ map (λ (h : HousingRow). h.unit) got.0) (λ all. (ys : List HousingRow) × IsOrdered by_housing (filter (λ (h : HousingRow). nat_eq c.args.container h.container) xs) ys × (all.items ≡ map (λ (h : HousingRow). h.unit) ys)) (λ all same. (got.0, (got.1, got.2), same))
-    (c.read_all.ensures (map (λ (h : HousingRow). h.unit) got.0) (c.deref.ensures.value ∙ got.3 ∙ sym (map-map _ (λ (h : HousingRow). h.unit) got.0)))
+    (c.read_all.ensures.value (map (λ (h : HousingRow). h.unit) got.0) (c.deref.ensures.value ∙ got.3 ∙ sym (map-map _ (λ (h : HousingRow). h.unit) got.0)))

@@ -38,4 +38,4 @@ returns-clause-rows g c clean xs stored =
     let at = λ (clean : HasCleanDisk new). c.requires.inside (early old new _ c.query_all.ensures.survives clean) in
     let got = elements_rows old new c.args.unit xs _ (at clean).0 (at clean).1 stored shown in
     IfOk-weaker c.read_all.result (λ all. all.items ≡ map (λ (e : ElementRow). (let x : Element = record { k = e.k; value = e.value } in x)) got.0) (λ all. (ys : List ElementRow) × IsOrdered by_element (filter (λ (e : ElementRow). nat_eq c.args.unit e.unit) xs) ys × (all.items ≡ map (λ (e : ElementRow). (let x : Element = record { k = e.k; value = e.value } in x)) ys)) (λ all same. (got.0, (got.1, got.2), same))
-    (c.read_all.ensures (map (λ (e : ElementRow). (let x : Element = record { k = e.k; value = e.value } in x)) got.0) (c.deref.ensures.value ∙ got.3 ∙ sym (map-map _ (λ (e : ElementRow). (let x : Element = record { k = e.k; value = e.value } in x)) got.0)))
+    (c.read_all.ensures.value (map (λ (e : ElementRow). (let x : Element = record { k = e.k; value = e.value } in x)) got.0) (c.deref.ensures.value ∙ got.3 ∙ sym (map-map _ (λ (e : ElementRow). (let x : Element = record { k = e.k; value = e.value } in x)) got.0)))

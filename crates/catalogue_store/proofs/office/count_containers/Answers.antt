@@ -30,4 +30,4 @@ returns-clause-rows g c clean xs stored =
     let old = state g.S.Store c.args.conn.now in
     let new = state g.S.Store c.query_all.new.self in
     let at = c.requires.inside (early old new _ c.query_all.ensures.survives clean) in
-    c.read_all.ensures (capped (length xs) ∷ []) (c.deref.ensures.value ∙ count_containers_rows old new xs _ at.0 at.1 stored (c.in_ok-rows.ensures.ok clean))
+    c.read_all.ensures.value (capped (length xs) ∷ []) (c.deref.ensures.value ∙ count_containers_rows old new xs _ at.0 at.1 stored (c.in_ok-rows.ensures.ok clean))

@@ -35,4 +35,4 @@ returns-clause-rows g c clean version o stored =
     let at = c.requires.inside (early old new _ c.query_all.ensures.survives clean) in
     let one = λ (v : Version). (let x : Version × OfficeRow = (v, o) in x) in
     let got = office_is_rows old new (one version ∷ []) _ at.0 at.1 stored (c.in_ok-rows.ensures.ok clean) in
-    c.read_all.ensures (o ∷ []) (c.deref.ensures.value ∙ got.3 ∙ ap (map (λ (x : Version × OfficeRow). settings_cells x.1)) (one_permutation (one version) got.0 got.1))
+    c.read_all.ensures.value (o ∷ []) (c.deref.ensures.value ∙ got.3 ∙ ap (map (λ (x : Version × OfficeRow). settings_cells x.1)) (one_permutation (one version) got.0 got.1))
