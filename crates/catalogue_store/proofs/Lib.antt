@@ -29,3 +29,4 @@ pub mod Changes
 pub mod LinkChanges
 pub mod Creations
 pub mod ReadCauses
+pub mod Transactions

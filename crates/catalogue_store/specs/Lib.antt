@@ -5,6 +5,7 @@ pub mod Schema
 pub mod Step
 pub mod Faults
 pub mod Legible
+pub mod Transactions
 pub mod Rows
 pub mod Shows
 pub mod Added
