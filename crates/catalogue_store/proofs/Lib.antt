@@ -13,6 +13,7 @@ pub mod Cascades
 pub mod Errors
 pub mod Failures
 pub mod Refusals
+pub mod Causes
 pub mod Reading
 pub mod Calls
 pub mod Touching
@@ -32,6 +33,7 @@ pub mod OfficeChanges
 pub mod BoxNumbers
 pub mod Numbered
 pub mod Creations
+pub mod ReadCauses
 pub mod Transactions
 pub mod PlaceReads
 pub mod Climbing
