@@ -27,3 +27,4 @@ pub mod Selects
 pub mod Changes
 pub mod LinkChanges
 pub mod Creations
+pub mod Transactions
