@@ -25,3 +25,4 @@ pub mod ReadingRows
 pub mod Judging
 pub mod CatalogueCauses
 pub mod Causes
+pub mod Judged
