@@ -22,3 +22,7 @@ pub mod Soundness
 pub mod Tables
 pub mod Reading
 pub mod ReadingRows
+pub mod Judging
+pub mod CatalogueCauses
+pub mod Causes
+pub mod Judged
