@@ -21,4 +21,5 @@ pub mod Secrecy
 pub mod Soundness
 pub mod Tables
 pub mod Reading
+pub mod DeskCauses
 pub mod ReadingRows
