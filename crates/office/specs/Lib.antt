@@ -22,4 +22,5 @@ pub mod Soundness
 pub mod Tables
 pub mod Reading
 pub mod DeskCauses
+pub mod DeskCausesRows
 pub mod ReadingRows
