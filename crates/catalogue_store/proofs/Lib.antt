@@ -26,4 +26,8 @@ pub mod Inserts
 pub mod Selects
 pub mod Changes
 pub mod LinkChanges
+pub mod Limits
+pub mod LinkGaps
+pub mod Without
+pub mod LastRows
 pub mod Creations

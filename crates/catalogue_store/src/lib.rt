@@ -7,6 +7,7 @@ mod closing;
 mod containers;
 mod elements;
 mod fault;
+mod link_rows;
 mod links;
 mod making;
 mod office;
