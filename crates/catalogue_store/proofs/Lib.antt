@@ -31,3 +31,4 @@ pub mod LinkGaps
 pub mod Without
 pub mod LastRows
 pub mod Creations
+pub mod Transactions

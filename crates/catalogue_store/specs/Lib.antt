@@ -3,6 +3,7 @@ pub mod Merging
 pub mod Publishing
 pub mod Schema
 pub mod Step
+pub mod Transactions
 pub mod Rows
 pub mod Shows
 pub mod Added

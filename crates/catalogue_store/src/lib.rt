@@ -12,6 +12,7 @@ mod links;
 mod making;
 mod office;
 mod places;
+mod transaction;
 mod units;
 mod value;
 
@@ -19,5 +20,8 @@ pub use catalogue::{create, known};
 pub use closing::{set_closure, set_status};
 pub use fault::StoreFault;
 pub use links::LinkPlaces;
+pub use making::{create_index, create_table};
 pub use office::{Office, OfficeRow, office_row};
+pub use places::Places;
+pub use transaction::{begin, commit, roll_back};
 pub use units::NewUnit;

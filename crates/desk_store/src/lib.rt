@@ -1,0 +1,6 @@
+//! The reading room's tables.
+#![tactic(auto)]
+
+mod making;
+
+pub use making::create_desk;
