@@ -32,6 +32,9 @@ pub mod UnitReads
 pub mod OfficeChanges
 pub mod BoxNumbers
 pub mod Numbered
+pub mod LinkGaps
+pub mod Without
+pub mod LastRows
 pub mod Creations
 pub mod ReadCauses
 pub mod Transactions

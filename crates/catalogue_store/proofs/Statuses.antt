@@ -95,7 +95,7 @@ pub kept_by : {A B : Type 0} (view : A → B) (b : Bool) (x y : A) → view x �
 kept_by view true x y same = same
 kept_by view false x y same = refl
 
-any_more : (p : ℕ → Bool) (xs : List ℕ) (x : ℕ) → list_any p (xs ++ x ∷ []) ≡ (list_any p xs || p x)
+pub any_more : (p : ℕ → Bool) (xs : List ℕ) (x : ℕ) → list_any p (xs ++ x ∷ []) ≡ (list_any p xs || p x)
 any_more p [] x = or_none (p x)
   where
     or_none : (b : Bool) → (b || false) ≡ b

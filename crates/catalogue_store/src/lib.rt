@@ -8,6 +8,7 @@ mod containers;
 mod elements;
 mod fault;
 mod link_reads;
+mod link_rows;
 mod links;
 mod making;
 mod marks;
