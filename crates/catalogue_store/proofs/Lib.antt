@@ -15,12 +15,14 @@ pub mod Failures
 pub mod Refusals
 pub mod Reading
 pub mod Calls
+pub mod Outcomes
 pub mod Touching
 pub mod Puts
 pub mod LinkShows
 pub mod Offices
 pub mod Beginning
 pub mod Statuses
+pub mod Parts
 pub mod TextLemmas
 pub mod Finding
 pub mod Inserts
@@ -31,4 +33,7 @@ pub mod UnitReads
 pub mod OfficeChanges
 pub mod BoxNumbers
 pub mod Numbered
+pub mod HousingLemmas
+pub mod Telling
+pub mod Valued
 pub mod Creations

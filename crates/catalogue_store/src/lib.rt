@@ -5,8 +5,10 @@ mod answer;
 mod catalogue;
 mod closing;
 mod containers;
+mod describing;
 mod elements;
 mod fault;
+mod housing;
 mod links;
 mod making;
 mod office;
@@ -16,6 +18,7 @@ mod value;
 
 pub use catalogue::{create, known};
 pub use closing::{set_closure, set_status};
+pub use describing::{UnitValues, replace_values};
 pub use fault::StoreFault;
 pub use links::LinkPlaces;
 pub use office::{Office, OfficeRow, office_row};
