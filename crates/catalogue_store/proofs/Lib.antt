@@ -16,12 +16,14 @@ pub mod Refusals
 pub mod Causes
 pub mod Reading
 pub mod Calls
+pub mod Outcomes
 pub mod Touching
 pub mod Puts
 pub mod LinkShows
 pub mod Offices
 pub mod Beginning
 pub mod Statuses
+pub mod Parts
 pub mod TextLemmas
 pub mod Finding
 pub mod Inserts
@@ -35,6 +37,9 @@ pub mod Numbered
 pub mod LinkGaps
 pub mod Without
 pub mod LastRows
+pub mod HousingLemmas
+pub mod Telling
+pub mod Valued
 pub mod Creations
 pub mod ReadCauses
 pub mod Transactions

@@ -82,6 +82,19 @@ impl FromRow for Status {
     }
 }
 
+impl FromRow for Text {
+    ghost use Rattle.std.specs.Prelude.{[], ◌∷◌, IsUtf8};
+    ghost use Rattle.sqlite.specs.declared.types.Value.TheVariants.{Text as words_cell};
+
+    ghost cells = { λ t. words_cell t ∷ [] };
+
+    ghost is_legible = { λ t. IsUtf8 t };
+
+    fn read(row: &Row) -> Result<Text, StoreFault> {
+        Ok(Text(row.get(0)?))
+    }
+}
+
 /// A text of a unit, by the number of its element, 1 to 26 without 4.
 #[derive(Drop)]
 pub(crate) struct Element {
