@@ -30,3 +30,5 @@ pub mod Creations
 pub mod PlaceReads
 pub mod Climbing
 pub mod MarkReads
+pub mod Children
+pub mod Descending
