@@ -46,3 +46,5 @@ pub mod Transactions
 pub mod PlaceReads
 pub mod Climbing
 pub mod MarkReads
+pub mod Children
+pub mod Descending
