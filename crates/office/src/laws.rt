@@ -15,6 +15,7 @@ ghost use Rattle.tree_core.specs.Links.{HoldsLinks};
 ghost use Rattle.tree_core.specs.declared.rows.Link.{Link};
 ghost use Rattle.office.specs.Reading.{LinkRows, SaysAllButUnits, SpanRows, Version, places_said, state_of, tables};
 ghost use Rattle.office.specs.Soundness.{AreGoodDays, AreGoodSettings, IsSound, NamesDays};
+ghost use Rattle.office.specs.Imported.{ImportsKeepTheCatalogue};
 ghost use Rattle.office.specs.Secrecy.{SamePublic, AnswersAlike, ShowsOnlyPublished};
 ghost use Rattle.office.specs.Laws.{OutApart, GoesOn, IssuesTheFirst, OpenToHolders, ImportsAgain, Kind, all_given, ComesNew};
 
@@ -109,4 +110,9 @@ pub fn tables_say_the_state()
 /// A new office is sound, whole, where its settings and its day are good.
 pub fn starts_sound()
     ensures { (settings : Settings) (day : ℤ) → AreGoodSettings settings → IsDayNumber day → IsSound (start settings day) }
+{}
+
+/// An import leaves the units, the containers and the permits of a sound state sound, whatever the file says.
+pub fn imports_keep_the_catalogue()
+    ensures { (s : State) → IsSound s → ImportsKeepTheCatalogue s }
 {}
