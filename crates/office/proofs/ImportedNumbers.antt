@@ -1,11 +1,10 @@
 -- After an import no two units have one number, and no two are one unit of a source.
-use Rattle.std.proofs.Common.{◌≡◌, ℕ, ◌+◌, ◌<◌, ◌≤◌, Bool, true, false, not, cond, ◌&&◌, ◌||◌, List, [], ◌∷◌, ◌++◌, length, Option, Some, None, refl, sym, ap, ◌∙◌, subst, inl, inr, arith, map}
+use Rattle.std.proofs.Common.{◌≡◌, ℕ, ◌+◌, ◌<◌, ◌≤◌, Bool, true, false, not, cond, ◌&&◌, List, [], ◌∷◌, ◌++◌, Option, Some, None, refl, sym, ap, ◌∙◌, subst, inl, inr, arith, map}
 use Rattle.std.specs.Prelude.{nat_eq, filter, find, option_map, unwrap_or}
 use Rattle.std.specs.List.{list_any, AllByRecursion, IsDistinct}
-use Rattle.std.specs.List.Sorted.{IsPermutation}
 use Rattle.std.specs.Option.{option_eq}
 use Rattle.std.specs.Str.{bytes_eq}
-use Rattle.std.proofs.lemmas.Bool.{ne_eqb, not-true, or_parts, and_right, cases_Bool}
+use Rattle.std.proofs.lemmas.Bool.{ne_eqb, or_parts, and_right, cases_Bool}
 use Rattle.std.proofs.lemmas.List.{map-append}
 use Rattle.std.proofs.lemmas.List.Sorted.{IsPermutation-sym, IsPermutation-map}
 use Rattle.std.proofs.lemmas.Map.Keys.{IsDistinct-IsPermutation}
@@ -21,7 +20,6 @@ use Rattle.office.proofs.FileRows.{AreApartRows}
 use Rattle.office.proofs.EachOf.{all_filtered}
 use Rattle.office.proofs.Again.{numbered_rows, is_from_revised, one_text, other_way}
 use Rattle.office.proofs.Imports.{new_rows}
-use Rattle.office.proofs.Comes.{ids_between}
 use Rattle.office.proofs.Rooted.{revised_id}
 use Rattle.office.proofs.MergedNodes.{AreNumberedFrom, reached, placed, merged_nodes}
 

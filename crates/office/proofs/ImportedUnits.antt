@@ -1,24 +1,24 @@
 -- An accepted import keeps the catalogue's own lines of soundness.
-use Rattle.std.proofs.Common.{◌≡◌, ℕ, ◌+◌, ◌<◌, ◌≤◌, Bool, true, false, not, ◌&&◌, ◌||◌, List, [], ◌∷◌, ◌++◌, length, Option, Some, None, Ok, Err, refl, sym, ap, ◌∙◌, subst, arith}
-use Rattle.std.specs.Prelude.{nat_eq, nat_lt}
+use Rattle.std.proofs.Common.{◌≡◌, ℕ, ◌+◌, ◌<◌, ◌≤◌, true, false, not, ◌||◌, List, [], ◌∷◌, ◌++◌, length, None, Ok, Err, refl, sym, ap, ◌∙◌, subst, arith}
+use Rattle.std.specs.Prelude.{nat_lt}
 use Rattle.std.specs.List.{list_all, flat_map, AllByRecursion}
 use Rattle.std.proofs.lemmas.Bool.{and_parts, and_from, or_parts, or_left, ltb-false, not-true}
 use Rattle.isad_core.specs.Texts.{Bytes, is_blank_text}
 use Rattle.isad_core.specs.declared.values.BoxKey.{BoxKey}
 use Rattle.atom_csv.specs.declared.file.Row.{Row}
 use Rattle.tree_core.specs.Forest.{Forest, nodes, size, each, has}
-use Rattle.desk_core.specs.Refusals.{Check, when}
+use Rattle.desk_core.specs.Refusals.{when}
 use Rattle.desk_core.specs.declared.refusal.Refusal.TheVariants.{Full}
 use Rattle.catalogue_store.specs.Units.{Unit, has_id}
-use Rattle.catalogue_store.specs.Merging.{Catalogue, New, numbered_from, new_unit, new_units, revised, grown, merged, merged_forest, merged_boxes, is_known}
+use Rattle.catalogue_store.specs.Merging.{Catalogue, New, numbered_from, new_unit, new_units, revised, grown, merged_forest, merged_boxes, is_known}
 use Rattle.office.specs.declared.command.Command.TheVariants as command
 use Rattle.office.specs.State.{State, has_unit}
 use Rattle.office.specs.Intake.{Intake, Taken, too_much, is_full, most_units, most_unit_numbers, most_containers}
-use Rattle.office.specs.Rules.{is_source, catalogue, taken, imported, checks, after, step}
+use Rattle.office.specs.Rules.{is_source, catalogue, taken, imported, checks, after}
 use Rattle.office.specs.Soundness.{AreGoodUnits, AreGoodContainers, ArePermitsOfUnits, IsGoodUnit, IsSound}
 use Rattle.office.specs.Imported.{IsSoundCatalogue, ImportsKeepTheCatalogue}
 use Rattle.office.proofs.Steps.{Passes, held_so, held_not, step_at}
-use Rattle.office.proofs.EachOf.{all_and, all_append, all_distinct, all_filtered, all_of_found}
+use Rattle.office.proofs.EachOf.{all_and, all_append, all_distinct, all_filtered}
 use Rattle.office.proofs.DistinctLists.{all_so}
 use Rattle.office.proofs.TidyTexts.{IsGoodRow}
 use Rattle.office.proofs.FileRows.{apart_rows, good_rows}

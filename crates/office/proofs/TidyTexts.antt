@@ -1,5 +1,5 @@
 -- The texts that a file tells are not there where they are blank.
-use Rattle.std.proofs.Common.{◌≡◌, ◌≤◌, ℕ, zero, suc, ◌+◌, Bool, true, false, not, cond, ◌&&◌, ◌||◌, List, [], ◌∷◌, ◌++◌, length, Option, Some, None, refl, sym, ap, ◌∙◌, subst, inl, inr, arith, map, reverse}
+use Rattle.std.proofs.Common.{◌≡◌, ◌≤◌, ℕ, zero, suc, ◌+◌, Bool, true, false, not, cond, ◌&&◌, List, [], ◌∷◌, ◌++◌, length, Some, None, refl, sym, ap, ◌∙◌, subst, inl, inr, arith, map, reverse}
 use Rattle.std.specs.Prelude.{filter, slice_get, nat_lt, codes}
 use Rattle.std.specs.List.{list_any, list_all, flat_map, enumerate_from, AllByRecursion}
 use Rattle.std.specs.Str.{bytes_eq}
@@ -7,14 +7,13 @@ use Rattle.std.proofs.lemmas.Bool.{false≢true, and_parts, and_from, or_parts, 
 use Rattle.std.proofs.lemmas.List.{reverse-append}
 use Rattle.std.proofs.lemmas.List.Folds.{list_all-append}
 use Rattle.isad_core.specs.Texts.{Bytes, is_space, is_blank_text}
-use Rattle.isad_core.specs.Elements.{elements}
 use Rattle.isad_core.specs.declared.element.Element.{Element}
 use Rattle.isad_core.specs.declared.element.Element.TheVariants as element
 use Rattle.isad_core.specs.declared.values.BoxKey.{BoxKey}
 use Rattle.atom_csv.specs.Columns.{columns, columns_of, name_of, is_split}
-use Rattle.atom_csv.specs.Entries.{entries, entry_of, parts_of, without_null, filled, joined}
-use Rattle.atom_csv.specs.Fields.{Fields, is_empty, is_named, trim_start, trim_end, trimmed, field_under, value}
-use Rattle.atom_csv.specs.FileOf.{Line, is_long, legacy, row_of}
+use Rattle.atom_csv.specs.Entries.{entries, entry_of, parts_of, filled, joined}
+use Rattle.atom_csv.specs.Fields.{Fields, is_empty, is_named, trim_start, trimmed, field_under, value}
+use Rattle.atom_csv.specs.FileOf.{is_long, legacy, row_of}
 use Rattle.atom_csv.specs.Values.{nonblank, told_by, text_of, described, triple, triples, is_named_box, distinct, boxes_of}
 use Rattle.atom_csv.specs.declared.column.Column.{Column}
 use Rattle.atom_csv.specs.declared.column.Column.TheVariants as column
