@@ -27,7 +27,7 @@ of_number P [] v h e = absurd (false≢true e)
 of_number P (u ∷ us) v h e =
     elim (or_cases (nat_eq v u.id) (list_any (has_id v) us) e) [ inl s ↦ subst P (sym (eqb-true v u.id s)) h.0 | inr r ↦ of_number P us v h.1 r ]
 
-each_there : (us all : List Unit) → ((v : ℕ) → list_any (has_id v) us ≡ true → list_any (has_id v) all ≡ true) → AllByRecursion (λ u. list_any (has_id u.id) all ≡ true) us
+pub each_there : (us all : List Unit) → ((v : ℕ) → list_any (has_id v) us ≡ true → list_any (has_id v) all ≡ true) → AllByRecursion (λ u. list_any (has_id u.id) all ≡ true) us
 each_there [] all f = tt
 each_there (u ∷ us) all f = (f u.id (or_left (nat_eq u.id u.id) (list_any (has_id u.id) us) (eq-eqb u.id u.id refl)), each_there us all (λ v h. f v (or_right (nat_eq v u.id) (list_any (has_id v) us) h)))
 

@@ -28,3 +28,4 @@ pub mod Judging
 pub mod CatalogueCauses
 pub mod Causes
 pub mod Judged
+pub mod Imported
