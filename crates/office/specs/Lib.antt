@@ -22,3 +22,4 @@ pub mod Soundness
 pub mod Tables
 pub mod Reading
 pub mod ReadingRows
+pub mod Imported
