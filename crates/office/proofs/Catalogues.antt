@@ -1,14 +1,12 @@
 -- The catalogue stays good where units are changed, removed or moved.
-use Rattle.std.proofs.Common.{◌≡◌, ℕ, ◌+◌, ◌<◌, ◌≤◌, Bool, true, false, cond, List, [], ◌∷◌, ◌++◌, length, map, Option, Some, None, refl, sym, ap, ◌∙◌, subst, inl, inr, arith}
+use Rattle.std.proofs.Common.{◌≡◌, ℕ, ◌+◌, ◌<◌, ◌≤◌, Bool, true, false, cond, List, [], ◌∷◌, length, map, Option, Some, None, refl, sym, ap, ◌∙◌, subst, inl, inr, arith}
 use Rattle.std.specs.Prelude.{nat_eq}
 use Rattle.std.specs.List.{list_any, list_all, AllByRecursion, IsDistinct}
 use Rattle.std.specs.List.Sorted.{IsPermutation}
-use Rattle.std.specs.Str.{bytes_eq}
 use Rattle.std.proofs.lemmas.Bool.{cases_Bool, eq-eqb, eqb-true, false≢true}
 use Rattle.std.proofs.lemmas.List.Sorted.{IsPermutation-map, length_permutation}
 use Rattle.std.proofs.lemmas.Map.Keys.{IsDistinct-IsPermutation}
-use Rattle.std.proofs.lemmas.Slice.Eq.{bytes_eq-Decides}
-use Rattle.isad_core.specs.Texts.{Bytes, is_blank_text}
+use Rattle.isad_core.specs.Texts.{is_blank_text}
 use Rattle.isad_core.specs.declared.values.BoxKey.{BoxKey}
 use Rattle.isad_core.specs.declared.values.Values.{Values}
 use Rattle.tree_core.specs.Forest.{Forest, Empty, Node, nodes, each, has_place, size, cut, move_last}
@@ -24,6 +22,7 @@ use Rattle.office.specs.Soundness.{most_bytes, is_good_text, IsGoodUnit, is_same
 use Rattle.office.proofs.Again.{all_append, all_split, all_each}
 use Rattle.office.proofs.DistinctLists.{all_so, distinct_so, distinct_mapped, distinct_unmapped, distinct_beside, distinct_parts}
 use Rattle.office.proofs.Days.{all_cut, all_moved}
+use Rattle.office.proofs.ImportedNumbers.{same_flip}
 use Rattle.office.proofs.Branches.{many, passing, passing-many, IsOnePlace, moved_same}
 use Rattle.office.proofs.Heights.{height-each, height_cut, height_moved}
 
@@ -142,12 +141,6 @@ cut_good s permits gone h =
 
 -- ---- a branch goes below another unit
 
-either_way : (a b : Bytes) → bytes_eq a b ≡ bytes_eq b a
-either_way a b = grind (arith, bytes_eq-Decides a b, bytes_eq-Decides b a)
-
-pair_either_way : (a b : Unit) → is_same_unit a b ≡ is_same_unit b a
-pair_either_way a b = rw (either_way b.source a.source, either_way b.legacy a.legacy) refl
-
 one_place : (p : Option ℕ) (f : Forest Unit) → IsDistinct nat_eq (map number (nodes f)) → has_place has_id p f ≡ true → IsOnePlace has_id p f
 one_place None f d h = tt
 one_place (Some v) f d h = (one_unit v f d, h)
@@ -173,7 +166,7 @@ move_good s u p h m =
     record {
       each = all_moved (IsGoodUnit s.boxes) u p s.forest h.each;
       ids = IsDistinct-IsPermutation nat_eq eqb_comm (map number (nodes s.forest)) (map number (nodes f)) (IsPermutation-map number (nodes s.forest) (nodes f) same) h.ids;
-      pairs = IsDistinct-IsPermutation is_same_unit pair_either_way (nodes s.forest) (nodes f) same h.pairs;
+      pairs = IsDistinct-IsPermutation is_same_unit same_flip (nodes s.forest) (nodes f) same h.pairs;
       given = all_moved (IsGiven s.next_unit) u p s.forest h.given;
       next = h.next;
       few = omega (arith, count, old, new, h.few);
