@@ -101,7 +101,7 @@ module _ {R : Type 0} (key : R → ℕ) (rows : Unit → List R) (own : (u : Uni
 
 -- ---- the texts of a unit
 
-found_kept : {R : Type 0} (a b : R → Bool) (rs : List R) → find (λ r. a r && b r) rs ≡ find b (filter a rs)
+pub found_kept : {R : Type 0} (a b : R → Bool) (rs : List R) → find (λ r. a r && b r) rs ≡ find b (filter a rs)
 found_kept a b [] = refl
 found_kept a b (r ∷ rs) = at (a r) (found_kept a b rs)
   where
@@ -151,7 +151,7 @@ texts_back u k (Some text ∷ texts) =
 
 -- ---- the containers of a unit
 
-box_itself : (b : BoxKey) → is_same_box b b ≡ true
+pub box_itself : (b : BoxKey) → is_same_box b b ≡ true
 box_itself b = both (bytes_eq b.name b.name) (bytes_eq b.location b.location && bytes_eq b.kind b.kind) (same_text b.name) (both (bytes_eq b.location b.location) (bytes_eq b.kind b.kind) (same_text b.location) (same_text b.kind))
   where
     same_text : (a : Bytes) → bytes_eq a a ≡ true
@@ -161,7 +161,7 @@ box_itself b = both (bytes_eq b.name b.name) (bytes_eq b.location b.location && 
     both true y e f = f
     both false y e f = absurd (false≢true e)
 
-number_there : (boxes : List BoxKey) (b : BoxKey) → list_any (is_same_box b) boxes ≡ true → (n : ℕ) × (number_in boxes b ≡ Some (suc n)) × (slice_get boxes n ≡ Some b)
+pub number_there : (boxes : List BoxKey) (b : BoxKey) → list_any (is_same_box b) boxes ≡ true → (n : ℕ) × (number_in boxes b ≡ Some (suc n)) × (slice_get boxes n ≡ Some b)
 number_there [] b h = absurd (false≢true h)
 number_there (c ∷ boxes) b h = at (is_same_box c b) refl (number_there boxes b)
   where
