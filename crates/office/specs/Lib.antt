@@ -21,6 +21,8 @@ pub mod Secrecy
 pub mod Soundness
 pub mod Tables
 pub mod Reading
+pub mod DeskCauses
+pub mod DeskCausesRows
 pub mod ReadingRows
 pub mod Judging
 pub mod CatalogueCauses
