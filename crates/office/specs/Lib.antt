@@ -23,4 +23,5 @@ pub mod Tables
 pub mod Reading
 pub mod DeskCauses
 pub mod DeskCausesRows
+pub mod DeskJudged
 pub mod ReadingRows
