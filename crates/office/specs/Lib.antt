@@ -23,6 +23,7 @@ pub mod Tables
 pub mod Reading
 pub mod DeskCauses
 pub mod DeskCausesRows
+pub mod DeskJudged
 pub mod ReadingRows
 pub mod Judging
 pub mod CatalogueCauses
