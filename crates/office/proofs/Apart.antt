@@ -11,7 +11,7 @@ use Rattle.catalogue_store.specs.Units.{Unit}
 use Rattle.office.specs.Reading.{number_of}
 use Rattle.office.proofs.Words.{other_number}
 use Rattle.office.proofs.Imports.{distinct_filter, distinct_again}
-use Rattle.office.proofs.Grouped.{each_in, in_each, in_filter}
+use Rattle.office.proofs.RowsByNumber.{each_in, in_each, in_filter}
 
 -- ---- lists of lists
 

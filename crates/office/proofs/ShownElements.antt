@@ -24,7 +24,7 @@ use Rattle.office.specs.CatalogueCauses.{unit_numbers, is_good_element, is_good_
 use Rattle.office.specs.Judged.{IsSoundCatalogue}
 use Rattle.office.proofs.Words.{same_number, other_number}
 use Rattle.office.proofs.UnitRows.{HasRows, all_rows, number_there, number_back, after_less, elements_own, housings_own, box_itself}
-use Rattle.office.proofs.Grouped.{each_in, in_each, all_in, in_all, in_map, numbers_apart}
+use Rattle.office.proofs.RowsByNumber.{each_in, in_each, all_in, in_all, in_map, numbers_apart}
 use Rattle.office.proofs.Apart.{in_flat_map, pairs_apart, all_different}
 
 -- ---- the texts

@@ -33,7 +33,7 @@ use Rattle.office.specs.CatalogueCauses.{is_good_office, are_good_places, is_som
 use Rattle.office.specs.Judged.{IsSoundCatalogue}
 use Rattle.office.proofs.Words.{same_number}
 use Rattle.office.proofs.UnitRows.{units_back}
-use Rattle.office.proofs.Grouped.{in_all, each_in}
+use Rattle.office.proofs.RowsByNumber.{in_all, each_in}
 
 -- ---- the office
 

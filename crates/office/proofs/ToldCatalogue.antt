@@ -33,7 +33,7 @@ use Rattle.office.specs.CatalogueCauses.{is_good_office, are_good_places, is_som
 use Rattle.office.specs.Causes.{catalogue_cause}
 use Rattle.office.specs.Judged.{IsSoundCatalogue, SaysTheCatalogue}
 use Rattle.office.proofs.Judging.{none_held}
-use Rattle.office.proofs.Grouped.{From, in_map, all_in, in_all, in_each, each_in, stands_in}
+use Rattle.office.proofs.RowsByNumber.{From, in_map, all_in, in_all, in_each, each_in, stands_in}
 use Rattle.office.proofs.ToldPlaces.{ArePlaced, good_places}
 use Rattle.office.proofs.ToldUnits.{AreUnitsOf, each_said, units_are_said, said_id, said_texts, said_boxes, unit_of_row}
 use Rattle.office.proofs.ToldElements.{IsGoodElement, good_element, elements_are_said, texts_are_good}

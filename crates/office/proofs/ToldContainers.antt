@@ -14,7 +14,7 @@ use Rattle.office.specs.Judging.{counts_from}
 use Rattle.office.specs.CatalogueCauses.{is_same_container}
 use Rattle.office.proofs.Imports.{same_box}
 use Rattle.office.proofs.UnitRows.{box_itself}
-use Rattle.office.proofs.Grouped.{each_in}
+use Rattle.office.proofs.RowsByNumber.{each_in}
 
 abbrev ids : List ContainerRow → List ℕ
 ids rows = map (λ (row : ContainerRow). row.id) rows

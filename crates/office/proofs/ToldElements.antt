@@ -22,7 +22,7 @@ use Rattle.office.specs.Reading.{ElementRow, after_level, element_rows_from, Row
 use Rattle.office.specs.CatalogueCauses.{is_same_element, is_good_element, unit_numbers}
 use Rattle.office.proofs.Words.{same_number, other_number}
 use Rattle.office.proofs.UnitRows.{found_kept}
-use Rattle.office.proofs.Grouped.{all_in, in_all, each_in, in_each, in_filter, flat_map_same, flat_map_reordered, grouped, one_kept, in_numbers, own_apart}
+use Rattle.office.proofs.RowsByNumber.{all_in, in_all, each_in, in_each, in_filter, flat_map_same, flat_map_reordered, grouped, one_kept, in_numbers, own_apart}
 use Rattle.office.proofs.ToldUnits.{said_id, said_texts}
 
 abbrev mine : ℕ → List ElementRow → List ElementRow

@@ -23,7 +23,7 @@ use Rattle.office.specs.Words.{numbered}
 use Rattle.office.specs.Tables.{rows_from}
 use Rattle.office.specs.Reading.{HousingRow, housing_row, Rows, box_from, box_at, boxes_from, boxes_said, housings_of, unit_said}
 use Rattle.office.specs.CatalogueCauses.{is_same_place, is_housed_alike}
-use Rattle.office.proofs.Grouped.{in_map, in_filter, flat_map_same, flat_map_reordered, grouped, found_by, one_kept, in_numbers, numbers_in, numbers_length, numbers_apart, own_apart}
+use Rattle.office.proofs.RowsByNumber.{in_map, in_filter, flat_map_same, flat_map_reordered, grouped, found_by, one_kept, in_numbers, numbers_in, numbers_length, numbers_apart, own_apart}
 use Rattle.office.proofs.ToldUnits.{said_id, said_boxes}
 use Rattle.office.proofs.ToldContainers.{back_to_number, one_numbered, is_there, numbered_in, stay_distinct, numbers_tell}
 

@@ -14,7 +14,7 @@ use Rattle.catalogue_store.specs.Units.{Unit}
 use Rattle.office.specs.Laws.{numbers_from}
 use Rattle.office.specs.Reading.{UnitRow, unit_row, Rows, places_said, box_from, text_said, boxes_said, values_said, unit_from, unit_said}
 use Rattle.office.specs.CatalogueCauses.{unit_numbers, place_numbers, all_stand_in}
-use Rattle.office.proofs.Grouped.{From, in_map, all_in, stands_in, found_by}
+use Rattle.office.proofs.RowsByNumber.{From, in_map, all_in, stands_in, found_by}
 
 abbrev row_of : Rows → ℕ → Option UnitRow
 row_of t u = find (λ (row : UnitRow). nat_eq row.id u) t.units

@@ -2,7 +2,7 @@
 
 ghost use Rattle.office.specs.DeskCausesRows as row;
 ghost use Rattle.office.specs.DeskJudged.{SoundTablesPass};
-ghost use Rattle.office.specs.Reading.{Version};
+ghost use Rattle.catalogue_store.specs.Schema.{Version};
 ghost use Rattle.office.specs.State.{State};
 
 /// The rows of a sound state have none of these causes, in either version, and meet the keys of the desk's tables.
