@@ -19,7 +19,7 @@ use Rattle.office.specs.Tables.{rows_from}
 use Rattle.office.specs.Rules.{is_between}
 use Rattle.office.specs.Soundness.{is_good_text, IsGoodUnit}
 use Rattle.office.specs.Reading.{ElementRow, after_level, element_rows_from, ContainerRow, container_row, HousingRow, housing_row, housings_of, Rows, tables, box_from, number_of}
-use Rattle.office.specs.Judging.{counts_from}
+use Rattle.office.specs.DeskCauses.{are_numbered_from}
 use Rattle.office.specs.CatalogueCauses.{unit_numbers, is_good_element, is_good_housing, are_good_container_rows, is_same_element, is_same_container, is_same_place, is_housed_alike}
 use Rattle.office.specs.Judged.{IsSoundCatalogue}
 use Rattle.office.proofs.Words.{same_number, other_number}
@@ -107,9 +107,9 @@ ids_count : (n : ℕ) (boxes : List BoxKey) → map (λ (row : ContainerRow). ro
 ids_count n [] = refl
 ids_count n (b ∷ boxes) = ap (λ l. n ∷ l) (ids_count (suc n) boxes)
 
-counted : (n m : ℕ) → counts_from n (numbers_from n m) ≡ true
-counted n zero = refl
-counted n (suc m) = and_from (nat_eq n n) (counts_from (suc n) (numbers_from (suc n) m)) (same_number n) (counted (suc n) m)
+counted : (n : ℕ) (boxes : List BoxKey) → are_numbered_from (λ (row : ContainerRow). row.id) n (rows_from container_row n boxes) ≡ true
+counted n [] = refl
+counted n (b ∷ boxes) = and_from (nat_eq n n) _ (same_number n) (counted (suc n) boxes)
 
 named : (n : ℕ) (boxes : List BoxKey) → list_all (λ box. not (is_blank_text box.name)) boxes ≡ true → list_all (λ (row : ContainerRow). not (is_blank_text row.name)) (rows_from container_row n boxes) ≡ true
 named n [] h = refl
@@ -139,7 +139,7 @@ containers_shown version s g =
     let count = count_rows container_row 1 s.boxes in
     let few = g.containers.few in
     record {
-      good = and_from (counts_from 1 (map (λ (row : ContainerRow). row.id) rows)) _ (ap (counts_from 1) (ids_count 1 s.boxes) ∙ counted 1 (length s.boxes))
+      good = and_from (are_numbered_from (λ (row : ContainerRow). row.id) 1 rows) _ (counted 1 s.boxes)
           (and_from (list_all (λ (row : ContainerRow). not (is_blank_text row.name)) rows) (nat_le (length rows) most_containers) (named 1 s.boxes g.containers.named) (le-leb (length rows) most_containers (omega (arith, count, few))));
       numbers = subst (IsDistinct nat_eq) (sym (ids_count 1 s.boxes)) (numbers_apart 1 (length s.boxes));
       boxes = rows_differ 1 s.boxes (all_different s.boxes g.boxes);

@@ -28,7 +28,7 @@ use Rattle.office.specs.Rules.{is_source, is_between, height, most_deep}
 use Rattle.office.specs.Soundness.{is_country, is_repository, most_bytes, IsSomeDay, IsGoodUnit, AreGoodSettings, AreGoodUnits, AreGoodContainers, is_same_unit}
 use Rattle.office.specs.Laws.{numbers_from}
 use Rattle.office.specs.Reading.{OfficeRow, UnitRow, unit_row, number_of, ElementRow, ContainerRow, HousingRow, Rows, place_rows, state_of, box_from, text_said, boxes_said, places_said, unit_said, unit_from, housings_of}
-use Rattle.office.specs.Judging.{counts_from}
+use Rattle.office.specs.DeskCauses.{are_numbered_from}
 use Rattle.office.specs.CatalogueCauses.{is_good_office, are_good_places, is_some_day, is_good_unit_row, unit_numbers, place_numbers, all_stand_in, are_good_units, is_good_element, is_good_housing, are_good_container_rows, catalogue_tests, office_is_bad, places_are_bad, units_are_bad, elements_are_bad, containers_are_bad, is_named_alike, MeetsCatalogueKeys, ArePlacesOf, IsCatalogueOf}
 use Rattle.office.specs.Causes.{catalogue_cause}
 use Rattle.office.specs.Judged.{IsSoundCatalogue, SaysTheCatalogue}
@@ -50,7 +50,7 @@ pub record HasNoCause (version : Version) (t : Rows) : Type 0 where
   pub containers : are_good_container_rows t.containers ≡ true
   pub housings : list_all (is_good_housing t) t.housings ≡ true
 
-no_cause : (version : Version) (t : Rows) → catalogue_cause version t ≡ None → HasNoCause version t
+pub no_cause : (version : Version) (t : Rows) → catalogue_cause version t ≡ None → HasNoCause version t
 no_cause version t h =
     let a = none_held (office_is_bad version t) (places_are_bad version t ∷ units_are_bad t ∷ elements_are_bad t ∷ containers_are_bad t ∷ []) h in
     let b = none_held (places_are_bad version t) (units_are_bad t ∷ elements_are_bad t ∷ containers_are_bad t ∷ []) a.1 in
@@ -269,7 +269,7 @@ module _ (version : Version) (t : Rows) (k : MeetsCatalogueKeys t) (n : HasNoCau
 
   sound : IsSoundCatalogue (state_of t)
   sound =
-      let c = and_parts (counts_from 1 (map (λ (row : ContainerRow). row.id) t.containers)) _ n.containers in
+      let c = and_parts (are_numbered_from (λ (row : ContainerRow). row.id) 1 t.containers) _ n.containers in
       let d = and_parts (list_all (λ (row : ContainerRow). not (is_blank_text row.name)) t.containers) (nat_le (length t.containers) most_containers) c.1 in
       let l = leb-true (length t.containers) most_containers d.1 in
       let same : length (map box_from t.containers) ≡ length t.containers = length-map t.containers box_from in
@@ -285,7 +285,7 @@ module _ (version : Version) (t : Rows) (k : MeetsCatalogueKeys t) (n : HasNoCau
   shown : IsCatalogueOf version t (state_of t)
   shown =
       let f = places_said t.places in
-      let c = and_parts (counts_from 1 (map (λ (row : ContainerRow). row.id) t.containers)) _ n.containers in
+      let c = and_parts (are_numbered_from (λ (row : ContainerRow). row.id) 1 t.containers) _ n.containers in
       record {
         office = ap (λ v. record t.office { version = v }) office.of_version;
         units = reordered;

@@ -10,19 +10,19 @@ use Rattle.tree_core.proofs.Lists.{In, In-map, head_apart, any_from_In}
 use Rattle.office.specs.Words.{numbered}
 use Rattle.office.specs.Tables.{rows_from}
 use Rattle.office.specs.Reading.{ContainerRow, container_row, box_from}
-use Rattle.office.specs.Judging.{counts_from}
+use Rattle.office.specs.DeskCauses.{are_numbered_from}
 use Rattle.office.specs.CatalogueCauses.{is_same_container}
 use Rattle.office.proofs.Imports.{same_box}
 use Rattle.office.proofs.UnitRows.{box_itself}
 use Rattle.office.proofs.RowsByNumber.{each_in}
 
-abbrev ids : List ContainerRow → List ℕ
-ids rows = map (λ (row : ContainerRow). row.id) rows
+abbrev are_counted : ℕ → List ContainerRow → Bool
+are_counted n rows = are_numbered_from (λ (row : ContainerRow). row.id) n rows
 
-pub containers_are_said : (n : ℕ) (rows : List ContainerRow) → counts_from n (ids rows) ≡ true → rows_from container_row n (map box_from rows) ≡ rows
+pub containers_are_said : (n : ℕ) (rows : List ContainerRow) → are_counted n rows ≡ true → rows_from container_row n (map box_from rows) ≡ rows
 containers_are_said n [] h = refl
 containers_are_said n (row ∷ rows) h =
-    let p = and_parts (nat_eq row.id n) (counts_from (suc n) (ids rows)) h in
+    let p = and_parts (nat_eq row.id n) (are_counted (suc n) rows) h in
     ap (λ i. record { id = i; name = row.name; location = row.location; kind = row.kind } ∷ rows_from container_row (suc n) (map box_from rows)) (sym (eqb-true row.id n p.0))
     ∙ ap (λ l. row ∷ l) (containers_are_said (suc n) rows p.1)
 

@@ -1,11 +1,9 @@
 -- Why the rows of all tables show no sound state: the least cause, by its number.
 use Rattle.std.specs.Prelude.{ℕ, Bool, List, [], ◌∷◌, ◌++◌, Option}
-use Rattle.std.specs.List.Sorted.{IsPermutation}
 use Rattle.catalogue_store.specs.Schema.{Version}
-use Rattle.office.specs.State.{State}
-use Rattle.office.specs.Reading.{Rows, tables}
+use Rattle.office.specs.Reading.{Rows}
 use Rattle.office.specs.Judging.{first_held}
-use Rattle.office.specs.CatalogueCauses.{catalogue_tests, MeetsCatalogueKeys, IsCatalogueOf}
+use Rattle.office.specs.CatalogueCauses.{catalogue_tests, MeetsCatalogueKeys}
 use Rattle.office.specs.DeskCauses.{readers_are_bad, orders_are_bad, holdings_are_bad, runs_are_bad, day_is_broken, MeetsDeskKeys}
 
 abbrev pub desk_tests : Rows → List Bool
@@ -23,17 +21,3 @@ catalogue_cause version t = first_held (catalogue_tests version t)
 pub record MeetsKeys (t : Rows) : Type 0 where
   pub catalogue : MeetsCatalogueKeys t
   pub desk : MeetsDeskKeys t
-
--- the rows that show a state, up to the order of each table's: the desk's, and all
-pub record IsDeskOf (version : Version) (t : Rows) (s : State) : Type 0 where
-  pub readers : IsPermutation (tables version s).readers t.readers
-  pub seats : IsPermutation (tables version s).seats t.seats
-  pub orders : IsPermutation (tables version s).orders t.orders
-  pub holdings : IsPermutation (tables version s).holdings t.holdings
-  pub runs : IsPermutation (tables version s).runs t.runs
-  pub run_lines : IsPermutation (tables version s).run_lines t.run_lines
-  pub permits : IsPermutation (tables version s).permits t.permits
-
-pub record AreTablesOf (version : Version) (t : Rows) (s : State) : Type 0 where
-  pub catalogue : IsCatalogueOf version t s
-  pub desk : IsDeskOf version t s

@@ -14,7 +14,7 @@ ghost use Rattle.tree_core.specs.Spans.{number};
 ghost use Rattle.tree_core.specs.Links.{HoldsLinks};
 ghost use Rattle.tree_core.specs.declared.rows.Link.{Link};
 ghost use Rattle.catalogue_store.specs.Schema.{Version};
-ghost use Rattle.office.specs.Judged.{HasNoCatalogueCause, SaysTheCatalogue};
+ghost use Rattle.office.specs.Judged.{HasNoCatalogueCause, HasNoCause, SaysTheCatalogue};
 ghost use Rattle.office.specs.Reading.{LinkRows, Rows, SaysAllButUnits, SpanRows, places_said, state_of, tables};
 ghost use Rattle.office.specs.Soundness.{AreGoodDays, AreGoodSettings, IsSound, NamesDays};
 ghost use Rattle.office.specs.Secrecy.{SamePublic, AnswersAlike, ShowsOnlyPublished};
@@ -117,6 +117,11 @@ pub fn rows_say_the_catalogue()
 /// The rows of a sound catalogue have their keys, and none of the causes 1 to 5.
 pub fn catalogue_has_no_cause()
     ensures { (version : Version) (s : State) → HasNoCatalogueCause version s }
+{}
+
+/// The rows of a sound state have their keys, and none of the causes 1 to 10.
+pub fn tables_have_no_cause()
+    ensures { (version : Version) (s : State) → HasNoCause version s }
 {}
 
 /// A new office is sound, whole, where its settings and its day are good.
