@@ -1,7 +1,7 @@
 -- Rows of units that are all different, by a number of the unit and one of their own.
-use Rattle.std.proofs.Common.{◌≡◌, ℕ, Bool, true, false, cond, not, ◌&&◌, List, [], ◌∷◌, ◌++◌, refl, sym, ap, ◌∙◌, subst, nat_eq, inl, inr, ◌⊎◌, map}
+use Rattle.std.proofs.Common.{◌≡◌, ℕ, Bool, false, not, ◌&&◌, List, [], ◌∷◌, ◌++◌, refl, sym, ap, ◌∙◌, subst, nat_eq, inl, inr, map}
 use Rattle.std.specs.Prelude.{filter}
-use Rattle.std.specs.List.{IsDistinct, AllByRecursion, flat_map, list_any}
+use Rattle.std.specs.List.{IsDistinct, AllByRecursion, flat_map}
 use Rattle.std.proofs.lemmas.Bool.{and_left, and_right, false≢true, not-true}
 use Rattle.std.proofs.lemmas.List.Concat.{flat_map-cons}
 use Rattle.isad_core.specs.declared.values.BoxKey.{BoxKey}

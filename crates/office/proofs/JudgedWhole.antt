@@ -1,18 +1,17 @@
 -- All tables: the catalogue's and the desk's together.
-use Rattle.std.proofs.Common.{◌≡◌, ℕ, true, false, Bool, [], ◌∷◌, List, None, refl, sym, ap, ◌∙◌, subst, nat_eq, inl, inr, map}
-use Rattle.std.specs.Prelude.{not}
-use Rattle.std.specs.List.{list_any, list_all}
+use Rattle.std.proofs.Common.{◌≡◌, ℕ, true, [], ◌∷◌, List, None, refl, sym, ap, ◌∙◌, nat_eq, inl, inr, map}
+use Rattle.std.specs.List.{list_any}
 use Rattle.std.proofs.lemmas.Bool.{and_parts, or_cases, false≢true, eq-eqb, eqb-true}
 use Rattle.tree_core.specs.Forest.{nodes}
 use Rattle.tree_core.proofs.Lists.{In, In-permutation}
 use Rattle.tree_core.proofs.Lookups.{any_passes}
 use Rattle.catalogue_store.specs.Schema.{Version}
-use Rattle.catalogue_store.specs.Units.{Unit, has_id}
-use Rattle.office.specs.State.{State, has_unit}
+use Rattle.catalogue_store.specs.Units.{has_id}
+use Rattle.office.specs.State.{State}
 use Rattle.office.specs.Soundness.{IsSound}
 use Rattle.office.specs.Reading.{UnitRow, unit_row, ContainerRow, Rows, tables, state_of}
-use Rattle.office.specs.CatalogueCauses.{catalogue_tests, are_good_container_rows, is_good_housing, IsCatalogueOf}
-use Rattle.office.specs.DeskCauses.{are_numbered_from, is_unit_there, readers_are_bad, orders_are_bad, holdings_are_bad, runs_are_bad, day_is_broken}
+use Rattle.office.specs.CatalogueCauses.{catalogue_tests, IsCatalogueOf}
+use Rattle.office.specs.DeskCauses.{are_numbered_from, readers_are_bad, orders_are_bad, holdings_are_bad, runs_are_bad, day_is_broken}
 use Rattle.office.specs.DeskJudged.{HasNoDeskCause, HasGoodCatalogue, SoundTablesPass, PassingRowsAreSound}
 use Rattle.office.specs.Causes.{desk_tests}
 use Rattle.office.specs.Judging.{first_held}

@@ -1,5 +1,5 @@
 -- Rows taken by a number of each: those of one number after those of another are all of them.
-use Rattle.std.proofs.Common.{◌≡◌, ℕ, zero, suc, ◌+◌, ◌<◌, ◌≤◌, Bool, true, false, cond, not, ◌&&◌, List, [], ◌∷◌, ◌++◌, length, Option, Some, None, refl, sym, ap, ◌∙◌, subst, ◌⊎◌, inl, inr, arith, nat_eq, map}
+use Rattle.std.proofs.Common.{◌≡◌, ℕ, zero, suc, ◌+◌, ◌<◌, ◌≤◌, Bool, true, false, cond, not, ◌&&◌, List, [], ◌∷◌, ◌++◌, length, Some, refl, sym, ap, ◌∙◌, subst, inl, inr, arith, nat_eq, map}
 use Rattle.std.specs.Prelude.{filter, find}
 use Rattle.std.specs.List.{list_any, list_all, flat_map, IsDistinct, AllByRecursion}
 use Rattle.std.specs.Option.{option_to_list}
@@ -11,7 +11,7 @@ use Rattle.tree_core.proofs.Lists.{In, In-map, head_apart, any_from_In, distinct
 use Rattle.tree_core.proofs.Repeats.{distinct_repeats}
 use Rattle.office.specs.Laws.{numbers_from}
 use Rattle.office.specs.Words.{stands}
-use Rattle.office.proofs.Words.{same_number, other_number}
+use Rattle.office.proofs.Words.{other_number}
 
 -- ---- what stands in a list
 

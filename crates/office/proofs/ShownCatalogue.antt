@@ -1,13 +1,12 @@
 -- The rows of a sound catalogue have their keys and no cause.
-use Rattle.std.proofs.Common.{true, [], ◌∷◌, refl, ap}
-use Rattle.std.specs.Prelude.{not}
+use Rattle.std.proofs.Common.{[], ◌∷◌, refl}
 use Rattle.std.specs.List.{list_all}
 use Rattle.std.proofs.lemmas.Bool.{and_from, not_from_true}
 use Rattle.catalogue_store.specs.Schema.{Version}
 use Rattle.office.specs.State.{State}
 use Rattle.office.specs.Reading.{Rows, tables}
 use Rattle.office.specs.CatalogueCauses.{is_good_office, are_good_places, are_good_units, unit_numbers, is_good_element, are_good_container_rows, is_good_housing, office_is_bad, places_are_bad, units_are_bad, elements_are_bad, containers_are_bad}
-use Rattle.office.specs.Judged.{IsSoundCatalogue, HasNoCatalogueCause}
+use Rattle.office.specs.Judged.{HasNoCatalogueCause}
 use Rattle.office.proofs.Judging.{hold_none}
 use Rattle.office.proofs.ShownUnits.{office_shown, AreShownUnits, units_shown}
 use Rattle.office.proofs.ShownElements.{elements_shown, AreShownContainers, containers_shown, AreShownHousings, housings_shown}

@@ -1,16 +1,16 @@
 -- The rows of the texts and of the containers of a sound catalogue have their keys and no cause.
-use Rattle.std.proofs.Common.{◌≡◌, ℕ, zero, suc, ◌+◌, ◌<◌, ◌≤◌, Bool, true, false, cond, not, ◌&&◌, List, [], ◌∷◌, ◌++◌, length, Option, Some, None, refl, sym, ap, ◌∙◌, subst, nat_eq, nat_lt, inl, inr, arith, map}
-use Rattle.std.specs.Prelude.{nat_le, unwrap_or, slice_get, filter}
-use Rattle.std.specs.List.{IsDistinct, AllByRecursion, list_any, list_all, flat_map}
+use Rattle.std.proofs.Common.{◌≡◌, ℕ, zero, suc, ◌+◌, ◌<◌, ◌≤◌, Bool, true, false, cond, not, List, [], ◌∷◌, length, Option, Some, None, refl, sym, ap, ◌∙◌, subst, nat_eq, nat_lt, inl, inr, arith, map}
+use Rattle.std.specs.Prelude.{nat_le, unwrap_or, slice_get}
+use Rattle.std.specs.List.{IsDistinct, AllByRecursion, list_any, list_all}
 use Rattle.std.proofs.lemmas.Bool.{and_from, and_parts, le-leb, ltb-true, ltb-false, not-true, not_from_false, false≢true}
 use Rattle.isad_core.specs.Texts.{Bytes, is_blank_text}
 use Rattle.isad_core.specs.declared.values.BoxKey.{BoxKey}
-use Rattle.atom_csv.specs.Values.{distinct, is_same as is_same_box}
+use Rattle.atom_csv.specs.Values.{is_same as is_same_box}
 use Rattle.tree_core.specs.Forest.{nodes}
-use Rattle.tree_core.proofs.Lists.{In, In-map, any_from_In, distinct_cons}
+use Rattle.tree_core.proofs.Lists.{In, In-map, any_from_In}
 use Rattle.catalogue_store.specs.Schema.{Version}
 use Rattle.catalogue_store.specs.Units.{Unit}
-use Rattle.catalogue_store.specs.Merging.{box_number, number_in}
+use Rattle.catalogue_store.specs.Merging.{box_number}
 use Rattle.office.specs.Intake.{most_containers}
 use Rattle.office.specs.Laws.{numbers_from}
 use Rattle.office.specs.State.{State}
@@ -18,7 +18,7 @@ use Rattle.office.specs.Words.{numbered, stands}
 use Rattle.office.specs.Tables.{rows_from}
 use Rattle.office.specs.Rules.{is_between}
 use Rattle.office.specs.Soundness.{is_good_text, IsGoodUnit}
-use Rattle.office.specs.Reading.{ElementRow, after_level, element_rows_from, ContainerRow, container_row, HousingRow, housing_row, housings_of, Rows, tables, box_from, number_of}
+use Rattle.office.specs.Reading.{ElementRow, after_level, element_rows_from, ContainerRow, container_row, HousingRow, housing_row, housings_of, Rows, tables, number_of}
 use Rattle.office.specs.DeskCauses.{are_numbered_from}
 use Rattle.office.specs.CatalogueCauses.{unit_numbers, is_good_element, is_good_housing, are_good_container_rows, is_same_element, is_same_container, is_same_place, is_housed_alike}
 use Rattle.office.specs.Judged.{IsSoundCatalogue}

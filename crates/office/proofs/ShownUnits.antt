@@ -1,5 +1,5 @@
 -- The rows of the units of a sound catalogue, and of their places, have their keys and no cause.
-use Rattle.std.proofs.Common.{◌≡◌, ℕ, ◌+◌, ◌<◌, ◌≤◌, true, false, not, List, [], ◌∷◌, ◌++◌, length, Option, Some, None, refl, sym, ap, ◌∙◌, subst, nat_eq, arith, map}
+use Rattle.std.proofs.Common.{◌≡◌, ℕ, ◌+◌, ◌<◌, ◌≤◌, true, false, not, List, [], ◌∷◌, length, Option, Some, None, refl, sym, ap, ◌∙◌, subst, nat_eq, arith, map}
 use Rattle.std.specs.Prelude.{ℤ, nat_le, nat_lt, is_some}
 use Rattle.std.specs.List.{IsDistinct, AllByRecursion, list_all}
 use Rattle.std.proofs.lemmas.Bool.{and_from, le-leb, lt-ltb, not_from_false}
@@ -11,9 +11,9 @@ use Rattle.isad_core.specs.Texts.{is_blank_text}
 use Rattle.isad_core.specs.Days.{is_day_number}
 use Rattle.isad_core.proofs.DayLemmas.{is_day_number-true}
 use Rattle.tree_core.specs.Forest.{Forest, nodes, each, size}
-use Rattle.tree_core.specs.Links.{siblings, HoldsLinks}
+use Rattle.tree_core.specs.Links.{siblings}
 use Rattle.tree_core.specs.Spans.{number}
-use Rattle.tree_core.proofs.Lists.{In, any_from_In}
+use Rattle.tree_core.proofs.Lists.{any_from_In}
 use Rattle.tree_core.proofs.LinkPaths.{ids-rows_below}
 use Rattle.tree_core.proofs.NumberingWalk.{ids-number}
 use Rattle.tree_core.proofs.Linking.{link_faultless, no_link_fault}
@@ -27,8 +27,8 @@ use Rattle.office.specs.Intake.{most_units, most_unit_numbers}
 use Rattle.office.specs.State.{State}
 use Rattle.office.specs.Words.{stands}
 use Rattle.office.specs.Rules.{is_source, is_between, height, most_deep}
-use Rattle.office.specs.Soundness.{is_country, is_repository, most_bytes, IsSomeDay, IsGoodUnit, AreGoodSettings, AreGoodUnits, is_same_unit}
-use Rattle.office.specs.Reading.{OfficeRow, UnitRow, unit_row, number_of, Rows, place_rows, tables, state_of}
+use Rattle.office.specs.Soundness.{is_country, is_repository, most_bytes, IsSomeDay, IsGoodUnit, is_same_unit}
+use Rattle.office.specs.Reading.{OfficeRow, UnitRow, unit_row, number_of, place_rows, tables, state_of}
 use Rattle.office.specs.CatalogueCauses.{is_good_office, are_good_places, is_some_day, is_good_unit_row, unit_numbers, place_numbers, all_stand_in, are_good_units, is_named_alike}
 use Rattle.office.specs.Judged.{IsSoundCatalogue}
 use Rattle.office.proofs.Words.{same_number}

@@ -1,10 +1,9 @@
 -- Rows of the catalogue's tables with their keys and without a cause say a sound catalogue, and are its rows.
-use Rattle.std.proofs.Common.{◌≡◌, ℕ, suc, ◌+◌, ◌<◌, ◌≤◌, Bool, true, false, not, ◌&&◌, List, [], ◌∷◌, length, Option, Some, None, refl, sym, ap, ◌∙◌, subst, nat_eq, inl, inr, arith, map}
-use Rattle.std.specs.Prelude.{ℤ, nat_le, nat_lt, is_some}
+use Rattle.std.proofs.Common.{◌≡◌, ℕ, ◌+◌, ◌<◌, ◌≤◌, true, false, not, List, [], ◌∷◌, length, Option, Some, None, refl, sym, ap, ◌∙◌, subst, nat_eq, inl, inr, arith, map}
+use Rattle.std.specs.Prelude.{ℤ, nat_le, nat_lt}
 use Rattle.std.specs.List.{IsDistinct, AllByRecursion, list_all}
 use Rattle.std.specs.List.Sorted.{IsPermutation}
-use Rattle.std.specs.Str.{bytes_eq}
-use Rattle.std.proofs.lemmas.Bool.{and_parts, eqb-true, leb-true, ltb-true, not-true, not-false, false≢true}
+use Rattle.std.proofs.lemmas.Bool.{and_parts, eqb-true, leb-true, ltb-true, not-true, not-false}
 use Rattle.std.proofs.lemmas.Slice.Eq.{bytes_eq-Decides}
 use Rattle.std.proofs.lemmas.Int.{ints}
 use Rattle.std.proofs.lemmas.List.{length-map}
@@ -16,7 +15,7 @@ use Rattle.isad_core.specs.Days.{IsDayNumber, is_day_number}
 use Rattle.isad_core.specs.declared.values.BoxKey.{BoxKey}
 use Rattle.atom_csv.specs.Values.{distinct, is_same as is_same_box}
 use Rattle.tree_core.specs.Forest.{Forest, Empty, Node, nodes, each, size}
-use Rattle.tree_core.proofs.Lists.{In, In-map, any_from_In}
+use Rattle.tree_core.proofs.Lists.{In, In-map}
 use Rattle.tree_core.proofs.EachLemmas.{nodes-each}
 use Rattle.catalogue_store.specs.Schema.{Version}
 use Rattle.catalogue_store.specs.Rows.{version_number}
@@ -25,17 +24,17 @@ use Rattle.catalogue_store.proofs.Offices.{length-nodes}
 use Rattle.office.specs.Intake.{most_units, most_unit_numbers, most_containers}
 use Rattle.office.specs.Words.{stands}
 use Rattle.office.specs.Rules.{is_source, is_between, height, most_deep}
-use Rattle.office.specs.Soundness.{is_country, is_repository, most_bytes, IsSomeDay, IsGoodUnit, AreGoodSettings, AreGoodUnits, AreGoodContainers, is_same_unit}
+use Rattle.office.specs.Soundness.{is_country, is_repository, most_bytes, IsSomeDay, IsGoodUnit, AreGoodSettings, AreGoodUnits, is_same_unit}
 use Rattle.office.specs.Laws.{numbers_from}
 use Rattle.office.specs.Reading.{OfficeRow, UnitRow, unit_row, number_of, ElementRow, ContainerRow, HousingRow, Rows, place_rows, state_of, box_from, text_said, boxes_said, places_said, unit_said, unit_from, housings_of}
 use Rattle.office.specs.DeskCauses.{are_numbered_from}
-use Rattle.office.specs.CatalogueCauses.{is_good_office, are_good_places, is_some_day, is_good_unit_row, unit_numbers, place_numbers, all_stand_in, are_good_units, is_good_element, is_good_housing, are_good_container_rows, catalogue_tests, office_is_bad, places_are_bad, units_are_bad, elements_are_bad, containers_are_bad, is_named_alike, MeetsCatalogueKeys, ArePlacesOf, IsCatalogueOf}
+use Rattle.office.specs.CatalogueCauses.{is_good_office, are_good_places, is_some_day, is_good_unit_row, unit_numbers, place_numbers, all_stand_in, are_good_units, is_good_element, is_good_housing, are_good_container_rows, office_is_bad, places_are_bad, units_are_bad, elements_are_bad, containers_are_bad, is_named_alike, MeetsCatalogueKeys, ArePlacesOf, IsCatalogueOf}
 use Rattle.office.specs.Causes.{catalogue_cause}
 use Rattle.office.specs.Judged.{IsSoundCatalogue, SaysTheCatalogue}
 use Rattle.office.proofs.Judging.{none_held}
-use Rattle.office.proofs.RowsByNumber.{From, in_map, all_in, in_all, in_each, each_in, stands_in}
+use Rattle.office.proofs.RowsByNumber.{in_map, all_in, stands_in}
 use Rattle.office.proofs.ToldPlaces.{ArePlaced, good_places}
-use Rattle.office.proofs.ToldUnits.{AreUnitsOf, each_said, units_are_said, said_id, said_texts, said_boxes, unit_of_row}
+use Rattle.office.proofs.ToldUnits.{AreUnitsOf, each_said, units_are_said, said_id}
 use Rattle.office.proofs.ToldElements.{IsGoodElement, good_element, elements_are_said, texts_are_good}
 use Rattle.office.proofs.ToldContainers.{containers_are_said, boxes_apart, stay_distinct}
 use Rattle.office.proofs.ToldHousings.{IsGoodHousing, said_apart, said_known, housings_are_said}

@@ -1,12 +1,12 @@
 -- Containers that rows say are those rows, and each stands once.
-use Rattle.std.proofs.Common.{◌≡◌, ℕ, zero, suc, ◌≤◌, ◌<◌, ◌+◌, Bool, true, false, cond, not, ◌&&◌, ◌||◌, List, [], ◌∷◌, length, Option, Some, None, refl, sym, ap, ◌∙◌, subst, nat_eq, inl, inr, arith, map}
+use Rattle.std.proofs.Common.{◌≡◌, ℕ, zero, suc, ◌≤◌, Bool, true, false, cond, not, List, [], ◌∷◌, length, Some, refl, sym, ap, ◌∙◌, nat_eq, inl, inr, arith, map}
 use Rattle.std.specs.Prelude.{filter, option_map, unwrap_or, slice_get}
-use Rattle.std.specs.List.{IsDistinct, AllByRecursion, list_any, list_all}
+use Rattle.std.specs.List.{IsDistinct, AllByRecursion, list_any}
 use Rattle.std.proofs.lemmas.Bool.{and_parts, eqb-true, eq-eqb, false≢true, false_from_ne_true, or_left, or_right}
 use Rattle.isad_core.specs.declared.values.BoxKey.{BoxKey}
 use Rattle.atom_csv.specs.Values.{distinct, is_same as is_same_box}
 use Rattle.catalogue_store.specs.Merging.{box_number, number_in}
-use Rattle.tree_core.proofs.Lists.{In, In-map, head_apart, any_from_In}
+use Rattle.tree_core.proofs.Lists.{In}
 use Rattle.office.specs.Words.{numbered}
 use Rattle.office.specs.Tables.{rows_from}
 use Rattle.office.specs.Reading.{ContainerRow, container_row, box_from}

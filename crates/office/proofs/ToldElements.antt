@@ -1,7 +1,7 @@
 -- The texts that rows of elements say are those rows.
-use Rattle.std.proofs.Common.{◌≡◌, ℕ, zero, suc, ◌+◌, ◌<◌, ◌≤◌, Bool, true, false, cond, not, ◌&&◌, List, [], ◌∷◌, ◌++◌, Option, Some, None, refl, sym, ap, ◌∙◌, subst, nat_eq, nat_lt, inl, inr, arith, map}
+use Rattle.std.proofs.Common.{◌≡◌, ℕ, zero, suc, ◌+◌, ◌<◌, ◌≤◌, true, false, cond, not, ◌&&◌, List, [], ◌∷◌, ◌++◌, Option, Some, None, refl, sym, ap, ◌∙◌, subst, nat_eq, inl, inr, arith, map}
 use Rattle.std.specs.Prelude.{filter, find, option_map, nat_le}
-use Rattle.std.specs.List.{IsDistinct, AllByRecursion, list_all, flat_map}
+use Rattle.std.specs.List.{IsDistinct, list_all, flat_map}
 use Rattle.std.specs.Option.{option_to_list}
 use Rattle.std.specs.List.Sorted.{IsPermutation}
 use Rattle.std.proofs.lemmas.Bool.{and_parts, and_from, eqb-true, leb-true, lt-ltb, le-ltb, cases_eq, cases_lt, not-true, false≢true, eq-eqb}
@@ -10,7 +10,7 @@ use Rattle.std.proofs.lemmas.List.Folds.{flat_map-map}
 use Rattle.std.proofs.lemmas.List.Sorted.{IsPermutation-trans}
 use Rattle.isad_core.specs.Texts.{Bytes, is_blank_text}
 use Rattle.tree_core.specs.Forest.{Forest, nodes, each}
-use Rattle.tree_core.proofs.Lists.{In, In-map, find_some, distinct_cons}
+use Rattle.tree_core.proofs.Lists.{In, In-map, find_some}
 use Rattle.tree_core.proofs.EachLemmas.{nodes-each}
 use Rattle.tree_core.proofs.Repeats.{distinct_repeats}
 use Rattle.catalogue_store.specs.Units.{Unit}
@@ -19,10 +19,9 @@ use Rattle.office.specs.Words.{stands}
 use Rattle.office.specs.Rules.{is_between}
 use Rattle.office.specs.Soundness.{is_good_text}
 use Rattle.office.specs.Reading.{ElementRow, after_level, element_rows_from, Rows, text_said, unit_said}
-use Rattle.office.specs.CatalogueCauses.{is_same_element, is_good_element, unit_numbers}
-use Rattle.office.proofs.Words.{same_number, other_number}
+use Rattle.office.specs.CatalogueCauses.{is_same_element, is_good_element}
 use Rattle.office.proofs.UnitRows.{found_kept}
-use Rattle.office.proofs.RowsByNumber.{all_in, in_all, each_in, in_each, in_filter, flat_map_same, flat_map_reordered, grouped, one_kept, in_numbers, own_apart}
+use Rattle.office.proofs.RowsByNumber.{in_filter, flat_map_same, flat_map_reordered, grouped, one_kept, in_numbers, own_apart}
 use Rattle.office.proofs.ToldUnits.{said_id, said_texts}
 
 abbrev mine : ℕ → List ElementRow → List ElementRow

@@ -1,10 +1,10 @@
 -- What lies in the units that rows say is in those rows.
-use Rattle.std.proofs.Common.{◌≡◌, ℕ, zero, suc, ◌+◌, ◌<◌, ◌≤◌, Bool, true, false, cond, ◌&&◌, List, [], ◌∷◌, ◌++◌, length, Option, Some, None, refl, sym, ap, ◌∙◌, subst, nat_eq, inl, inr, arith, map}
-use Rattle.std.specs.Prelude.{filter, filter_map, find, nat_le}
+use Rattle.std.proofs.Common.{◌≡◌, ℕ, zero, suc, ◌+◌, ◌<◌, ◌≤◌, true, List, [], ◌∷◌, ◌++◌, length, Option, Some, None, refl, sym, ap, ◌∙◌, subst, nat_eq, arith, map}
+use Rattle.std.specs.Prelude.{filter, find}
 use Rattle.std.specs.List.{IsDistinct, list_any, list_all, flat_map, cons_option}
 use Rattle.std.specs.Option.{option_to_list}
 use Rattle.std.specs.List.Sorted.{IsPermutation}
-use Rattle.std.proofs.lemmas.Bool.{and_parts, and_from, eqb-true, leb-true}
+use Rattle.std.proofs.lemmas.Bool.{and_from, eqb-true}
 use Rattle.std.proofs.lemmas.List.{length-map}
 use Rattle.std.proofs.lemmas.List.Concat.{flat_map-cons}
 use Rattle.std.proofs.lemmas.List.Folds.{flat_map-map}
@@ -23,7 +23,7 @@ use Rattle.office.specs.Words.{numbered}
 use Rattle.office.specs.Tables.{rows_from}
 use Rattle.office.specs.Reading.{HousingRow, housing_row, Rows, box_from, box_at, boxes_from, boxes_said, housings_of, unit_said}
 use Rattle.office.specs.CatalogueCauses.{is_same_place, is_housed_alike}
-use Rattle.office.proofs.RowsByNumber.{in_map, in_filter, flat_map_same, flat_map_reordered, grouped, found_by, one_kept, in_numbers, numbers_in, numbers_length, numbers_apart, own_apart}
+use Rattle.office.proofs.RowsByNumber.{in_map, in_filter, flat_map_same, flat_map_reordered, grouped, found_by, one_kept, in_numbers, numbers_length, numbers_apart, own_apart}
 use Rattle.office.proofs.ToldUnits.{said_id, said_boxes}
 use Rattle.office.proofs.ToldContainers.{back_to_number, one_numbered, is_there, numbered_in, stay_distinct, numbers_tell}
 

@@ -1,7 +1,7 @@
 -- What each of the causes 1 to 5 says where one row of a small sound office is changed.
 use Rattle.std.specs.Prelude.{◌≡◌, ℕ, pos, [], ◌∷◌, Option, Some, None, codes, replicate}
 use Rattle.tree_core.specs.Worked.{link, span}
-use Rattle.catalogue_store.specs.Schema.{Version, Links, Spans}
+use Rattle.catalogue_store.specs.Schema.{Links, Spans}
 use Rattle.office.specs.Reading.{Rows, LinkRows, SpanRows, ElementRow, ContainerRow, HousingRow}
 use Rattle.office.specs.Causes.{cause}
 use Rattle.office.specs.DeskCausesRows.{sound as office_rows, plans}

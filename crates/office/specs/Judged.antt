@@ -1,6 +1,6 @@
 -- Judged rows: those without a cause are the rows of the state that they say, which is sound; and the rows of a sound
 -- state have no cause.
-use Rattle.std.specs.Prelude.{◌≡◌, ℤ, Option, None}
+use Rattle.std.specs.Prelude.{◌≡◌, None}
 use Rattle.std.specs.List.{AllByRecursion}
 use Rattle.isad_core.specs.Days.{IsDayNumber}
 use Rattle.atom_csv.specs.Values.{distinct}
