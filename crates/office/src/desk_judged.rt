@@ -1,6 +1,14 @@
 //! What the causes 6 to 10 say of rows of doubtful origin. Each function does nothing: its contract is the law.
 
 ghost use Rattle.office.specs.DeskCausesRows as row;
+ghost use Rattle.office.specs.DeskJudged.{SoundTablesPass};
+ghost use Rattle.catalogue_store.specs.Schema.{Version};
+ghost use Rattle.office.specs.State.{State};
+
+/// The rows of a sound state have none of these causes, in either version, and meet the keys of the desk's tables.
+pub fn sound_desks_pass()
+    ensures { (version : Version) (s : State) → SoundTablesPass version s }
+{}
 
 /// Each cause is told of a small office with one row changed, and of the office as it was no cause is.
 pub fn worked_causes()
