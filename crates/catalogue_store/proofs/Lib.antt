@@ -30,5 +30,6 @@ pub mod Limits
 pub mod LinkGaps
 pub mod Without
 pub mod LastRows
+pub mod LinkMoves
 pub mod Creations
 pub mod Transactions
