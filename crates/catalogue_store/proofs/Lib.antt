@@ -40,6 +40,7 @@ pub mod LastRows
 pub mod HousingLemmas
 pub mod Telling
 pub mod Valued
+pub mod LinkMoves
 pub mod Creations
 pub mod ReadCauses
 pub mod Transactions
