@@ -49,3 +49,4 @@ pub mod Climbing
 pub mod MarkReads
 pub mod Children
 pub mod Descending
+pub mod MarkForests
