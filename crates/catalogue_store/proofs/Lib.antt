@@ -36,4 +36,6 @@ pub mod Numbered
 pub mod HousingLemmas
 pub mod Telling
 pub mod Valued
+pub mod NodeLemmas
+pub mod NewUnits
 pub mod Creations
