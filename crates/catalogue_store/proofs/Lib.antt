@@ -41,6 +41,8 @@ pub mod HousingLemmas
 pub mod Telling
 pub mod Valued
 pub mod LinkMoves
+pub mod NodeLemmas
+pub mod NewUnits
 pub mod Creations
 pub mod ReadCauses
 pub mod Transactions

@@ -4,7 +4,8 @@ use Rattle.std.specs.Ordering.{int_cmp}
 use Rattle.sqlite.specs.Tree.{Trees}
 use Rattle.sqlite_trees.proofs.ListLemmas.{ascending-filter}
 use Rattle.isad_core.specs.declared.values.BoxKey.{BoxKey}
-use Rattle.catalogue_store.specs.Adding.{AreElements, AreHoused}
+use Rattle.isad_core.specs.declared.values.Values.{Values}
+use Rattle.catalogue_store.specs.Adding.{AreElements, AreHoused, IsDescribed, with_boxes}
 use Rattle.catalogue_store.specs.Describing.{KnowsItsContainers}
 use Rattle.catalogue_store.specs.Merging.{Catalogue}
 use Rattle.catalogue_store.specs.Order.{Rises}
@@ -32,3 +33,14 @@ elements_shown v db o c at = record { rows = at.elements.rows; rise = at.element
 
 pub housed_shown : (v : Version) (db : Database) (o : OfficeRow) (c : Catalogue) → (at : ShowsCatalogue v db o c) → KnowsItsContainers c → AreHoused db.trees c.containers at.housings.housings
 housed_shown v db o c at knows = record { containers = at.containers; apart = knows.apart; rows = at.housings.rows; rise = at.housings.rise }
+
+pub same_described : (old new : Trees) (unit : ℕ) (values : Values) (boxes : List BoxKey) (xs : List ElementRow) (hs : List HousingRow) → new 16 ≡ old 16 → new 18 ≡ old 18 → new 20 ≡ old 20
+    → IsDescribed unit values boxes xs hs old → IsDescribed unit values boxes xs hs new
+same_described old new unit values boxes xs hs texts containers housings it = record {
+  elements = it.elements;
+  texts = same_elements old new it.elements texts it.texts;
+  texts_more = it.texts_more;
+  housings = it.housings;
+  housed = same_housed old new (with_boxes boxes values.boxes) it.housings containers housings it.housed;
+  housed_more = it.housed_more;
+}

@@ -23,7 +23,7 @@ mod value;
 
 pub use catalogue::{create, known};
 pub use closing::{set_closure, set_status};
-pub use describing::{UnitValues, replace_values};
+pub use describing::{UnitValues, add_unit, replace_values};
 pub use fault::StoreFault;
 pub use links::LinkPlaces;
 pub use making::{create_index, create_table};
