@@ -25,3 +25,7 @@ pub mod DeskCauses
 pub mod DeskCausesRows
 pub mod DeskJudged
 pub mod ReadingRows
+pub mod Judging
+pub mod CatalogueCauses
+pub mod Causes
+pub mod Judged
