@@ -11,7 +11,8 @@ use Rattle.office.specs.State.{State, Line, Run, Permit, is_seat_of, containers}
 use Rattle.office.specs.Secrecy.{StandsIn}
 use Rattle.office.specs.Sound.{IsAscending, SitOnce, AreApart, ByUnit, IsSoundDesk}
 use Rattle.office.specs.Tables.{ReaderRow, reader_row, SeatRow, seat_rows_from, OrderRow, order_row, HoldingRow, holding_row, RunRow, run_row, RunLineRow, run_line_row, lines_from, PermitRow, permit_row}
-use Rattle.office.specs.Reading.{Version, tables}
+use Rattle.catalogue_store.specs.Schema.{Version}
+use Rattle.office.specs.Reading.{tables}
 use Rattle.office.specs.DeskCauses.{AreInOrder, MeetsDeskKeys}
 use Rattle.office.proofs.Words.{same_number, ascending-push}
 use Rattle.office.proofs.Members.{all_in, all_of_in, none_in, in_append, in_filter_map, in_map, in_flat_map, in_numbers}

@@ -12,7 +12,8 @@ use Rattle.office.specs.Words.{numbered, some_and}
 use Rattle.office.specs.State.{State, Order, is_ticket, is_container, has_unit}
 use Rattle.office.specs.Rules.{is_between}
 use Rattle.office.specs.Tables.{ReaderRow, reader_row, OrderRow, order_row, order_rows, RunRow, run_row}
-use Rattle.office.specs.Reading.{UnitRow, unit_row, ContainerRow, container_row, Version, tables}
+use Rattle.catalogue_store.specs.Schema.{Version}
+use Rattle.office.specs.Reading.{UnitRow, unit_row, ContainerRow, container_row, tables}
 use Rattle.office.specs.DeskCauses.{is_registered, is_container_there, is_unit_there}
 use Rattle.office.proofs.Words.{other_number}
 use Rattle.office.proofs.Members.{any_same}

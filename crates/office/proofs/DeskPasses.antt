@@ -2,7 +2,7 @@
 use Rattle.std.proofs.Common.{ap}
 use Rattle.std.specs.Prelude.{not}
 use Rattle.office.specs.State.{State}
-use Rattle.office.specs.Reading.{Version}
+use Rattle.catalogue_store.specs.Schema.{Version}
 use Rattle.office.specs.DeskJudged.{SoundTablesPass}
 use Rattle.office.proofs.DeskKeys.{meets_keys}
 use Rattle.office.proofs.ReadersPass.{readers_pass}

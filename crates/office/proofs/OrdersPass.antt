@@ -18,7 +18,8 @@ use Rattle.office.specs.Sound.{ExactlyOne, IsFiled, is_out_for}
 use Rattle.office.specs.Soundness.{IsSound}
 use Rattle.office.specs.Rules.{is_between}
 use Rattle.office.specs.Tables.{rows_from, OrderRow, order_row, order_rows, state_number, HoldingRow, holding_row, holding_rows}
-use Rattle.office.specs.Reading.{Version, tables}
+use Rattle.catalogue_store.specs.Schema.{Version}
+use Rattle.office.specs.Reading.{tables}
 use Rattle.office.specs.DeskCauses.{are_numbered_from, is_registered, is_container_there, is_live, are_twice, is_of_the_day, is_good_order, are_good_orders, is_out_order, is_good_holding, is_holding_of, has_its_holding, are_good_holdings}
 use Rattle.office.proofs.Words.{same_number, numbered_within}
 use Rattle.office.proofs.Counts.{numbered_from_one}

@@ -13,7 +13,8 @@ use Rattle.office.specs.Secrecy.{StandsIn}
 use Rattle.office.specs.Soundness.{IsSound}
 use Rattle.office.specs.Rules.{is_name, is_between, most_tickets, most_permits}
 use Rattle.office.specs.Tables.{ReaderRow, reader_row, reader_rows, SeatRow, seat_rows_from, seat_rows, PermitRow, permit_row, permit_rows}
-use Rattle.office.specs.Reading.{Version, tables}
+use Rattle.catalogue_store.specs.Schema.{Version}
+use Rattle.office.specs.Reading.{tables}
 use Rattle.office.specs.DeskCauses.{are_numbered_from, is_good_reader, is_good_seat, is_good_permit, are_good_readers, is_registered, is_unit_there}
 use Rattle.office.proofs.Words.{same_number}
 use Rattle.office.proofs.ReadBack.{permits_back}

@@ -14,7 +14,8 @@ use Rattle.office.specs.Sound.{IsGoodLine}
 use Rattle.office.specs.Soundness.{IsSound}
 use Rattle.office.specs.Rules.{most_runs}
 use Rattle.office.specs.Tables.{RunRow, run_row, run_rows, RunLineRow, run_line_row, lines_from, run_line_rows, OrderRow}
-use Rattle.office.specs.Reading.{line_from, run_from, Version, tables}
+use Rattle.catalogue_store.specs.Schema.{Version}
+use Rattle.office.specs.Reading.{line_from, run_from, tables}
 use Rattle.office.specs.DeskCauses.{are_numbered_from, is_good_run, is_order_of_line, is_good_line, are_good_runs, holds_well, is_held_against_rules, day_is_broken}
 use Rattle.office.proofs.Words.{same_number}
 use Rattle.office.proofs.ReadBack.{runs_back}

@@ -4,7 +4,8 @@ use Rattle.std.specs.List.{AllByRecursion}
 use Rattle.isad_core.specs.Days.{IsDayNumber}
 use Rattle.atom_csv.specs.Values.{distinct}
 use Rattle.office.specs.State.{State, has_unit}
-use Rattle.office.specs.Reading.{ContainerRow, Rows, Version, tables, state_of}
+use Rattle.catalogue_store.specs.Schema.{Version}
+use Rattle.office.specs.Reading.{ContainerRow, Rows, tables, state_of}
 use Rattle.office.specs.Sound.{IsSoundDesk}
 use Rattle.office.specs.Soundness.{IsSound, ArePermitsOfUnits}
 use Rattle.office.specs.DeskCauses.{MeetsDeskKeys, are_numbered_from, is_unit_there, readers_are_bad, orders_are_bad, holdings_are_bad, runs_are_bad, day_is_broken}

@@ -27,5 +27,6 @@ pub mod DeskJudged
 pub mod ReadingRows
 pub mod Judging
 pub mod CatalogueCauses
+pub mod CatalogueCausesRows
 pub mod Causes
 pub mod Judged

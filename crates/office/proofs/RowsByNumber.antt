@@ -1,5 +1,5 @@
 -- Rows taken by a number of each: those of one number after those of another are all of them.
-use Rattle.std.proofs.Common.{◌≡◌, ℕ, zero, suc, ◌+◌, ◌<◌, ◌≤◌, Bool, true, false, cond, not, ◌&&◌, List, [], ◌∷◌, ◌++◌, length, Option, Some, None, refl, sym, ap, ◌∙◌, subst, ◌⊎◌, inl, inr, arith, nat_eq, map}
+use Rattle.std.proofs.Common.{◌≡◌, ℕ, zero, suc, ◌+◌, ◌<◌, ◌≤◌, Bool, true, false, cond, not, ◌&&◌, List, [], ◌∷◌, ◌++◌, length, Some, refl, sym, ap, ◌∙◌, subst, inl, inr, arith, nat_eq, map}
 use Rattle.std.specs.Prelude.{filter, find}
 use Rattle.std.specs.List.{list_any, list_all, flat_map, IsDistinct, AllByRecursion}
 use Rattle.std.specs.Option.{option_to_list}
@@ -11,7 +11,7 @@ use Rattle.tree_core.proofs.Lists.{In, In-map, head_apart, any_from_In, distinct
 use Rattle.tree_core.proofs.Repeats.{distinct_repeats}
 use Rattle.office.specs.Laws.{numbers_from}
 use Rattle.office.specs.Words.{stands}
-use Rattle.office.proofs.Words.{same_number, other_number}
+use Rattle.office.proofs.Words.{other_number}
 
 -- ---- what stands in a list
 
@@ -167,3 +167,24 @@ numbers_apart m (suc n) = distinct_cons m (numbers_from (suc m) n) (none m (suc 
     none : (k m n : ℕ) → k < m → list_any (nat_eq k) (numbers_from m n) ≡ false
     none k m zero h = refl
     none k m (suc n) h = or_from (nat_eq k m) (list_any (nat_eq k) (numbers_from (suc m) n)) (other_number k m (λ e. omega (arith, h, e))) (none k (suc m) n (omega (arith, h)))
+
+-- ---- the rows of one number
+
+-- where no two rows have one pair of numbers, no two of those with the one have the other
+pub own_apart : {R : Type 0} (first second : R → ℕ) (n : ℕ) (rows : List R) → IsDistinct (λ a b. nat_eq (first a) (first b) && nat_eq (second a) (second b)) rows → IsDistinct nat_eq (map second (filter (λ r. nat_eq (first r) n) rows))
+unfolding IsDistinct
+own_apart first second n [] d = tt
+own_apart {R} first second n (row ∷ rows) d = at (nat_eq (first row) n) refl (own_apart first second n rows d.1)
+  where
+    more : (x : R) (xs : List R) → first row ≡ n → (nat_eq (first row) (first x) && nat_eq (second row) (second x)) ≡ false → (b : Bool) → nat_eq (first x) n ≡ b → AllByRecursion (λ k. nat_eq (second row) k ≡ false) (map second (filter (λ r. nat_eq (first r) n) xs))
+        → AllByRecursion (λ k. nat_eq (second row) k ≡ false) (map second (cond b (x ∷ filter (λ r. nat_eq (first r) n) xs) (filter (λ r. nat_eq (first r) n) xs)))
+    more x xs e h true q r = (sym (ap (λ b. b && nat_eq (second row) (second x)) (eq-eqb (first row) (first x) (e ∙ sym (eqb-true (first x) n q)))) ∙ h, r)
+    more x xs e h false q r = r
+
+    others : (xs : List R) → first row ≡ n → AllByRecursion (λ other. (nat_eq (first row) (first other) && nat_eq (second row) (second other)) ≡ false) xs → AllByRecursion (λ k. nat_eq (second row) k ≡ false) (map second (filter (λ r. nat_eq (first r) n) xs))
+    others [] e h = tt
+    others (x ∷ xs) e h = more x xs e h.0 (nat_eq (first x) n) refl (others xs e h.1)
+
+    at : (b : Bool) → nat_eq (first row) n ≡ b → IsDistinct nat_eq (map second (filter (λ r. nat_eq (first r) n) rows)) → IsDistinct nat_eq (map second (cond b (row ∷ filter (λ r. nat_eq (first r) n) rows) (filter (λ r. nat_eq (first r) n) rows)))
+    at true e r = (others rows (eqb-true (first row) n e) d.0, r)
+    at false e r = r
