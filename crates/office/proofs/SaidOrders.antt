@@ -19,7 +19,7 @@ use Rattle.office.proofs.OrderLaws.{stands_waiting, stands_out, stands_past}
 use Rattle.office.proofs.Members.{all_in, some_in, any_same, test_in}
 use Rattle.office.proofs.NumberedRows.{any_numbered, has_number, by_number, numbered_in, numbered-map, rows_again}
 use Rattle.office.proofs.DeskLookups.{flipped}
-use Rattle.office.proofs.RowGroups.{any_filter, order-filter, order-map}
+use Rattle.office.proofs.Grouped.{any_filter, order-filter, order-map}
 use Rattle.office.proofs.DeskParts.{OrdersParts}
 
 -- ---- the place that rows give a container

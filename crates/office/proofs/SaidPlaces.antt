@@ -24,7 +24,7 @@ use Rattle.office.proofs.Counts.{numbered_from_one}
 use Rattle.office.proofs.Members.{all_of_in, none_in, in_map, in_filter, numbers_in, to_from}
 use Rattle.office.proofs.NumberedRows.{has_number, numbered_in}
 use Rattle.office.proofs.DeskLookups.{between}
-use Rattle.office.proofs.RowGroups.{found, found_all}
+use Rattle.office.proofs.Grouped.{found, found_all}
 use Rattle.office.proofs.DeskParts.{ReaderParts, OrdersParts, not_bad, said_ticket, said_container, said_by}
 use Rattle.office.proofs.SaidOrders.{place_cases, HoldingKind, AtDesk, OutWith, HoldingParts, place_is_desk, place_is_out}
 

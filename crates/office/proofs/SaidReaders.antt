@@ -22,7 +22,7 @@ use Rattle.office.proofs.Counts.{numbered_from_one}
 use Rattle.office.proofs.Members.{all_of_in, some_in, in_map, in_filter, to_from}
 use Rattle.office.proofs.NumberedRows.{rows_again, numbered_in}
 use Rattle.office.proofs.DeskKeys.{PermitBefore}
-use Rattle.office.proofs.RowGroups.{filter_none, order_weaker, order-filter, order-map, found, same_row, found_all, grouped_all}
+use Rattle.office.proofs.Grouped.{filter_none, order_weaker, order-filter, order-map, found, same_row, found_all, grouped_all}
 use Rattle.office.proofs.DeskParts.{ReaderParts, said_ticket, said_by}
 
 -- ---- seats

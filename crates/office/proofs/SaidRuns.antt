@@ -22,7 +22,7 @@ use Rattle.office.proofs.Words.{numbered_within}
 use Rattle.office.proofs.Counts.{numbered_from_one}
 use Rattle.office.proofs.DeskKeys.{LineBefore}
 use Rattle.office.proofs.DeskLookups.{is_between_so, is_not_later, is_day_so, some_and-map}
-use Rattle.office.proofs.RowGroups.{order_weaker, order-filter, order-map, grouped_all}
+use Rattle.office.proofs.Grouped.{order_weaker, order-filter, order-map, grouped_all}
 use Rattle.office.proofs.DeskParts.{OrdersParts, said_by}
 
 pub record RunParts (t : Rows) : Type 0 where
