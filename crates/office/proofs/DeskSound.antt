@@ -1,5 +1,6 @@
 -- Rows with none of the causes 6 to 10 say a sound desk, which shows just those rows.
-use Rattle.office.specs.Reading.{Rows, Version}
+use Rattle.catalogue_store.specs.Schema.{Version}
+use Rattle.office.specs.Reading.{Rows}
 use Rattle.office.specs.DeskCauses.{are_good_readers, are_good_orders, are_good_holdings, are_good_runs}
 use Rattle.office.specs.DeskJudged.{PassingRowsAreSound}
 use Rattle.office.proofs.DeskParts.{reader_parts, orders_parts, not_bad}
