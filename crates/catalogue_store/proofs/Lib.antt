@@ -31,5 +31,6 @@ pub mod LinkGaps
 pub mod Without
 pub mod LastRows
 pub mod LinkMoves
+pub mod Moves
 pub mod Creations
 pub mod Transactions

@@ -11,6 +11,7 @@ pub mod Finding
 pub mod Put
 pub mod Counting
 pub mod Statuses
+pub mod Moves
 pub mod Adding
 pub mod Creation
 pub mod Order
