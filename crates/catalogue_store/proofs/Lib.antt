@@ -43,6 +43,7 @@ pub mod Valued
 pub mod LinkMoves
 pub mod NodeLemmas
 pub mod NewUnits
+pub mod Moves
 pub mod Creations
 pub mod ReadCauses
 pub mod Transactions

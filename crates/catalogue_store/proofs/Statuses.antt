@@ -36,7 +36,7 @@ pub all_map : {A B : Type 0} (g : A → B) (P : B → Type 0) (Q : A → Type 0)
 all_map g P Q f [] h = tt
 all_map g P Q f (x ∷ xs) h = (f x h.0, all_map g P Q f xs h.1)
 
-all_same : {A : Type 0} (P Q : A → Type 0) → ((x : A) → P x → Q x) → (xs : List A) → AllByRecursion P xs → AllByRecursion Q xs
+pub all_same : {A : Type 0} (P Q : A → Type 0) → ((x : A) → P x → Q x) → (xs : List A) → AllByRecursion P xs → AllByRecursion Q xs
 all_same P Q f [] h = tt
 all_same P Q f (x ∷ xs) h = (f x h.0, all_same P Q f xs h.1)
 
