@@ -161,8 +161,7 @@ module _ (db : Trees) (c : Catalogue) (units : ShowsUnits db c.forest) (at : Sho
       let mine = has_map unit ys row.0 (had ys rows (IsPermutation-sym rows ys perm) row.0 row.1) in
       let h' = subst (Has list) (row.2 ∙ sym u.2) mine in
       has_from_in (dedup eqb list) n (In-from_Contains (dedup eqb list) n (Contains-dedup_nat list n (Contains-from_In list n (in_from_has list n h')))) in
-      let same : dedup eqb list ≡ map id theirs = same_rising by_size by_size_total (dedup eqb list) (map id theirs) up up' there back in
-      (
+      let same : dedup eqb list ≡ map id theirs = same_rising by_size by_size_total (dedup eqb list) (map id theirs) up up' there back in (
         theirs,
         record { are = IsPermutation-filter (names c.containers container) (nodes c.forest) units.units units.are; rise = risen },
         squeezed ∙ ap (dedup eqb) is ∙ same,

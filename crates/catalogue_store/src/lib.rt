@@ -21,6 +21,6 @@ pub use catalogue::{create, known};
 pub use closing::{set_closure, set_status};
 pub use fault::StoreFault;
 pub use links::LinkPlaces;
-pub use marking::{branch_marks, path_marks};
+pub use marking::{Attached, branch_marks, contents_marks, path_marks};
 pub use office::{Office, OfficeRow, office_row};
 pub use units::NewUnit;
