@@ -53,3 +53,4 @@ pub mod MarkReads
 pub mod Children
 pub mod Descending
 pub mod MarkForests
+pub mod Attachments
