@@ -37,7 +37,7 @@ all_with P Q f (x ∷ xs) h = (f x h.0, all_with P Q f xs h.1)
 
 -- the numbers of new units
 
-length-numbered : (f : Forest Unit) (source : Bytes) (n : ℕ) (above news : List Row) → length (numbered_from f source n above news) ≡ length news
+pub length-numbered : (f : Forest Unit) (source : Bytes) (n : ℕ) (above news : List Row) → length (numbered_from f source n above news) ≡ length news
 length-numbered f source n above [] = refl
 length-numbered f source n above (row ∷ news) = ap Rattle.std.specs.Prelude.suc (length-numbered f source (n + 1) (row ∷ above) news)
 
