@@ -12,7 +12,8 @@ use Rattle.sqlite.proofs.Callers.{IsPlain, command_of, statement_of, never_commi
 use Rattle.sqlite.proofs.StateLemmas.{survives_weaker, survives_then}
 use Rattle.catalogue_store.specs.Schema.{Version, schema}
 use Rattle.catalogue_store.specs.Step.{InTransaction, InOffice, GoesOn, IsBack, Continues, Goes, IsCut, Looks}
-use Rattle.catalogue_store.proofs.Errors.{IsStopped, stops, fails, keeps}
+use Rattle.catalogue_store.specs.Transactions.{IsStopped}
+use Rattle.catalogue_store.proofs.Errors.{stops, fails, keeps}
 
 pub early : (old new : State) (P : Trees → Type 0) → Survives old new P → HasCleanDisk new → HasCleanDisk old
 early old new P s clean = omega (arith, s.clean)
