@@ -34,7 +34,7 @@ each_there (u ∷ us) all f = (f u.id (or_left (nat_eq u.id u.id) (list_any (has
 
 -- the numbers of new units
 
-length-numbered : (f : Forest Unit) (source : Bytes) (n : ℕ) (above news : List Row) → length (numbered_from f source n above news) ≡ length news
+pub length-numbered : (f : Forest Unit) (source : Bytes) (n : ℕ) (above news : List Row) → length (numbered_from f source n above news) ≡ length news
 length-numbered f source n above [] = refl
 length-numbered f source n above (row ∷ news) = ap Rattle.std.specs.Prelude.suc (length-numbered f source (n + 1) (row ∷ above) news)
 

@@ -1,8 +1,7 @@
 -- After an import no two units have one number, and no two are one unit of a source.
-use Rattle.std.proofs.Common.{◌≡◌, ℕ, ◌+◌, ◌<◌, ◌≤◌, Bool, true, false, not, cond, ◌&&◌, List, [], ◌∷◌, ◌++◌, Option, Some, None, refl, sym, ap, ◌∙◌, subst, inl, inr, arith, map}
+use Rattle.std.proofs.Common.{◌≡◌, ℕ, ◌+◌, ◌<◌, ◌≤◌, Bool, true, false, not, cond, ◌&&◌, List, [], ◌∷◌, ◌++◌, refl, sym, ap, ◌∙◌, subst, inl, inr, arith, map}
 use Rattle.std.specs.Prelude.{nat_eq, filter, find, option_map, unwrap_or}
 use Rattle.std.specs.List.{list_any, AllByRecursion, IsDistinct}
-use Rattle.std.specs.Option.{option_eq}
 use Rattle.std.specs.Str.{bytes_eq}
 use Rattle.std.proofs.lemmas.Bool.{ne_eqb, or_parts, and_right, cases_Bool}
 use Rattle.std.proofs.lemmas.List.{map-append}
@@ -21,36 +20,12 @@ use Rattle.office.proofs.EachOf.{all_filtered}
 use Rattle.office.proofs.Again.{numbered_rows, is_from_revised, one_text, other_way}
 use Rattle.office.proofs.Imports.{new_rows}
 use Rattle.office.proofs.Rooted.{revised_id}
-use Rattle.office.proofs.MergedNodes.{AreNumberedFrom, reached, placed, merged_nodes}
+use Rattle.office.proofs.MergedNodes.{AreNumberedFrom, numbered_are, merged_nodes}
 
 abbrev number_of : Unit → ℕ
 number_of unit = unit.id
 
--- ---- the rows that are placed
-
-pub reached_all : (P : New → Type 0) (ps : List (Option ℕ)) (new : List New) → AllByRecursion P new → AllByRecursion P (reached ps new)
-reached_all P ps [] h = tt
-reached_all P ps (x ∷ rest) h = at (list_any (option_eq nat_eq x.parent) ps) (reached_all P (Some x.id ∷ ps) rest h.1) (reached_all P ps rest h.1)
-  where
-    at : (b : Bool) → AllByRecursion P (reached (Some x.id ∷ ps) rest) → AllByRecursion P (reached ps rest) → AllByRecursion P (cond b (x ∷ reached (Some x.id ∷ ps) rest) (reached ps rest))
-    at true a c = (h.0, a)
-    at false a c = c
-
-reached_distinct : (e : New → New → Bool) (ps : List (Option ℕ)) (new : List New) → IsDistinct e new → IsDistinct e (reached ps new)
-unfolding IsDistinct
-reached_distinct e ps [] d = tt
-reached_distinct e ps (x ∷ rest) d =
-    at (list_any (option_eq nat_eq x.parent) ps) (reached_distinct e (Some x.id ∷ ps) rest d.1) (reached_distinct e ps rest d.1)
-  where
-    at : (b : Bool) → IsDistinct e (reached (Some x.id ∷ ps) rest) → IsDistinct e (reached ps rest) → IsDistinct e (cond b (x ∷ reached (Some x.id ∷ ps) rest) (reached ps rest))
-    at true a c = (reached_all (λ y. e x y ≡ false) (Some x.id ∷ ps) rest d.0, a)
-    at false a c = c
-
 -- ---- numbers
-
-pub numbered_are : (f : Forest Unit) (source : Bytes) (n : ℕ) (above rows : List Row) → AreNumberedFrom n (numbered_from f source n above rows)
-numbered_are f source n above [] = tt
-numbered_are f source n above (row ∷ rows) = (refl, numbered_are f source (n + 1) (row ∷ above) rows)
 
 numbers_ascend : (n : ℕ) (new : List New) → AreNumberedFrom n new → AllByRecursion (λ x. n ≤ x.id) new
 numbers_ascend n [] a = tt
@@ -67,32 +42,33 @@ revised_numbers : (source : Bytes) (rows : List Row) (us : List Unit) → map nu
 revised_numbers source rows [] = refl
 revised_numbers source rows (u ∷ us) = ap (λ n. n ∷ map number_of (map (revised source rows) us)) (revised_id source rows u) ∙ ap (λ l. u.id ∷ l) (revised_numbers source rows us)
 
-pub distinct_numbers : (source : Bytes) (rows : List Row) (n : ℕ) (new : List New) (f : Forest Unit) → IsDistinct nat_eq (map (λ (u : Unit). u.id) (nodes f)) → AllByRecursion (λ (u : Unit). u.id < n) (nodes f) → AreNumberedFrom n new
-    → IsDistinct nat_eq (map (λ (u : Unit). u.id) (nodes (merged_forest source rows new f)))
-distinct_numbers source rows n new f d b a =
+pub distinct_numbers : (source : Bytes) (rows : List Row) (n : ℕ) (news : List Row) (f : Forest Unit) → IsDistinct nat_eq (map (λ (u : Unit). u.id) (nodes f)) → AllByRecursion (λ (u : Unit). u.id < n) (nodes f)
+    → IsDistinct nat_eq (map (λ (u : Unit). u.id) (nodes (merged_forest source rows (numbered_from f source n [] news) f)))
+distinct_numbers source rows n news f d b =
     IsDistinct-IsPermutation nat_eq eqb_comm (map number_of (old ++ come)) (map number_of (nodes (merged_forest source rows new f)))
-    (IsPermutation-map number_of (old ++ come) (nodes (merged_forest source rows new f)) (IsPermutation-sym (nodes (merged_forest source rows new f)) (old ++ come) (merged_nodes source rows n new f d b a)))
+    (IsPermutation-map number_of (old ++ come) (nodes (merged_forest source rows new f)) (IsPermutation-sym (nodes (merged_forest source rows new f)) (old ++ come) (merged_nodes source rows n news f d b)))
     (subst (IsDistinct nat_eq) (sym parts) (distinct_beside nat_eq (map number_of (nodes f)) (map number_of come) d theirs apart))
   where
+    new : List New
+    new = numbered_from f source n [] news
+
     old : List Unit
     old = map (revised source rows) (nodes f)
 
     come : List Unit
-    come = map (new_unit source) (placed f new)
+    come = map (new_unit source) (numbered_from f source n [] news)
+
+    are : AreNumberedFrom n (numbered_from f source n [] news)
+    are = numbered_are f source n [] news
 
     parts : map number_of (old ++ come) ≡ map number_of (nodes f) ++ map number_of come
     parts = map-append number_of old come ∙ ap (λ l. l ++ map number_of come) (revised_numbers source rows (nodes f))
 
-    places : List (Option ℕ)
-    places = None ∷ map (λ (u : Unit). Some u.id) (nodes f)
-
     theirs : IsDistinct nat_eq (map number_of come)
-    theirs =
-        distinct_mapped nat_eq number_of come
-        (distinct_mapped (λ u v. nat_eq u.id v.id) (new_unit source) (placed f new) (reached_distinct (λ x y. nat_eq x.id y.id) places new (numbers_differ n new a)))
+    theirs = distinct_mapped nat_eq number_of come (distinct_mapped (λ u v. nat_eq u.id v.id) (new_unit source) new (numbers_differ n new are))
 
     above : AllByRecursion (λ m. n ≤ m) (map number_of come)
-    above = all_mapped (λ m. n ≤ m) number_of come (all_mapped (λ u. n ≤ u.id) (new_unit source) (placed f new) (reached_all (λ x. n ≤ x.id) places new (numbers_ascend n new a)))
+    above = all_mapped (λ m. n ≤ m) number_of come (all_mapped (λ u. n ≤ u.id) (new_unit source) new (numbers_ascend n new are))
 
     apart : AllByRecursion (λ k. AllByRecursion (λ m. nat_eq k m ≡ false) (map number_of come)) (map number_of (nodes f))
     apart =
@@ -163,8 +139,8 @@ pub distinct_pairs : (c : Catalogue) (source : Bytes) (rows : List Row) → AreA
     → IsDistinct is_same_unit (nodes (merged_forest source rows (numbered_from c.forest source c.next [] (new_rows c source rows)) c.forest))
 distinct_pairs c source rows apart d b pairs =
     IsDistinct-IsPermutation is_same_unit same_flip (old ++ come) (nodes (merged_forest source rows new c.forest))
-    (IsPermutation-sym (nodes (merged_forest source rows new c.forest)) (old ++ come) (merged_nodes source rows c.next new c.forest d b (numbered_are c.forest source c.next [] (new_rows c source rows))))
-    (distinct_beside is_same_unit old come were theirs (none_the_same source rows (placed c.forest new) (nodes c.forest) unknown))
+    (IsPermutation-sym (nodes (merged_forest source rows new c.forest)) (old ++ come) (merged_nodes source rows c.next (new_rows c source rows) c.forest d b))
+    (distinct_beside is_same_unit old come were theirs (none_the_same source rows new (nodes c.forest) unknown))
   where
     new : List New
     new = numbered_from c.forest source c.next [] (new_rows c source rows)
@@ -173,21 +149,15 @@ distinct_pairs c source rows apart d b pairs =
     old = map (revised source rows) (nodes c.forest)
 
     come : List Unit
-    come = map (new_unit source) (placed c.forest new)
-
-    places : List (Option ℕ)
-    places = None ∷ map (λ (u : Unit). Some u.id) (nodes c.forest)
+    come = map (new_unit source) (numbered_from c.forest source c.next [] (new_rows c source rows))
 
     were : IsDistinct is_same_unit old
     were = distinct_mapped is_same_unit (revised source rows) (nodes c.forest) (distinct_so is_same_unit (λ x y. is_same_unit (revised source rows x) (revised source rows y)) (λ x y h. same_revised source rows x y ∙ h) (nodes c.forest) pairs)
 
     theirs : IsDistinct is_same_unit come
     theirs =
-        distinct_mapped is_same_unit (new_unit source) (placed c.forest new)
-        (reached_distinct (λ x y. is_same_unit (new_unit source x) (new_unit source y)) places new
-        (pairs_differ c.forest source c.next [] (new_rows c source rows) (rows_apart (λ row. not (is_known c.forest source row)) rows apart)))
+        distinct_mapped is_same_unit (new_unit source) new
+        (pairs_differ c.forest source c.next [] (new_rows c source rows) (rows_apart (λ row. not (is_known c.forest source row)) rows apart))
 
-    unknown : AllByRecursion (λ x. list_any (is_from source x.row.legacy) (nodes c.forest) ≡ false) (placed c.forest new)
-    unknown =
-        reached_all (λ x. list_any (is_from source x.row.legacy) (nodes c.forest) ≡ false) places new
-        (numbered_rows c.forest source c.next [] (new_rows c source rows) (λ row. is_known c.forest source row ≡ false) (unknown_rows c source rows))
+    unknown : AllByRecursion (λ x. list_any (is_from source x.row.legacy) (nodes c.forest) ≡ false) new
+    unknown = numbered_rows c.forest source c.next [] (new_rows c source rows) (λ row. is_known c.forest source row ≡ false) (unknown_rows c source rows)

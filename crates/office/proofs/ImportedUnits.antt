@@ -1,16 +1,16 @@
 -- An accepted import keeps the catalogue's own lines of soundness.
-use Rattle.std.proofs.Common.{◌≡◌, ℕ, ◌+◌, ◌<◌, ◌≤◌, true, false, not, ◌||◌, List, [], ◌∷◌, ◌++◌, length, None, Ok, Err, refl, sym, ap, ◌∙◌, subst, arith}
+use Rattle.std.proofs.Common.{◌≡◌, ◌+◌, ◌<◌, ◌≤◌, true, false, not, ◌||◌, List, [], ◌∷◌, ◌++◌, length, None, Ok, Err, refl, sym, ap, subst, arith}
 use Rattle.std.specs.Prelude.{nat_lt}
 use Rattle.std.specs.List.{list_all, flat_map, AllByRecursion}
-use Rattle.std.proofs.lemmas.Bool.{and_parts, and_from, or_parts, or_left, ltb-false, not-true}
+use Rattle.std.proofs.lemmas.Bool.{and_parts, and_from, or_parts, ltb-false, not-true}
 use Rattle.isad_core.specs.Texts.{Bytes, is_blank_text}
 use Rattle.isad_core.specs.declared.values.BoxKey.{BoxKey}
 use Rattle.atom_csv.specs.declared.file.Row.{Row}
-use Rattle.tree_core.specs.Forest.{Forest, nodes, size, each, has}
+use Rattle.tree_core.specs.Forest.{Forest, nodes, size}
 use Rattle.desk_core.specs.Refusals.{when}
 use Rattle.desk_core.specs.declared.refusal.Refusal.TheVariants.{Full}
-use Rattle.catalogue_store.specs.Units.{Unit, has_id}
-use Rattle.catalogue_store.specs.Merging.{Catalogue, New, numbered_from, new_unit, new_units, revised, grown, merged_forest, merged_boxes, is_known}
+use Rattle.catalogue_store.specs.Units.{Unit}
+use Rattle.catalogue_store.specs.Merging.{Catalogue, New, numbered_from, new_unit, revised, merged_forest, merged_boxes, is_known}
 use Rattle.office.specs.declared.command.Command.TheVariants as command
 use Rattle.office.specs.State.{State, has_unit}
 use Rattle.office.specs.Intake.{Intake, Taken, too_much, is_full, most_units, most_unit_numbers, most_containers}
@@ -20,14 +20,15 @@ use Rattle.office.specs.Imported.{IsSoundCatalogue, ImportsKeepTheCatalogue}
 use Rattle.office.proofs.Steps.{Passes, held_so, held_not, step_at}
 use Rattle.office.proofs.EachOf.{all_and, all_append, all_distinct, all_filtered}
 use Rattle.office.proofs.DistinctLists.{all_so}
-use Rattle.office.proofs.TidyTexts.{IsGoodRow}
-use Rattle.office.proofs.FileRows.{apart_rows, good_rows}
+use Rattle.office.proofs.GoodRows.{IsGoodRow, good_rows}
+use Rattle.office.proofs.FileRows.{apart_rows}
 use Rattle.office.proofs.Imports.{new_rows, IsTaken, taken_is}
-use Rattle.office.proofs.Rooted.{has-join, grown_keeps, revised_id}
+use Rattle.office.proofs.Rooted.{revised_id}
 use Rattle.office.proofs.Again.{all_merged, numbered_rows}
-use Rattle.office.proofs.Comes.{each_units, ids_between}
+use Rattle.office.proofs.Comes.{ids_between}
+use Rattle.office.proofs.MergedNodes.{still_there}
 use Rattle.office.proofs.ImportedValues.{AreGoodValues, all_told, good_revised, good_new}
-use Rattle.office.proofs.ImportedNumbers.{numbered_are, distinct_numbers, distinct_pairs}
+use Rattle.office.proofs.ImportedNumbers.{distinct_numbers, distinct_pairs}
 use Rattle.office.proofs.ImportedDepth.{merged_depth}
 
 -- ---- what the refusals leave
@@ -116,7 +117,7 @@ module _ (s : State) (source file : Bytes) (intake : Intake) (e : taken s source
   good_units =
       record {
         each = all_good;
-        ids = distinct_numbers source rows s.next_unit new s.forest g.units.ids below_next (numbered_are s.forest source s.next_unit [] news);
+        ids = distinct_numbers source rows s.next_unit news s.forest g.units.ids below_next;
         pairs = distinct_pairs (catalogue s) source rows (apart_rows file intake.file it.read) g.units.ids below_next g.units.pairs;
         given = given;
         next = (let a = g.units.next.0 in omega (arith, a), enough.1);
@@ -131,15 +132,8 @@ module _ (s : State) (source file : Bytes) (intake : Intake) (e : taken s source
         few = enough.2;
       }
 
-  -- a unit that was there is there
-  still_there : (u : ℕ) → has_unit s.forest u ≡ true → has_unit forest u ≡ true
-  still_there u h =
-      has-join (has_id u) (grown source new (each (revised source rows) s.forest)) (new_units source None new)
-      ∙ or_left (has (has_id u) (grown source new (each (revised source rows) s.forest))) (has (has_id u) (new_units source None new))
-      (grown_keeps source new (has_id u) (each (revised source rows) s.forest) (each_units (revised source rows) s.forest u (revised_id source rows) ∙ h))
-
   permits_there : ArePermitsOfUnits after_import
-  permits_there = λ t. all_so (λ permit. has_unit s.forest permit.unit ≡ true) (λ permit. has_unit forest permit.unit ≡ true) (λ permit. still_there permit.unit) (s.permits t) (g.permits t)
+  permits_there = λ t. all_so (λ permit. has_unit s.forest permit.unit ≡ true) (λ permit. has_unit forest permit.unit ≡ true) (λ permit. still_there source rows new s.forest permit.unit) (s.permits t) (g.permits t)
 
   sound_import : IsSoundCatalogue (imported s (Ok intake))
   sound_import = subst IsSoundCatalogue (sym is_after) (record { units = good_units; containers = good_containers; permits = permits_there })

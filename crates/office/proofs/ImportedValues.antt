@@ -16,7 +16,7 @@ use Rattle.catalogue_store.specs.Merging.{New, new_unit, revised, has_legacy, me
 use Rattle.office.specs.Rules.{is_source}
 use Rattle.office.specs.Soundness.{most_bytes, is_good_text, IsGoodUnit}
 use Rattle.office.proofs.EachOf.{all_and, all_of_found}
-use Rattle.office.proofs.TidyTexts.{IsGoodRow}
+use Rattle.office.proofs.GoodRows.{IsGoodRow}
 use Rattle.office.proofs.Again.{box_itself, stands_box, still_stands}
 
 -- ---- containers that are known

@@ -1,19 +1,21 @@
--- The units of a merged forest, up to order: those that were there, and each new row's unit once at most.
-use Rattle.std.proofs.Common.{◌≡◌, ℕ, ◌+◌, ◌<◌, Bool, true, false, cond, ◌||◌, List, [], ◌∷◌, ◌++◌, Option, Some, None, refl, sym, ap, ◌∙◌, subst, arith, append_assoc, map}
-use Rattle.std.specs.Prelude.{nat_eq, if◌then◌else◌}
+-- The units of a merged forest, up to order: those that were there, and one for each new row.
+use Rattle.std.proofs.Common.{◌≡◌, ℕ, ◌+◌, ◌-◌, ◌<◌, Bool, true, false, cond, ◌||◌, List, [], ◌∷◌, ◌++◌, Option, Some, None, refl, sym, ap, ◌∙◌, subst, arith, append_assoc, map}
+use Rattle.std.specs.Prelude.{nat_eq, if◌then◌else◌, find, option_map, option_and_then}
 use Rattle.std.specs.List.{list_any, flat_map, AllByRecursion, IsDistinct}
 use Rattle.std.specs.List.Sorted.{IsPermutation}
 use Rattle.std.specs.Option.{option_eq}
-use Rattle.std.proofs.lemmas.Bool.{false≢true, eqb-true, ne_eqb, or_parts}
+use Rattle.std.proofs.lemmas.Bool.{false≢true, eqb-true, eq-eqb, ne_eqb, or_parts, or_left, or_right}
 use Rattle.std.proofs.lemmas.List.{map-append}
 use Rattle.std.proofs.lemmas.List.Sorted.{IsPermutation-refl, IsPermutation-trans, IsPermutation-cons, IsPermutation-middle, IsPermutation-map, IsPermutation-append, IsPermutation-append_left, IsPermutation-append_right, IsPermutation-append_comm}
 use Rattle.isad_core.specs.Texts.{Bytes}
 use Rattle.atom_csv.specs.declared.file.Row.{Row}
-use Rattle.tree_core.specs.Forest.{Forest, Empty, Node, nodes, each, join}
-use Rattle.tree_core.proofs.EachLemmas.{nodes-each}
-use Rattle.catalogue_store.specs.Units.{Unit}
-use Rattle.catalogue_store.specs.Merging.{New, branches, new_unit, new_units, revised, grown, merged_forest}
-use Rattle.office.proofs.Rooted.{nodes-join, revised_id}
+use Rattle.tree_core.specs.Forest.{Forest, Empty, Node, nodes, has, each, join}
+use Rattle.catalogue_store.specs.Units.{Unit, has_id, is_from}
+use Rattle.catalogue_store.specs.Merging.{New, branches, number_of, numbered_from, has_legacy, new_unit, new_units, revised, grown, merged_forest}
+use Rattle.office.proofs.EachOf.{all_and, all_true, all_of_found}
+use Rattle.office.specs.State.{has_unit}
+use Rattle.office.proofs.Comes.{each_units}
+use Rattle.office.proofs.Rooted.{nodes-join, has-join, grown_keeps, revised_id}
 
 -- ---- the places below which a row may stand
 
@@ -216,21 +218,80 @@ before_places : (n : ℕ) (us : List Unit) → AllByRecursion (λ (u : Unit). u.
 before_places n [] h = tt
 before_places n (u ∷ us) h = (h.0, before_places n us h.1)
 
--- the new rows that get a unit, each once
-abbrev pub placed : Forest Unit → List New → List New
-placed f new = reached (None ∷ map place_of (nodes f)) new
+-- ---- each row names a parent that is there, or none
 
--- Where the catalogued units have different numbers, and the new rows those after them: up to order the units are the
--- catalogued ones, revised, and a new one for each row that is placed.
-pub merged_nodes : (source : Bytes) (rows : List Row) (n : ℕ) (new : List New) (f : Forest Unit) → IsDistinct nat_eq (map (λ (u : Unit). u.id) (nodes f)) → AllByRecursion (λ (u : Unit). u.id < n) (nodes f) → AreNumberedFrom n new
-    → IsPermutation (nodes (merged_forest source rows new f)) (map (revised source rows) (nodes f) ++ map (new_unit source) (placed f new))
-merged_nodes source rows n new f d b a =
-    subst (λ l. IsPermutation l (old ++ map (new_unit source) (placed f new))) (sym parts)
-    (IsPermutation-trans (nodes (grown source new g) ++ tops) (old ++ units_below source places new) (old ++ map (new_unit source) (placed f new))
-    (subst (λ l. IsPermutation (nodes (grown source new g) ++ tops) (old ++ l)) (sym low) sided)
-    (IsPermutation-append_right old (units_below source places new) (map (new_unit source) (placed f new))
-    (IsPermutation-map (new_unit source) (below_all places new) (placed f new) (below_reached n places new (all_places (nodes f) d) (tt, before_places n (nodes f) b) a))))
+-- a parent that is found has one of these places
+HasParents : Forest Unit → Bytes → ℕ → List Row → List (Option ℕ) → Type 0
+HasParents f source n above ps = (legacy : Bytes) → list_any (option_eq nat_eq (number_of f source n above legacy)) ps ≡ true
+
+-- so each new row stands below one of them, or below a row further up
+all_reached : (f : Forest Unit) (source : Bytes) (n : ℕ) (above rows : List Row) (ps : List (Option ℕ)) → list_any (option_eq nat_eq None) ps ≡ true → HasParents f source n above ps → reached ps (numbered_from f source n above rows) ≡ numbered_from f source n above rows
+unfolding HasParents
+all_reached f source n above [] ps top h = refl
+all_reached f source n above (row ∷ rows) ps top h =
+    ap (λ b. cond b (x ∷ reached (Some n ∷ ps) rest) (reached ps rest)) (there row.parent)
+    ∙ ap (λ l. x ∷ l) (all_reached f source (n + 1) (row ∷ above) rows (Some n ∷ ps) top more)
   where
+    x : New
+    x = record { id = n; parent = option_and_then (number_of f source n above) row.parent; row = row }
+
+    rest : List New
+    rest = numbered_from f source (n + 1) (row ∷ above) rows
+
+    there : (p : Option Bytes) → list_any (option_eq nat_eq (option_and_then (number_of f source n above) p)) ps ≡ true
+    there None = top
+    there (Some legacy) = h legacy
+
+    back : n + 1 - 1 ≡ n
+    back = omega arith
+
+    more : (legacy : Bytes) → list_any (option_eq nat_eq (cond (has_legacy legacy row) (Some (n + 1 - 1)) (number_of f source (n + 1 - 1) above legacy))) (Some n ∷ ps) ≡ true
+    more legacy = subst (λ m. list_any (option_eq nat_eq (cond (has_legacy legacy row) (Some m) (number_of f source m above legacy))) (Some n ∷ ps) ≡ true) (sym back) (at (has_legacy legacy row))
+      where
+        at : (b : Bool) → list_any (option_eq nat_eq (cond b (Some n) (number_of f source n above legacy))) (Some n ∷ ps) ≡ true
+        at true = or_left (nat_eq n n) (list_any (option_eq nat_eq (Some n)) ps) (eq-eqb n n refl)
+        at false = or_right (option_eq nat_eq (number_of f source n above legacy) (Some n)) (list_any (option_eq nat_eq (number_of f source n above legacy)) ps) (h legacy)
+
+unit_places : (f : Forest Unit) (source legacy : Bytes) → list_any (option_eq nat_eq (option_map (λ (unit : Unit). unit.id) (find (is_from source legacy) (nodes f)))) (None ∷ map place_of (nodes f)) ≡ true
+unit_places f source legacy = at (find (is_from source legacy) (nodes f)) refl
+  where
+    stands : (us : List Unit) → AllByRecursion (λ (u : Unit). list_any (option_eq nat_eq (Some u.id)) (map place_of us) ≡ true) us
+    stands [] = tt
+    stands (u ∷ us) = (
+      or_left (nat_eq u.id u.id) (list_any (option_eq nat_eq (Some u.id)) (map place_of us)) (eq-eqb u.id u.id refl),
+      all_and (λ (v : Unit). list_any (option_eq nat_eq (Some v.id)) (map place_of us) ≡ true) (λ v. Prim.Unit {0}) (λ v. list_any (option_eq nat_eq (Some v.id)) (map place_of (u ∷ us)) ≡ true)
+          (λ v h w. or_right (nat_eq v.id u.id) (list_any (option_eq nat_eq (Some v.id)) (map place_of us)) h) us (stands us) (all_true (λ v. Prim.Unit {0}) (λ v. tt) us),
+    )
+
+    at : (r : Option Unit) → find (is_from source legacy) (nodes f) ≡ r → list_any (option_eq nat_eq (option_map (λ (unit : Unit). unit.id) r)) (None ∷ map place_of (nodes f)) ≡ true
+    at None e = refl
+    at (Some v) e = all_of_found (λ (u : Unit). list_any (option_eq nat_eq (Some u.id)) (map place_of (nodes f)) ≡ true) (is_from source legacy) (nodes f) v e (stands (nodes f))
+
+every_row : (f : Forest Unit) (source : Bytes) (n : ℕ) (rows : List Row) → reached (None ∷ map place_of (nodes f)) (numbered_from f source n [] rows) ≡ numbered_from f source n [] rows
+unfolding HasParents
+every_row f source n rows = all_reached f source n [] rows (None ∷ map place_of (nodes f)) refl (unit_places f source)
+
+pub numbered_are : (f : Forest Unit) (source : Bytes) (n : ℕ) (above rows : List Row) → AreNumberedFrom n (numbered_from f source n above rows)
+numbered_are f source n above [] = tt
+numbered_are f source n above (row ∷ rows) = (refl, numbered_are f source (n + 1) (row ∷ above) rows)
+
+-- ---- the units after an import
+
+-- Where the catalogued units have different numbers, all before n: up to order the units are the catalogued ones, revised,
+-- and one for each new row.
+pub merged_nodes : (source : Bytes) (rows : List Row) (n : ℕ) (news : List Row) (f : Forest Unit) → IsDistinct nat_eq (map (λ (u : Unit). u.id) (nodes f)) → AllByRecursion (λ (u : Unit). u.id < n) (nodes f)
+    → IsPermutation (nodes (merged_forest source rows (numbered_from f source n [] news) f)) (map (revised source rows) (nodes f) ++ map (new_unit source) (numbered_from f source n [] news))
+merged_nodes source rows n news f d b =
+    subst (λ l. IsPermutation l (old ++ map (new_unit source) new)) (sym parts)
+    (IsPermutation-trans (nodes (grown source new g) ++ tops) (old ++ units_below source places new) (old ++ map (new_unit source) new)
+    (subst (λ l. IsPermutation (nodes (grown source new g) ++ tops) (old ++ l)) (sym low) sided)
+    (IsPermutation-append_right old (units_below source places new) (map (new_unit source) new)
+    (IsPermutation-map (new_unit source) (below_all places new) new
+    (subst (IsPermutation (below_all places new)) (every_row f source n news) (below_reached n places new (all_places (nodes f) d) (tt, before_places n (nodes f) b) (numbered_are f source n [] news))))))
+  where
+    new : List New
+    new = numbered_from f source n [] news
+
     g : Forest Unit
     g = each (revised source rows) f
 
@@ -261,3 +322,10 @@ merged_nodes source rows n new f d b a =
     sided =
         IsPermutation-trans (nodes (grown source new g) ++ tops) ((old ++ lower) ++ tops) (old ++ (tops ++ lower)) (IsPermutation-append_left tops (nodes (grown source new g)) (old ++ lower) grew)
         (subst (λ l. IsPermutation l (old ++ (tops ++ lower))) (sym (append_assoc old lower tops)) (IsPermutation-append_right old (lower ++ tops) (tops ++ lower) (IsPermutation-append_comm lower tops)))
+
+-- a unit that was there is there
+pub still_there : (source : Bytes) (rows : List Row) (new : List New) (f : Forest Unit) (u : ℕ) → has_unit f u ≡ true → has_unit (merged_forest source rows new f) u ≡ true
+still_there source rows new f u h =
+    has-join (has_id u) (grown source new (each (revised source rows) f)) (new_units source None new)
+    ∙ or_left (has (has_id u) (grown source new (each (revised source rows) f))) (has (has_id u) (new_units source None new))
+    (grown_keeps source new (has_id u) (each (revised source rows) f) (each_units (revised source rows) f u (revised_id source rows) ∙ h))

@@ -17,7 +17,7 @@ ghost use Rattle.catalogue_store.specs.Schema.{Version};
 ghost use Rattle.office.specs.Judged.{HasNoCatalogueCause, HasNoCause, SaysTheCatalogue};
 ghost use Rattle.office.specs.Reading.{LinkRows, Rows, SaysAllButUnits, SpanRows, places_said, state_of, tables};
 ghost use Rattle.office.specs.Soundness.{AreGoodDays, AreGoodSettings, IsSound, NamesDays};
-ghost use Rattle.office.specs.Imported.{ImportsKeepTheCatalogue};
+ghost use Rattle.office.specs.Imported.{ImportsBringTheNew, ImportsKeepTheCatalogue};
 ghost use Rattle.office.specs.Secrecy.{SamePublic, AnswersAlike, ShowsOnlyPublished};
 ghost use Rattle.office.specs.Laws.{OutApart, GoesOn, IssuesTheFirst, OpenToHolders, ImportsAgain, Kind, all_given, ComesNew};
 
@@ -133,6 +133,11 @@ pub fn starts_sound()
 /// An import leaves the units, the containers and the permits of a sound state sound, whatever the file says.
 pub fn imports_keep_the_catalogue()
     ensures { (s : State) → IsSound s → ImportsKeepTheCatalogue s }
+{}
+
+/// An accepted import takes no unit away and brings as many as its reply counts as new.
+pub fn imports_bring_the_new()
+    ensures { (s : State) → IsSound s → ImportsBringTheNew s }
 {}
 
 /// A sound office stays sound, whole, over every list of commands that name days.
