@@ -3,6 +3,7 @@ pub mod Sorted
 pub mod Tests
 pub mod Rows
 pub mod Queries
+pub mod Limits
 pub mod Counts
 pub mod Joins
 pub mod Steps
@@ -12,6 +13,7 @@ pub mod Cascades
 pub mod Errors
 pub mod Failures
 pub mod Refusals
+pub mod Causes
 pub mod Reading
 pub mod Calls
 pub mod Touching
@@ -26,5 +28,13 @@ pub mod Inserts
 pub mod Selects
 pub mod Changes
 pub mod LinkChanges
+pub mod UnitReads
+pub mod OfficeChanges
+pub mod BoxNumbers
+pub mod Numbered
 pub mod Creations
+pub mod ReadCauses
 pub mod Transactions
+pub mod PlaceReads
+pub mod Climbing
+pub mod MarkReads

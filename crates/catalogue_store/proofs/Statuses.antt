@@ -32,7 +32,7 @@ any_map : {A B : Type 0} (g : A → B) (p : B → Bool) (q : A → Bool) → ((x
 any_map g p q same [] = refl
 any_map g p q same (x ∷ xs) = ap₂ ◌||◌ (same x) (any_map g p q same xs)
 
-all_map : {A B : Type 0} (g : A → B) (P : B → Type 0) (Q : A → Type 0) → ((x : A) → Q x → P (g x)) → (xs : List A) → AllByRecursion Q xs → AllByRecursion P (map g xs)
+pub all_map : {A B : Type 0} (g : A → B) (P : B → Type 0) (Q : A → Type 0) → ((x : A) → Q x → P (g x)) → (xs : List A) → AllByRecursion Q xs → AllByRecursion P (map g xs)
 all_map g P Q f [] h = tt
 all_map g P Q f (x ∷ xs) h = (f x h.0, all_map g P Q f xs h.1)
 

@@ -45,3 +45,10 @@ each_again old mid new a (n ∷ ns) p q = (λ h. q.0 h ∙ p.0 h, each_again old
 
 pub touched_again : (a : List ℕ) (old mid new : Database) → OnlyTouches a old mid → OnlyTouches a mid new → OnlyTouches a old new
 touched_again a old mid new p q = each_again old.trees mid.trees new.trees a table_trees p q
+
+each_same : (db : Trees) (a ns : List ℕ) → AllByRecursion (λ n. list_any (nat_eq n) a ≡ false → db n ≡ db n) ns
+each_same db a [] = tt
+each_same db a (n ∷ ns) = (λ h. refl, each_same db a ns)
+
+pub nothing_touched : (a : List ℕ) (db : Database) → OnlyTouches a db db
+nothing_touched a db = each_same db.trees a table_trees

@@ -21,5 +21,11 @@ pub mod Secrecy
 pub mod Soundness
 pub mod Tables
 pub mod Reading
+pub mod DeskCauses
+pub mod DeskCausesRows
 pub mod ReadingRows
 pub mod Imported
+pub mod Judging
+pub mod CatalogueCauses
+pub mod Causes
+pub mod Judged
