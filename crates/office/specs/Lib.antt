@@ -25,9 +25,9 @@ pub mod DeskCauses
 pub mod DeskCausesRows
 pub mod DeskJudged
 pub mod ReadingRows
+pub mod Imported
 pub mod Judging
 pub mod CatalogueCauses
 pub mod CatalogueCausesRows
 pub mod Causes
 pub mod Judged
-pub mod Imported
