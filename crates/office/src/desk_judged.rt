@@ -1,7 +1,7 @@
 //! What the causes 6 to 10 say of rows of doubtful origin. Each function does nothing: its contract is the law.
 
-ghost use Rattle.office.specs.DeskCausesRows as row;
 ghost use Rattle.catalogue_store.specs.Schema.{Version};
+ghost use Rattle.office.specs.DeskCausesRows as row;
 ghost use Rattle.office.specs.DeskJudged.{PassingRowsAreSound, SoundTablesPass};
 ghost use Rattle.office.specs.Reading.{Rows};
 ghost use Rattle.office.specs.State.{State};
