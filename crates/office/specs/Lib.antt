@@ -29,3 +29,4 @@ pub mod CatalogueCauses
 pub mod CatalogueCausesRows
 pub mod Causes
 pub mod Judged
+pub mod Imported
