@@ -10,6 +10,7 @@ use Rattle.std.proofs.lemmas.List.Sorted.{IsPermutation-refl, IsPermutation-tran
 use Rattle.isad_core.specs.Texts.{Bytes}
 use Rattle.atom_csv.specs.declared.file.Row.{Row}
 use Rattle.tree_core.specs.Forest.{Forest, Empty, Node, nodes, has, each, join}
+use Rattle.tree_core.proofs.EachLemmas.{nodes-each}
 use Rattle.catalogue_store.specs.Units.{Unit, has_id, is_from}
 use Rattle.catalogue_store.specs.Merging.{New, branches, number_of, numbered_from, has_legacy, new_unit, new_units, revised, grown, merged_forest}
 use Rattle.office.proofs.EachOf.{all_and, all_true, all_of_found}

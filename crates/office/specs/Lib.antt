@@ -26,7 +26,6 @@ pub mod DeskCausesRows
 pub mod DeskJudged
 pub mod ReadingRows
 pub mod Imported
-pub mod Judging
 pub mod CatalogueCauses
 pub mod CatalogueCausesRows
 pub mod Causes
