@@ -30,3 +30,4 @@ pub mod CatalogueCauses
 pub mod CatalogueCausesRows
 pub mod Causes
 pub mod Judged
+pub mod Imported

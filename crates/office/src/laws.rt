@@ -16,7 +16,8 @@ ghost use Rattle.tree_core.specs.declared.rows.Link.{Link};
 ghost use Rattle.catalogue_store.specs.Schema.{Version};
 ghost use Rattle.office.specs.Judged.{HasNoCatalogueCause, HasNoCause, SaysTheCatalogue};
 ghost use Rattle.office.specs.Reading.{LinkRows, Rows, SaysAllButUnits, SpanRows, places_said, state_of, tables};
-ghost use Rattle.office.specs.Soundness.{AreGoodDays, AreGoodSettings, ImportsNothing, IsSound, NamesDays};
+ghost use Rattle.office.specs.Soundness.{AreGoodDays, AreGoodSettings, IsSound, NamesDays};
+ghost use Rattle.office.specs.Imported.{ImportsKeepTheCatalogue};
 ghost use Rattle.office.specs.Secrecy.{SamePublic, AnswersAlike, ShowsOnlyPublished};
 ghost use Rattle.office.specs.Laws.{OutApart, GoesOn, IssuesTheFirst, OpenToHolders, ImportsAgain, Kind, all_given, ComesNew};
 
@@ -129,7 +130,12 @@ pub fn starts_sound()
     ensures { (settings : Settings) (day : ℤ) → AreGoodSettings settings → IsDayNumber day → IsSound (start settings day) }
 {}
 
-/// A sound office stays sound, whole, over every list of commands that name days and of which none is an import.
-pub fn stays_sound_without_imports()
-    ensures { (s : State) (commands : List Command) → AllByRecursion (λ asked. NamesDays asked × ImportsNothing asked) commands → IsSound s → IsSound (state_after s commands) }
+/// An import leaves the units, the containers and the permits of a sound state sound, whatever the file says.
+pub fn imports_keep_the_catalogue()
+    ensures { (s : State) → IsSound s → ImportsKeepTheCatalogue s }
+{}
+
+/// A sound office stays sound, whole, over every list of commands that name days.
+pub fn stays_sound()
+    ensures { (s : State) (commands : List Command) → AllByRecursion NamesDays commands → IsSound s → IsSound (state_after s commands) }
 {}
