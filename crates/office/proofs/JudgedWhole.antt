@@ -13,8 +13,7 @@ use Rattle.office.specs.Reading.{UnitRow, unit_row, ContainerRow, Rows, tables, 
 use Rattle.office.specs.CatalogueCauses.{catalogue_tests, IsCatalogueOf}
 use Rattle.office.specs.DeskCauses.{are_numbered_from, readers_are_bad, orders_are_bad, holdings_are_bad, runs_are_bad, day_is_broken}
 use Rattle.office.specs.DeskJudged.{HasNoDeskCause, HasGoodCatalogue, SoundTablesPass, PassingRowsAreSound}
-use Rattle.office.specs.Causes.{desk_tests}
-use Rattle.office.specs.Judging.{first_held}
+use Rattle.office.specs.Causes.{first_held, desk_tests}
 use Rattle.office.specs.Judged.{IsSoundCatalogue, SaysASoundState, HasNoCause}
 use Rattle.office.proofs.Judging.{none_held, hold_none, none_before, none_behind, none_in_both}
 use Rattle.office.proofs.RowsByNumber.{in_map}

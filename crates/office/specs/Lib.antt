@@ -25,7 +25,6 @@ pub mod DeskCauses
 pub mod DeskCausesRows
 pub mod DeskJudged
 pub mod ReadingRows
-pub mod Judging
 pub mod CatalogueCauses
 pub mod CatalogueCausesRows
 pub mod Causes

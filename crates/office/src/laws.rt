@@ -14,7 +14,7 @@ ghost use Rattle.tree_core.specs.Spans.{number};
 ghost use Rattle.tree_core.specs.Links.{HoldsLinks};
 ghost use Rattle.tree_core.specs.declared.rows.Link.{Link};
 ghost use Rattle.catalogue_store.specs.Schema.{Version};
-ghost use Rattle.office.specs.Judged.{HasNoCatalogueCause, HasNoCause, SaysTheCatalogue};
+ghost use Rattle.office.specs.Judged.{HasNoCatalogueCause, HasNoCause, SaysASoundState, SaysTheCatalogue};
 ghost use Rattle.office.specs.Reading.{LinkRows, Rows, SaysAllButUnits, SpanRows, places_said, state_of, tables};
 ghost use Rattle.office.specs.Soundness.{AreGoodDays, AreGoodSettings, IsSound, NamesDays};
 ghost use Rattle.office.specs.Imported.{ImportsKeepTheCatalogue};
@@ -123,6 +123,11 @@ pub fn catalogue_has_no_cause()
 /// The rows of a sound state have their keys, and none of the causes 1 to 10.
 pub fn tables_have_no_cause()
     ensures { (version : Version) (s : State) → HasNoCause version s }
+{}
+
+/// Rows with their keys and without a cause say a sound state, and are the rows of that state.
+pub fn rows_without_a_cause()
+    ensures { (version : Version) (t : Rows) → SaysASoundState version t }
 {}
 
 /// A new office is sound, whole, where its settings and its day are good.
