@@ -1,7 +1,7 @@
 -- Lists in which nothing stands twice.
 use Rattle.std.proofs.Common.{◌≡◌, Bool, false, List, [], ◌∷◌, ◌++◌, map}
 use Rattle.std.specs.List.{AllByRecursion, IsDistinct}
-use Rattle.office.proofs.EachOf.{all_append}
+use Rattle.office.proofs.EachOf.{all_append, all_split}
 
 pub all_mapped : {X Y : Type 0} (P : Y → Type 0) (g : X → Y) (xs : List X) → AllByRecursion (λ x. P (g x)) xs → AllByRecursion P (map g xs)
 all_mapped P g [] h = tt
@@ -26,3 +26,20 @@ pub distinct_beside : {X : Type 0} (e : X → X → Bool) (xs ys : List X) → I
 unfolding IsDistinct
 distinct_beside e [] ys d h k = h
 distinct_beside e (x ∷ xs) ys d h k = (all_append (λ y. e x y ≡ false) xs ys d.0 k.0, distinct_beside e xs ys d.1 h k.1)
+
+pub all_unmapped : {X Y : Type 0} (P : Y → Type 0) (g : X → Y) (xs : List X) → AllByRecursion P (map g xs) → AllByRecursion (λ x. P (g x)) xs
+all_unmapped P g [] h = tt
+all_unmapped P g (x ∷ xs) h = (h.0, all_unmapped P g xs h.1)
+
+pub distinct_unmapped : {X Y : Type 0} (e : Y → Y → Bool) (g : X → Y) (xs : List X) → IsDistinct e (map g xs) → IsDistinct (λ x y. e (g x) (g y)) xs
+unfolding IsDistinct
+distinct_unmapped e g [] h = tt
+distinct_unmapped e g (x ∷ xs) h = (all_unmapped (λ y. e (g x) y ≡ false) g xs h.0, distinct_unmapped e g xs h.1)
+
+pub distinct_parts : {X : Type 0} (e : X → X → Bool) (xs ys : List X) → IsDistinct e (xs ++ ys) → IsDistinct e xs × IsDistinct e ys × AllByRecursion (λ x. AllByRecursion (λ y. e x y ≡ false) ys) xs
+unfolding IsDistinct
+distinct_parts e [] ys d = (tt, d, tt)
+distinct_parts e (x ∷ xs) ys d =
+    let r = distinct_parts e xs ys d.1 in
+    let s = all_split (λ y. e x y ≡ false) xs ys d.0 in
+    ((s.0, r.0), r.1, (s.1, r.2))

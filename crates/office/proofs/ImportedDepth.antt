@@ -1,15 +1,16 @@
 -- After an import no unit lies deeper than one may.
 use Rattle.std.proofs.Common.{◌≡◌, ℕ, suc, ◌+◌, ◌-◌, ◌<◌, ◌≤◌, Bool, true, false, cond, List, [], ◌∷◌, ◌++◌, length, Option, Some, None, refl, sym, ap, ◌∙◌, arith}
-use Rattle.std.specs.Prelude.{nat_eq, nat_lt, max, find, option_map, option_and_then}
+use Rattle.std.specs.Prelude.{nat_eq, nat_lt, find, option_map, option_and_then}
 use Rattle.std.specs.List.{AllByRecursion}
 use Rattle.std.specs.Option.{option_eq, option_to_list}
 use Rattle.std.proofs.lemmas.Bool.{eq-eqb, ne_eqb, ltb-false}
 use Rattle.isad_core.specs.Texts.{Bytes}
 use Rattle.atom_csv.specs.declared.file.Row.{Row}
-use Rattle.tree_core.specs.Forest.{Forest, Empty, Node, nodes, has, path, each, join}
+use Rattle.tree_core.specs.Forest.{Forest, Empty, Node, nodes, has, path, each}
 use Rattle.catalogue_store.specs.Units.{Unit, has_id, is_from}
 use Rattle.catalogue_store.specs.Merging.{New, number_of, numbered_from, branches, new_unit, new_units, revised, grown, merged_forest, has_legacy, depth_under, cause_at, faults_below}
 use Rattle.office.specs.Rules.{height, most_deep}
+use Rattle.office.proofs.Heights.{height-join}
 use Rattle.office.proofs.EachOf.{all_true, all_split, all_of_found, none_found, some_found}
 use Rattle.office.proofs.Rooted.{revised_id}
 use Rattle.office.proofs.MergedNodes.{IsBefore, same_place}
@@ -157,10 +158,6 @@ module _ (f : Forest Unit) (source : Bytes) (low : ℕ) (own : HaveOwnNumbers (n
           split false g = y
 
   -- ---- the catalogued units
-
-  height-join : (g h : Forest Unit) → height (join g h) ≡ max (height g) (height h)
-  height-join Empty h = omega arith
-  height-join (Node a c o) h = (let e = height-join o h in omega (arith, e))
 
   below_known : (rows : List Row) (news : List Row) (d : ℕ) (g : Forest Unit) → faults_below f source [] news ≡ [] → LieDeep (depth_of f) d g → AllByRecursion (λ (u : Unit). u.id < low) (nodes g) → d + height g ≤ most_deep → d ≤ most_deep
       → d + height (grown source (numbered_from f source low [] news) (each (revised source rows) g)) ≤ most_deep

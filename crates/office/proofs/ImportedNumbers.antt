@@ -84,7 +84,7 @@ bytes_flip a b =
       | inr f ↦ f ∙ sym (other_way a b f)
     ]
 
-same_flip : (a b : Unit) → is_same_unit a b ≡ is_same_unit b a
+pub same_flip : (a b : Unit) → is_same_unit a b ≡ is_same_unit b a
 same_flip a b = ap (λ t. t && bytes_eq b.legacy a.legacy) (bytes_flip b.source a.source) ∙ ap (λ t. bytes_eq a.source b.source && t) (bytes_flip b.legacy a.legacy)
 
 same_revised : (source : Bytes) (rows : List Row) (a b : Unit) → is_same_unit (revised source rows a) (revised source rows b) ≡ is_same_unit a b

@@ -10,6 +10,7 @@ use Rattle.std.proofs.lemmas.List.Sorted.{IsPermutation-refl, IsPermutation-tran
 use Rattle.isad_core.specs.Texts.{Bytes}
 use Rattle.atom_csv.specs.declared.file.Row.{Row}
 use Rattle.tree_core.specs.Forest.{Forest, Empty, Node, nodes, has, each, join}
+use Rattle.tree_core.proofs.EachLemmas.{nodes-each}
 use Rattle.catalogue_store.specs.Units.{Unit, has_id, is_from}
 use Rattle.catalogue_store.specs.Merging.{New, branches, number_of, numbered_from, has_legacy, new_unit, new_units, revised, grown, merged_forest}
 use Rattle.office.proofs.EachOf.{all_and, all_true, all_of_found}
@@ -157,11 +158,6 @@ shuffled c n b o m =
 flat-append : {X A : Type 0} (f : X → List A) (xs ys : List X) → flat_map f (xs ++ ys) ≡ flat_map f xs ++ flat_map f ys
 flat-append f [] ys = refl
 flat-append f (x ∷ xs) ys = ap (λ l. f x ++ l) (flat-append f xs ys) ∙ sym (append_assoc (f x) (flat_map f xs) (flat_map f ys))
-
-pub nodes-each : {A B : Type 0} (g : A → B) (f : Forest A) → nodes (each g f) ≡ map g (nodes f)
-nodes-each g Empty = refl
-nodes-each g (Node a c o) =
-    ap (λ l. g a ∷ l) (ap (λ l. l ++ nodes (each g o)) (nodes-each g c) ∙ (ap (λ l. map g (nodes c) ++ l) (nodes-each g o) ∙ sym (map-append g (nodes c) (nodes o))))
 
 -- the units for the rows below these places
 abbrev units_below : Bytes → List (Option ℕ) → List New → List Unit

@@ -4,7 +4,6 @@ use Rattle.std.specs.Prelude.{nat_eq, nat_lt, map, filter, filter_map, find, opt
 use Rattle.std.proofs.Math.Path.{fun_ext}
 use Rattle.std.specs.Str.{bytes_eq}
 use Rattle.std.proofs.lemmas.Slice.Eq.{bytes_eq-Decides}
-use Rattle.std.proofs.lemmas.List.{map-append}
 use Rattle.std.proofs.lemmas.List.Sorted.{IsPermutation-refl}
 use Rattle.std.specs.List.{list_all, flat_map, list_any, AllByRecursion, IsDistinct, cons_option}
 use Rattle.std.proofs.lemmas.Bool.{cases_Bool, cases_lt, lt-ltb, le-ltb, false≢true, or_cases, and_parts}
@@ -12,6 +11,7 @@ use Rattle.std.proofs.lemmas.List.Concat.{flat_map-cons}
 use Rattle.isad_core.specs.Texts.{Bytes}
 use Rattle.isad_core.specs.declared.values.BoxKey.{BoxKey}
 use Rattle.atom_csv.specs.Values.{is_same as is_same_box}
+use Rattle.tree_core.proofs.EachLemmas.{nodes-each}
 use Rattle.catalogue_store.specs.Units.{Unit}
 use Rattle.catalogue_store.specs.Merging.{box_number, number_in}
 use Rattle.tree_core.specs.Forest.{Forest, Empty, Node, nodes, each}
@@ -261,12 +261,8 @@ each_same g (Node u c o) h =
     let r = split (λ u. g u ≡ u) (nodes c) (nodes o) h.1 in
     ap (λ v. Node v (each g c) (each g o)) h.0 ∙ (ap (λ k. Node u k (each g o)) (each_same g c r.0) ∙ ap (λ k. Node u c k) (each_same g o r.1))
 
-nodes-each : (f : Forest Unit) → nodes (each number_of f) ≡ map number_of (nodes f)
-nodes-each Empty = refl
-nodes-each (Node u c o) = ap (λ l. u.id ∷ l) (ap (λ l. l ++ nodes (each number_of o)) (nodes-each c) ∙ (ap (λ l. map number_of (nodes c) ++ l) (nodes-each o) ∙ sym (map-append number_of (nodes c) (nodes o))))
-
 places_back : (version : Version) (f : Forest Unit) → IsDistinct nat_eq (map number_of (nodes f)) → places_said (place_rows version (each number_of f)) ≡ each number_of f
-places_back Links f d = links_say (each number_of f) (siblings (each number_of f)) (record { distinct = subst (IsDistinct nat_eq) (sym (nodes-each f)) d; rows = IsPermutation-refl (siblings (each number_of f)) })
+places_back Links f d = links_say (each number_of f) (siblings (each number_of f)) (record { distinct = subst (IsDistinct nat_eq) (sym (nodes-each number_of f)) d; rows = IsPermutation-refl (siblings (each number_of f)) })
 places_back Spans f d = spans_say (each number_of f)
 
 pub units_back : (version : Version) (s : State) → IsDistinct nat_eq (map number_of (nodes s.forest)) → AllByRecursion (IsGoodUnit s.boxes) (nodes s.forest) → SaysUnits version s
