@@ -32,5 +32,7 @@ pub mod Without
 pub mod LastRows
 pub mod LinkMoves
 pub mod Moves
+pub mod UnitDeletes
+pub mod Removals
 pub mod Creations
 pub mod Transactions

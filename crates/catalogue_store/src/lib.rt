@@ -22,7 +22,7 @@ pub use closing::{set_closure, set_status};
 pub use fault::StoreFault;
 pub use links::LinkPlaces;
 pub use making::{create_index, create_table};
-pub use moving::move_unit;
+pub use moving::{move_unit, remove_branch};
 pub use office::{Office, OfficeRow, office_row};
 pub use places::Places;
 pub use transaction::{begin, commit, roll_back};
