@@ -83,6 +83,32 @@ module _ (schema : Schema) (keys : Keys) where
           settled zero last h = let e = h.1 in cc
           settled (suc n) last h = absurd (omega (arith, ap length h.2, length-append h.0 (h.1 ∷ [])))
 
+  last_of_three : (a b c w : Work) (below : List Work) → a ∷ b ∷ c ∷ [] ≡ below ++ w ∷ [] → (below ≡ a ∷ b ∷ []) × (w ≡ c)
+  last_of_three a b c w [] e = absurd (omega (arith, ap length e))
+  last_of_three a b c w (x ∷ []) e = absurd (omega (arith, ap length e))
+  last_of_three a b c w (x ∷ y ∷ []) e = (cc, cc)
+  last_of_three a b c w (x ∷ y ∷ z ∷ zs) e = absurd (omega (arith, ap length e, length-append zs (w ∷ [])))
+
+  pub three_works : (db final : Trees) (a b c : Work) → is_referred_to schema a.child.tree ≡ false → is_referred_to schema b.child.tree ≡ false → is_referred_to schema c.child.tree ≡ false
+      → Settles schema keys db (record a { deed = Delete; depth = 0 } ∷ record b { deed = Delete; depth = 0 } ∷ record c { deed = Delete; depth = 0 } ∷ []) (Ok final)
+      → (first : Trees) × (second : Trees) × IsCascade schema keys (record c { deed = Delete; depth = 0 }) db first × IsCascade schema keys (record b { deed = Delete; depth = 0 }) first second
+      × IsCascade schema keys (record a { deed = Delete; depth = 0 }) second final
+  three_works db final a b c alone_a alone_b alone_c (zero, h) = absurd (let e = h.0 in omega (arith, ap length e))
+  three_works db final a b c alone_a alone_b alone_c (suc n, h) =
+      let A = record a { deed = Delete; depth = 0 } in
+      let B = record b { deed = Delete; depth = 0 } in
+      let C = record c { deed = Delete; depth = 0 } in
+      let ends = last_of_three A B C h.1 h.0 h.2 in
+      let acts = subst₂ (λ ws w. Acts schema keys (Leads schema keys n) db w ws (Ok final)) ends.0 ends.1 h.3 in
+      let one = one_work n db final c (A ∷ B ∷ []) alone_c acts in
+      let rest = two_works one.0 final a b alone_a alone_b (n, one.2) in
+      (one.0, rest.0, one.1, rest.1, rest.2)
+
+  -- a cascade leaves the other tables as they were
+  pub cascade_apart : (w : Work) (old new : Trees) → IsCascade schema keys w old new → AllByRecursion (λ t. t.tree ≢ w.child.tree → new t.tree ≡ old t.tree) schema.tables
+  cascade_apart w old new (no_child are same) = all_of (λ t. t.tree ≢ w.child.tree → new t.tree ≡ old t.tree) (λ t _. ap (λ (d : Trees). d t.tree) same) schema.tables
+  cascade_apart w old new (children id ids are applies) = applies.tables
+
 -- the children of a table of typed records, which are those that pass a test
 module _ (schema : Schema) (keys : Keys) (bare : Work) {A : Type 0} (row : A → Row) (key : A → ℤ) (keyed : (x : A) → rowid (row x) ≡ Int (key x)) (old new : Trees) (xs : List A)
     (stored : old bare.child.tree ≡ map row xs) (up : Rises (by_key row key keyed) xs) (is_child : A → Bool)

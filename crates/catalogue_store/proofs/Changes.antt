@@ -39,12 +39,12 @@ unfolding joined same_name
 office_alone Links = refl
 office_alone Spans = refl
 
-element_alone : (v : Version) → is_referred_to (schema v) 16 ≡ false
+pub element_alone : (v : Version) → is_referred_to (schema v) 16 ≡ false
 unfolding joined same_name
 element_alone Links = refl
 element_alone Spans = refl
 
-housing_alone : (v : Version) → is_referred_to (schema v) 20 ≡ false
+pub housing_alone : (v : Version) → is_referred_to (schema v) 20 ≡ false
 unfolding joined same_name
 housing_alone Links = refl
 housing_alone Spans = refl

@@ -44,6 +44,8 @@ pub mod LinkMoves
 pub mod NodeLemmas
 pub mod NewUnits
 pub mod Moves
+pub mod UnitDeletes
+pub mod Removals
 pub mod Creations
 pub mod ReadCauses
 pub mod Transactions

@@ -14,6 +14,7 @@ pub mod Put
 pub mod Counting
 pub mod Statuses
 pub mod Moves
+pub mod Removals
 pub mod Adding
 pub mod Describing
 pub mod Creation

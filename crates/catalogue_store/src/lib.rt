@@ -30,6 +30,7 @@ pub use links::LinkPlaces;
 pub use making::{create_index, create_table};
 pub use moving::move_unit;
 pub use marking::{Attached, branch_marks, contents_marks, path_marks};
+pub use moving::{move_unit, remove_branch};
 pub use office::{Office, OfficeRow, office_row};
 pub use places::Places;
 pub use transaction::{begin, commit, roll_back};

@@ -1,0 +1,30 @@
+use Rattle.std.proofs.Common.{rules, refl}
+use Rattle.sqlite.specs.Held.{state}
+use Rattle.sqlite.specs.State.{HasCleanDisk}
+use Rattle.catalogue_store.specs.Step.{IsCut}
+use Rattle.catalogue_store.proofs.Calls.{early, in_office, write_cut, write_went}
+use Rattle.catalogue_store.proofs.UnitDeletes.{remove_unit_text, remove_unit_command, remove_unit_is, remove_unit_plain, remove_unit_went, remove_unit_removes, the_one}
+use Rattle.catalogue_store.proofs.units.remove_unit.Goals as goal
+
+pub returns-in_err-execute-clause-cut : goal.returns-in_err-execute-clause-cut
+returns-in_err-execute-clause-cut g c =
+    let old = state g.S.Store c.args.conn.now in
+    let new = state g.S.Store c.execute.new.self in
+    let cut : IsCut old new = write_cut remove_unit_text _ old new remove_unit_command refl (in_office remove_unit_text remove_unit_command old c.requires.inside remove_unit_is remove_unit_plain) c.in_err-execute.field-0.0 c.in_err-execute.ensures.runs c.execute.ensures.survives in
+    search (rules, cut)
+
+pub returns-clause-goes : goal.returns-clause-goes
+returns-clause-goes g c =
+    let old = state g.S.Store c.args.conn.now in
+    let new = state g.S.Store c.execute.new.self in
+    let ran = λ (clean : HasCleanDisk new). rw c.number.ensures at (c.in_ok-execute.ensures.runs clean) in
+    write_went remove_unit_text _ old new remove_unit_command refl (in_office remove_unit_text remove_unit_command old c.requires.inside remove_unit_is remove_unit_plain)
+    (λ clean. let at = c.requires.inside (early old new _ c.execute.ensures.survives clean) in let done = remove_unit_went old new c.args.id c.in_ok-execute.field-0 at.0 at.1 (ran clean) in (at.0, at.1, done.0, done.1)) c.execute.ensures.survives
+
+pub returns-clause-removes : goal.returns-clause-removes
+returns-clause-removes g c clean xs stored up there =
+    let old = state g.S.Store c.args.conn.now in
+    let new = state g.S.Store c.execute.new.self in
+    let at = c.requires.inside (early old new _ c.execute.ensures.survives clean) in
+    let one = the_one c.args.id xs up there in
+    remove_unit_removes old new c.args.id xs one.0 c.in_ok-execute.field-0 at.0 at.1 stored up one.1 one.2 (rw c.number.ensures at (c.in_ok-execute.ensures.runs clean))
