@@ -1,4 +1,4 @@
-pub mod Values
+pub mod Casts
 pub mod Sorted
 pub mod Tests
 pub mod Rows
@@ -38,4 +38,8 @@ pub mod Telling
 pub mod Valued
 pub mod NodeLemmas
 pub mod NewUnits
+pub mod CellReads
+pub mod TextReads
+pub mod BoxReads
+pub mod FoundUnits
 pub mod Creations

@@ -13,13 +13,15 @@ mod links;
 mod making;
 mod office;
 mod places;
+mod unit_values;
 mod units;
 mod value;
 
 pub use catalogue::{create, known};
 pub use closing::{set_closure, set_status};
-pub use describing::{UnitValues, add_unit, replace_values};
+pub use describing::{add_unit, replace_values};
 pub use fault::StoreFault;
 pub use links::LinkPlaces;
 pub use office::{Office, OfficeRow, office_row};
+pub use unit_values::{UnitValues, values};
 pub use units::NewUnit;
