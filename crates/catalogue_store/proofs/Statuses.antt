@@ -36,7 +36,7 @@ pub all_map : {A B : Type 0} (g : A → B) (P : B → Type 0) (Q : A → Type 0)
 all_map g P Q f [] h = tt
 all_map g P Q f (x ∷ xs) h = (f x h.0, all_map g P Q f xs h.1)
 
-all_same : {A : Type 0} (P Q : A → Type 0) → ((x : A) → P x → Q x) → (xs : List A) → AllByRecursion P xs → AllByRecursion Q xs
+pub all_same : {A : Type 0} (P Q : A → Type 0) → ((x : A) → P x → Q x) → (xs : List A) → AllByRecursion P xs → AllByRecursion Q xs
 all_same P Q f [] h = tt
 all_same P Q f (x ∷ xs) h = (f x h.0, all_same P Q f xs h.1)
 
@@ -96,7 +96,7 @@ pub kept_by : {A B : Type 0} (view : A → B) (b : Bool) (x y : A) → view x �
 kept_by view true x y same = same
 kept_by view false x y same = refl
 
-any_more : (p : ℕ → Bool) (xs : List ℕ) (x : ℕ) → list_any p (xs ++ x ∷ []) ≡ (list_any p xs || p x)
+pub any_more : (p : ℕ → Bool) (xs : List ℕ) (x : ℕ) → list_any p (xs ++ x ∷ []) ≡ (list_any p xs || p x)
 any_more p [] x = or_none (p x)
   where
     or_none : (b : Bool) → (b || false) ≡ b

@@ -5,6 +5,7 @@ use Rattle.std.specs.List.{list_any, AllByRecursion, cons_option}
 use Rattle.std.specs.Str.{bytes_eq, is_utf8}
 use Rattle.std.proofs.lemmas.Bool.{false≢true, or_parts}
 use Rattle.std.proofs.lemmas.List.Folds.{list_any-append}
+use Rattle.csv.specs.Reading.{default_config, records, strip_bom}
 use Rattle.isad_core.specs.Texts.{Bytes}
 use Rattle.atom_csv.specs.Fields.{Fields, is_blank, is_empty}
 use Rattle.atom_csv.specs.FileOf.{Line, lines_below, row_number, when, header_causes, legacy, culture, first_culture, stood_above, has_other_width, names_slug, is_late, is_long, causes, row_of, is_told_again, row_told, fault_of, faults, rows, translations, or_fault, under, of_records, records_of, file_of}
@@ -13,6 +14,8 @@ use Rattle.atom_csv.specs.declared.cause.Cause.{Cause}
 use Rattle.atom_csv.specs.declared.cause.Cause.TheVariants as cause
 use Rattle.atom_csv.specs.declared.file.File.{File}
 use Rattle.atom_csv.specs.declared.file.Row.{Row}
+use Rattle.office.proofs.EachOf.{none_found}
+use Rattle.office.proofs.TidyTexts.{IsTidy, tidy_records, IsGoodRow, good_row}
 
 -- no two rows have one legacyId
 abbrev pub AreApartRows : List Row → Type 0
@@ -25,24 +28,26 @@ pub record IsRead (file : File) : Type 0 where
   pub rest : List Fields
   pub no_fault : faults header rest ≡ []
   pub is : file ≡ record { rows = rows header rest; translations = translations header rest }
+  -- no field of them is blank where something is there
+  pub tidy : AllByRecursion (AllByRecursion IsTidy) rest
 
-read_at : (file : File) (header : Fields) (rest : List Fields) (fs : List (ℕ × ℕ)) → faults header rest ≡ fs → or_fault fs (record { rows = rows header rest; translations = translations header rest }) ≡ Ok file → IsRead file
-read_at file header rest [] f e = record { header = header; rest = rest; no_fault = f; is = (let same : record { rows = rows header rest; translations = translations header rest } ≡ file = cc in sym same) }
-read_at file header rest (fault ∷ fs) f e = absurd (cc)
+read_at : (file : File) (header : Fields) (rest : List Fields) (fs : List (ℕ × ℕ)) → AllByRecursion (AllByRecursion IsTidy) rest → faults header rest ≡ fs → or_fault fs (record { rows = rows header rest; translations = translations header rest }) ≡ Ok file → IsRead file
+read_at file header rest [] h f e = record { header = header; rest = rest; no_fault = f; is = (let same : record { rows = rows header rest; translations = translations header rest } ≡ file = cc in sym same); tidy = h }
+read_at file header rest (fault ∷ fs) h f e = absurd (cc)
 
-read_under : (file : File) (header : Fields) (cs : List Cause) (rest : List Fields) → under header cs rest ≡ Ok file → IsRead file
-read_under file header [] rest e = read_at file header rest (faults header rest) refl e
-read_under file header (c ∷ cs) rest e = absurd (cc)
+read_under : (file : File) (header : Fields) (cs : List Cause) (rest : List Fields) → AllByRecursion (AllByRecursion IsTidy) rest → under header cs rest ≡ Ok file → IsRead file
+read_under file header [] rest h e = read_at file header rest (faults header rest) h refl e
+read_under file header (c ∷ cs) rest h e = absurd (cc)
 
-read_records : (file : File) (records : List Fields) → of_records records ≡ Ok file → IsRead file
-read_records file [] e = absurd (cc)
-read_records file (header ∷ rest) e = read_under file header (header_causes header) rest e
+read_records : (file : File) (records : List Fields) → AllByRecursion (AllByRecursion IsTidy) records → of_records records ≡ Ok file → IsRead file
+read_records file [] h e = absurd (cc)
+read_records file (header ∷ rest) h e = read_under file header (header_causes header) rest h.1 e
 
 pub read_from : (bytes : Bytes) (file : File) → file_of bytes ≡ Ok file → IsRead file
 read_from bytes file e = at (is_utf8 bytes) e
   where
     at : (b : Bool) → cond b (of_records (records_of bytes)) (Err (0, number_of cause.NotUtf8)) ≡ Ok file → IsRead file
-    at true h = read_records file (records_of bytes) h
+    at true h = read_records file (records_of bytes) (tidy_records (records default_config (strip_bom bytes))) h
     at false h = absurd (cc)
 
 -- a line that tells a row, and has no cause
@@ -92,14 +97,6 @@ pub tells : (header : Fields) (line : Line) (row : Row) → fault_of header line
 tells header line row f e = tells_at header line row (is_blank line.fields) (is_told_again header line) e (no_lowest (causes header line) (row_number line) f)
 
 -- nobody above has its legacyId
-
-none_found : (p : Fields → Bool) (xs : List Fields) → find p xs ≡ None → list_any p xs ≡ false
-none_found p [] e = refl
-none_found p (x ∷ xs) e = at (p x) e (none_found p xs)
-  where
-    at : (b : Bool) → cond b (Some x) (find p xs) ≡ None → (find p xs ≡ None → list_any p xs ≡ false) → (b || list_any p xs) ≡ false
-    at true h k = absurd (cc)
-    at false h k = k h
 
 none_mapped : {X Y : Type 0} (g : X → Y) (x : Option X) → option_map g x ≡ None → x ≡ None
 none_mapped g None e = refl
@@ -177,3 +174,21 @@ pub apart_rows : (bytes : Bytes) (file : File) → file_of bytes ≡ Ok file →
 apart_rows bytes file e =
     let r = read_from bytes file e in
     subst (λ f. AreApartRows f.rows) (sym r.is) (apart_below r.header [] r.rest r.no_fault)
+
+-- each row is a good one
+good_below : (header : Fields) (above rest : List Fields) → AllByRecursion (AllByRecursion IsTidy) rest → filter_map (fault_of header) (lines_below above rest) ≡ [] → AllByRecursion IsGoodRow (filter_map (row_told header) (lines_below above rest))
+good_below header above [] h f = tt
+good_below header above (fields ∷ rest) h f =
+    let x = no_fault_cons header above fields rest f in
+    at (row_told header (line_at above fields)) refl x.0 (good_below header (above ++ fields ∷ []) rest h.1 x.1)
+  where
+    at : (r : Option Row) → row_told header (line_at above fields) ≡ r → fault_of header (line_at above fields) ≡ None → AllByRecursion IsGoodRow (filter_map (row_told header) (lines_below (above ++ fields ∷ []) rest)) → AllByRecursion IsGoodRow (cons_option r (filter_map (row_told header) (lines_below (above ++ fields ∷ []) rest)))
+    at None e g k = k
+    at (Some row) e g k =
+        let t = tells header (line_at above fields) row g e in
+        (subst IsGoodRow (sym t.is) (good_row header fields (row_number (line_at above fields)) h.0 t.told t.long), k)
+
+pub good_rows : (bytes : Bytes) (file : File) → file_of bytes ≡ Ok file → AllByRecursion IsGoodRow file.rows
+good_rows bytes file e =
+    let r = read_from bytes file e in
+    subst (λ f. AllByRecursion IsGoodRow f.rows) (sym r.is) (good_below r.header [] r.rest r.tidy r.no_fault)

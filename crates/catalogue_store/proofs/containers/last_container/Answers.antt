@@ -39,4 +39,4 @@ returns-clause-rows g c clean xs stored =
     let got = last_container_rows old new xs _ at.0 at.1 stored (c.in_ok-rows.ensures.ok clean) in
     let numbers = map (λ (c : ℕ × BoxKey). c.0) got.0 in
     IfOk-weaker c.read_all.result (λ all. all.items ≡ take 1 numbers) (λ all. (ys : List (ℕ × BoxKey)) × IsOrdered (λ a b. by_container b a) xs ys × (all.items ≡ take 1 (map (λ (c : ℕ × BoxKey). c.0) ys))) (λ all same. (got.0, (got.1, got.2), same))
-    (c.read_all.ensures (take 1 numbers) (c.deref.ensures.value ∙ got.3 ∙ ap (take 1) (sym (map-map _ (λ (c : ℕ × BoxKey). c.0) got.0)) ∙ take-map _ 1 numbers))
+    (c.read_all.ensures.value (take 1 numbers) (c.deref.ensures.value ∙ got.3 ∙ ap (take 1) (sym (map-map _ (λ (c : ℕ × BoxKey). c.0) got.0)) ∙ take-map _ 1 numbers))

@@ -38,4 +38,4 @@ returns-clause-rows g c clean xs stored =
     let at = λ (clean : HasCleanDisk new). c.requires.inside (early old new _ c.query_all.ensures.survives clean) in
     let got = level_rows old new c.args.id xs _ (at clean).0 (at clean).1 stored shown in
     IfOk-weaker c.read_all.result (λ all. all.items ≡ map (λ (u : Unit). u.values.level) got.0) (λ all. (ys : List Unit) × IsOrdered by_number (filter (λ (u : Unit). nat_eq c.args.id u.id) xs) ys × (all.items ≡ map (λ (u : Unit). u.values.level) ys)) (λ all same. (got.0, (got.1, got.2), same))
-    (c.read_all.ensures (map (λ (u : Unit). u.values.level) got.0) (c.deref.ensures.value ∙ got.3 ∙ sym (map-map _ (λ (u : Unit). u.values.level) got.0)))
+    (c.read_all.ensures.value (map (λ (u : Unit). u.values.level) got.0) (c.deref.ensures.value ∙ got.3 ∙ sym (map-map _ (λ (u : Unit). u.values.level) got.0)))
