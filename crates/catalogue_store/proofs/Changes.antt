@@ -26,7 +26,7 @@ use Rattle.catalogue_store.specs.Units.{Unit}
 use Rattle.catalogue_store.specs.Rows.{flag, unit_row, ElementRow, element_row, HousingRow, housing_row}
 use Rattle.catalogue_store.specs.Order.{Rises}
 use Rattle.catalogue_store.specs.Step.{OnlyTouches}
-use Rattle.catalogue_store.proofs.Values.{cast_int, cast_null, cast_maybe}
+use Rattle.catalogue_store.proofs.Casts.{cast_int, cast_null, cast_maybe}
 use Rattle.catalogue_store.proofs.Steps.{updated_with, Updated, deleted, Deleted, is_referred_to}
 use Rattle.catalogue_store.proofs.Touching.{touched}
 use Rattle.catalogue_store.proofs.Tests.{only, same_number}

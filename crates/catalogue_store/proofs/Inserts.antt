@@ -19,7 +19,7 @@ use Rattle.catalogue_store.specs.Units.{Unit}
 use Rattle.catalogue_store.specs.Rows.{flag, version_number, office_row, office_cells, unit_row, element_row, container_row, housing_row}
 use Rattle.catalogue_store.specs.Step.{OnlyTouches}
 use Rattle.catalogue_store.specs.declared.office.OfficeRow.{OfficeRow}
-use Rattle.catalogue_store.proofs.Values.{cast_int, cast_null}
+use Rattle.catalogue_store.proofs.Casts.{cast_int, cast_null}
 use Rattle.catalogue_store.proofs.Steps.{inserted, Inserted}
 use Rattle.catalogue_store.proofs.Touching.{touched}
 use Rattle.catalogue_store.proofs.Puts.{not_taken}

@@ -1,4 +1,4 @@
-pub mod Values
+pub mod Casts
 pub mod Sorted
 pub mod Tests
 pub mod Rows
@@ -43,6 +43,10 @@ pub mod Valued
 pub mod LinkMoves
 pub mod NodeLemmas
 pub mod NewUnits
+pub mod CellReads
+pub mod TextReads
+pub mod BoxReads
+pub mod FoundUnits
 pub mod Moves
 pub mod UnitDeletes
 pub mod Removals

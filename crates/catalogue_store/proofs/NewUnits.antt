@@ -43,7 +43,7 @@ pub any_in : {X : Type 0} (p : X → Bool) (xs ys : List X) → IsPermutation xs
 any_in p xs ys same h = let x = some_has p ys h in some_from p xs x.0 (had xs ys same x.0 x.1) x.2
 
 -- no two units have one number
-numbered_once : (db : Trees) (f : Forest Unit) → ShowsUnits db f → (n : ℕ) → has (has_id n) f ≡ true → length (filter (has_id n) (nodes f)) ≤ 1
+pub numbered_once : (db : Trees) (f : Forest Unit) → ShowsUnits db f → (n : ℕ) → has (has_id n) f ≡ true → length (filter (has_id n) (nodes f)) ≤ 1
 numbered_once db f at n there =
     let v = some_has (has_id n) (nodes f) there in
     let same : filter (has_id n) at.units ≡ filter (λ z. is_eq (by_number v.0 z)) at.units =

@@ -21,7 +21,7 @@ use Rattle.catalogue_store.specs.Schema.{Version, Links, Spans, schema, office}
 use Rattle.catalogue_store.specs.Rows.{version_number, office_row}
 use Rattle.catalogue_store.specs.Step.{OnlyTouches}
 use Rattle.catalogue_store.specs.declared.office.OfficeRow.{OfficeRow}
-use Rattle.catalogue_store.proofs.Values.{cast_int, cast_null}
+use Rattle.catalogue_store.proofs.Casts.{cast_int, cast_null}
 use Rattle.catalogue_store.proofs.Changes.{office_alone}
 use Rattle.catalogue_store.proofs.Steps.{updated, Updated}
 use Rattle.catalogue_store.proofs.Touching.{touched}

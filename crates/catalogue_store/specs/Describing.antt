@@ -7,7 +7,7 @@ use Rattle.tree_core.specs.Forest.{nodes, each, add}
 use Rattle.catalogue_store.specs.Units.{Unit, has_id}
 use Rattle.catalogue_store.specs.Merging.{Catalogue, box_number}
 use Rattle.catalogue_store.specs.Adding.{with_boxes}
-use Rattle.catalogue_store.specs.declared.describing.UnitValues.{UnitValues}
+use Rattle.catalogue_store.specs.declared.unit_values.UnitValues.{UnitValues}
 
 -- a new unit as the last below its parent, or as the last top; its containers are known from now on
 abbrev pub with_unit : Option ℕ → Unit → Catalogue → Catalogue

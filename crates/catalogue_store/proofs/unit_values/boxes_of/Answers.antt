@@ -1,0 +1,31 @@
+use Rattle.std.proofs.Common.{◌≡◌, ◌<◌, ℕ, List, [], ◌∷◌, ◌++◌, length, map, get_or, take, sym, ap, subst, ◌∙◌}
+use Rattle.std.proofs.lemmas.List.{get_or-map, length-map, take_more}
+use Rattle.sqlite.specs.Effect.{Database}
+use Rattle.sqlite.specs.Held.{state}
+use Rattle.isad_core.specs.declared.values.BoxKey.{BoxKey}
+use Rattle.catalogue_store.specs.Merging.{box_number}
+use Rattle.catalogue_store.specs.Shows.{ShowsContainers}
+use Rattle.catalogue_store.proofs.Calls.{early, looks_then}
+use Rattle.catalogue_store.proofs.unit_values.boxes_of.Goals as goal
+
+pub loop-number-preserved : goal.loop-number-preserved
+loop-number-preserved g c =
+    let a = state g.S.Store c.args.conn.now in
+    let b = state g.S.Store c.loop-number.conn in
+    let d = state g.S.Store c.container_of.new.conn in
+    let i = c.loop-number.number-index in
+    let key = c.in_ok-container_of.field-0 in
+    let invariant = c.loop-number.invariant in
+    let last = c.in_ok-container_of.ensures.looks in (
+      invariant.0,
+      (
+        looks_then a b d invariant.1.0 last,
+        λ clean boxes at bs is.
+            let before = early b d _ last.goes.on.crash clean in
+            let there : ShowsContainers b.now.trees boxes = ap (λ (db : Database). db.trees 18) (invariant.1.0.same before) ∙ at in
+            let low : i < length bs = subst (λ n. i < n) (ap length is ∙ length-map bs (box_number boxes)) c.loop-number-test.true in
+            let number : get_or c.args.numbers.now i 0 ≡ box_number boxes (get_or bs i key) = ap (λ (l : List ℕ). get_or l i 0) is ∙ get_or-map (box_number boxes) bs i key 0 low in
+            let same : key ≡ get_or bs i key = c.in_ok-container_of.ensures.answers clean boxes there (get_or bs i key) number in
+            c.in_ok-push.ensures.ok ∙ ap (λ (l : List BoxKey). l ++ key ∷ []) (invariant.1.1 before boxes at bs is) ∙ ap (λ (x : BoxKey). take i bs ++ x ∷ []) same ∙ sym (take_more bs i key low),
+      ),
+    )

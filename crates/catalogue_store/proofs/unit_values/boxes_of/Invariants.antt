@@ -1,0 +1,14 @@
+use Rattle.std.proofs.Common.{◌≡◌, List, map, take}
+use Rattle.sqlite.specs.Held.{state}
+use Rattle.sqlite.specs.State.{HasCleanDisk}
+use Rattle.isad_core.specs.declared.values.BoxKey.{BoxKey}
+use Rattle.catalogue_store.specs.Merging.{box_number}
+use Rattle.catalogue_store.specs.Shows.{ShowsContainers}
+use Rattle.catalogue_store.specs.Step.{InOffice, Looks}
+use Rattle.catalogue_store.proofs.unit_values.boxes_of.Given as goal
+
+abbrev pub invariant-loop-number : goal.invariant-loop-number
+invariant-loop-number g l =
+    InOffice (state g.S.Store l.initial.conn)
+    × (Looks (state g.S.Store l.initial.conn) (state g.S.Store l.conn)
+    × (HasCleanDisk (state g.S.Store l.conn) → (boxes : List BoxKey) → ShowsContainers (state g.S.Store l.initial.conn).now.trees boxes → (bs : List BoxKey) → l.numbers ≡ map (box_number boxes) bs → l.keys ≡ take l.number-index bs))

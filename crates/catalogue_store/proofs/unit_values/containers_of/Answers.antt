@@ -1,0 +1,18 @@
+use Rattle.std.proofs.Common.{◌≡◌, ℕ, List, map, ap, sym, ◌∙◌}
+use Rattle.sqlite_trees.proofs.ListLemmas.{map-map}
+use Rattle.catalogue_store.specs.Adding.{housing_cell}
+use Rattle.catalogue_store.specs.Rows.{HousingRow}
+use Rattle.catalogue_store.specs.Shows.{housing_cells}
+use Rattle.catalogue_store.specs.declared.answer.Housing.{Housing}
+use Rattle.catalogue_store.proofs.CellReads.{cells_read, housings_in_order, numbers_told}
+use Rattle.catalogue_store.proofs.unit_values.containers_of.Goals as goal
+
+pub returns-clause-answers : goal.returns-clause-answers
+returns-clause-answers g c clean xs stored boxes values tell =
+    let got = c.in_ok-found.ensures.rows clean xs stored in
+    let cells = cells_read (λ (h : HousingRow). h.unit) housing_cell c.args.unit (housing_cells boxes values) xs got.0 (housings_in_order boxes values) tell got.1.0 got.1.1 in
+    let second = λ (c : ℕ × ℕ). c.1 in
+    let read = λ (h : HousingRow). (let x : Housing = record { ord = h.ord; container = h.container } in x) in
+    let all : map (λ (h : Housing). h.container) c.in_ok-found.found.items ≡ map second (map housing_cell got.0) =
+    ap (map (λ (h : Housing). h.container)) got.2 ∙ map-map (λ (h : Housing). h.container) read got.0 ∙ sym (map-map second housing_cell got.0) in
+    c.in_ok-numbers_in.ensures ∙ ap (map (λ (h : Housing). h.container)) c.deref.ensures.value ∙ all ∙ ap (map second) cells ∙ numbers_told boxes values

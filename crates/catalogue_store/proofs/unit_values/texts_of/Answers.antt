@@ -1,0 +1,16 @@
+use Rattle.std.proofs.Common.{map, ap, ◌∙◌}
+use Rattle.sqlite_trees.proofs.ListLemmas.{map-map}
+use Rattle.catalogue_store.specs.Adding.{cell_of}
+use Rattle.catalogue_store.specs.Rows.{ElementRow}
+use Rattle.catalogue_store.specs.Shows.{element_cells}
+use Rattle.catalogue_store.specs.declared.answer.Element.{Element}
+use Rattle.catalogue_store.proofs.CellReads.{cells_read, elements_in_order}
+use Rattle.catalogue_store.proofs.TextReads.{cell_of as told_of}
+use Rattle.catalogue_store.proofs.unit_values.texts_of.Goals as goal
+
+pub returns-clause-answers : goal.returns-clause-answers
+returns-clause-answers g c clean xs stored values long tell =
+    let got = c.in_ok-found.ensures.rows clean xs stored in
+    let cells = cells_read (λ (e : ElementRow). e.unit) cell_of c.args.unit (element_cells values) xs got.0 (elements_in_order values) tell got.1.0 got.1.1 in
+    let read = λ (e : ElementRow). (let x : Element = record { k = e.k; value = e.value } in x) in
+    c.placed.ensures values long (ap (map told_of) got.2 ∙ map-map told_of read got.0 ∙ cells)

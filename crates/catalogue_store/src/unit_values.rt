@@ -1,0 +1,171 @@
+//! The values of a unit, read from its rows.
+
+ghost use Rattle.std.specs.Prelude.{◌≡◌, ◌<◌, ◌^◌, List, length, map, IsPermutation, OnOk, OnErr, IfOk, IfSome};
+ghost use Rattle.sqlite.specs.Held.{state};
+ghost use Rattle.sqlite.specs.State.{HasCleanDisk};
+ghost use Rattle.isad_core.specs.declared.values.BoxKey.{BoxKey};
+ghost use Rattle.isad_core.specs.declared.values.Values.{«Values» as Description};
+ghost use Rattle.catalogue_store.specs.Describing.{HasAllPlaces, values_of};
+ghost use Rattle.catalogue_store.specs.Merging.{Catalogue, box_number};
+ghost use Rattle.catalogue_store.specs.Rows.{ElementRow, element_row, HousingRow, housing_row};
+ghost use Rattle.catalogue_store.specs.Schema.{Version};
+ghost use Rattle.catalogue_store.specs.Shows.{ShowsCatalogue, ShowsContainers, element_cells, element_number as number_of_place, elements_of as texts_among, housing_cells, housings_of as containers_among};
+ghost use Rattle.catalogue_store.specs.Step.{InOffice, Looks, IsCut};
+ghost use Rattle.catalogue_store.specs.declared.answer.Element.{Element};
+ghost use Rattle.catalogue_store.specs.declared.answer.Housing.{Housing};
+ghost use Rattle.catalogue_store.specs.declared.office.OfficeRow.{OfficeRow};
+
+use crate::answer::{Element, Housing};
+use crate::containers::{find_container, housings_of};
+use crate::elements::elements_of;
+use crate::fault::StoreFault;
+use crate::units::levels_of;
+use crate::value::NO_NUMBER;
+use isad_core::{BoxKey, List, Text, Values};
+use sqlite::{Alter, Connection};
+use std::alloc::{AllocError, Global};
+use std::array;
+
+/// The values of a unit, and the numbers of its containers in its order.
+#[derive(Debug, PartialEq, Drop)]
+pub struct UnitValues {
+    pub values: Values,
+    pub containers: List<u64>,
+}
+
+/// The place among the texts of the element with this number, which is 1 to 26 without 4, the level.
+fn place_of(k: u64) -> Option<usize>
+    ensures place { IfSome result (λ place. k ≡ number_of_place place) }
+    ensures small { IfSome result (λ place. place < 25) }
+{
+    match k {
+        1..=3 => Some(k as usize - 1),
+        5..=26 => Some(k as usize - 2),
+        _ => None,
+    }
+}
+
+/// These texts at the places of their elements.
+fn placed(elements: Vec<Element>) -> Result<[Option<Text>; 25], StoreFault>
+    ensures { (values : Description) → length values.texts ≡ 25 → map (λ (e : Element). (e.k, e.value)) elements.items ≡ element_cells values → IfOk result (λ texts. texts ≡ values.texts) }
+{
+    let mut texts = array::from_fn(|_| None);
+    for element in elements {
+        let Some(place) = place_of(element.k) else {
+            return Err(StoreFault::Schema);
+        };
+        texts[place] = Some(element.value);
+    }
+    Ok(texts)
+}
+
+/// The texts of a unit, each at its place.
+fn texts_of<S: Alter>(
+    alloc: Global,
+    conn: &mut Connection<S>,
+    unit: u64,
+) -> Result<[Option<Text>; 25], StoreFault>
+    requires inside { InOffice (state S.Store conn.old) }
+    requires small { unit < 2 ^ 63 }
+    ensures answers { HasCleanDisk (state S.Store conn.new) → (xs : List ElementRow) → (state S.Store conn.old).now.trees 16 ≡ map element_row xs → (values : Description) → length values.texts ≡ 25 → IsPermutation (element_cells values) (texts_among unit xs) → IfOk result (λ texts. texts ≡ values.texts) }
+    ensures looks { OnOk result (Looks (state S.Store conn.old) (state S.Store conn.new)) }
+    ensures cut { OnErr result (IsCut (state S.Store conn.old) (state S.Store conn.new)) }
+{
+    let found = elements_of(alloc, conn, unit)?;
+    placed(found)
+}
+
+/// The numbers that these rows tell.
+fn numbers_in(alloc: Global, housings: &[Housing]) -> Result<List<u64>, AllocError>
+    ensures { IfOk result (λ numbers. numbers ≡ map (λ (h : Housing). h.container) housings.now) }
+{
+    let numbers = housings
+        .iter()
+        .map(|housing| housing.container)
+        .collect(alloc)?;
+    Ok(List(numbers))
+}
+
+/// The numbers of a unit's containers, in its order.
+fn containers_of<S: Alter>(
+    alloc: Global,
+    conn: &mut Connection<S>,
+    unit: u64,
+) -> Result<List<u64>, StoreFault>
+    requires inside { InOffice (state S.Store conn.old) }
+    requires small { unit < 2 ^ 63 }
+    ensures answers { HasCleanDisk (state S.Store conn.new) → (xs : List HousingRow) → (state S.Store conn.old).now.trees 20 ≡ map housing_row xs → (boxes : List BoxKey) (values : Description) → IsPermutation (housing_cells boxes values) (containers_among unit xs) → IfOk result (λ numbers. numbers ≡ map (box_number boxes) values.boxes) }
+    ensures looks { OnOk result (Looks (state S.Store conn.old) (state S.Store conn.new)) }
+    ensures cut { OnErr result (IsCut (state S.Store conn.old) (state S.Store conn.new)) }
+{
+    let found = housings_of(alloc, conn, unit)?;
+    Ok(numbers_in(alloc, &found)?)
+}
+
+/// The container with this number.
+fn container_of<S: Alter>(
+    alloc: Global,
+    conn: &mut Connection<S>,
+    number: u64,
+) -> Result<BoxKey, StoreFault>
+    requires inside { InOffice (state S.Store conn.old) }
+    ensures answers { HasCleanDisk (state S.Store conn.new) → (boxes : List BoxKey) → ShowsContainers (state S.Store conn.old).now.trees boxes → (b : BoxKey) → number ≡ box_number boxes b → IfOk result (λ key. key ≡ b) }
+    ensures looks { OnOk result (Looks (state S.Store conn.old) (state S.Store conn.new)) }
+    ensures cut { OnErr result (IsCut (state S.Store conn.old) (state S.Store conn.new)) }
+{
+    if number >= NO_NUMBER {
+        return Err(StoreFault::Schema);
+    }
+    let mut found = find_container(alloc, conn, number)?;
+    let Some(key) = found.pop() else {
+        return Err(StoreFault::Schema);
+    };
+    Ok(key)
+}
+
+/// The containers with these numbers.
+fn boxes_of<S: Alter>(
+    alloc: Global,
+    conn: &mut Connection<S>,
+    numbers: &[u64],
+) -> Result<List<BoxKey>, StoreFault>
+    requires inside { InOffice (state S.Store conn.old) }
+    ensures answers { HasCleanDisk (state S.Store conn.new) → (boxes : List BoxKey) → ShowsContainers (state S.Store conn.old).now.trees boxes → (bs : List BoxKey) → numbers.now ≡ map (box_number boxes) bs → IfOk result (λ keys. keys ≡ bs) }
+    ensures looks { OnOk result (Looks (state S.Store conn.old) (state S.Store conn.new)) }
+    ensures cut { OnErr result (IsCut (state S.Store conn.old) (state S.Store conn.new)) }
+{
+    let mut keys = List::new(alloc);
+    for number in numbers {
+        keys.push(container_of(alloc, conn, *number)?)?;
+    }
+    Ok(keys)
+}
+
+/// The values of a unit and the numbers of its containers, or none where no unit has this number.
+pub fn values<S: Alter>(
+    alloc: Global,
+    conn: &mut Connection<S>,
+    unit: u64,
+) -> Result<Option<UnitValues>, StoreFault>
+    requires inside { InOffice (state S.Store conn.old) }
+    requires small { unit < 2 ^ 63 }
+    ensures answers { HasCleanDisk (state S.Store conn.new) → (version : Version) (o : OfficeRow) (c : Catalogue) → ShowsCatalogue version (state S.Store conn.old).now o c → HasAllPlaces c → IfOk result (λ found. found ≡ values_of unit c) }
+    ensures looks { OnOk result (Looks (state S.Store conn.old) (state S.Store conn.new)) }
+    ensures cut { OnErr result (IsCut (state S.Store conn.old) (state S.Store conn.new)) }
+{
+    let mut levels = levels_of(alloc, conn, unit)?;
+    let Some(level) = levels.pop() else {
+        return Ok(None);
+    };
+    let texts = texts_of(alloc, conn, unit)?;
+    let containers = containers_of(alloc, conn, unit)?;
+    let boxes = boxes_of(alloc, conn, containers.as_slice())?;
+    Ok(Some(UnitValues {
+        values: Values {
+            level,
+            texts,
+            boxes,
+        },
+        containers,
+    }))
+}
