@@ -34,3 +34,4 @@ pub mod Children
 pub mod Descending
 pub mod MarkForests
 pub mod Attachments
+pub mod OpenLemmas

@@ -18,3 +18,4 @@ pub mod Text
 pub mod Housing
 pub mod Marking
 pub mod Marked
+pub mod OpenMarks

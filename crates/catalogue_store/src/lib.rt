@@ -7,6 +7,7 @@ mod closing;
 mod containers;
 mod elements;
 mod fault;
+pub mod laws;
 mod link_reads;
 mod links;
 mod making;
