@@ -1,5 +1,5 @@
 -- Marks of what a container is attached to decide whether it is open.
-use Rattle.std.proofs.Common.{◌≡◌, inl, inr, ℕ, ℤ, Bool, true, false, cond, not, ◌&&◌, ◌||◌, List, [], ◌∷◌, ◌++◌, map, filter, Option, Some, None, nat_eq, refl, sym, ap, ap₂, subst, ◌∙◌, append_assoc}
+use Rattle.std.proofs.Common.{◌≡◌, inl, inr, ℕ, ℤ, Bool, true, false, cond, not, ◌&&◌, ◌||◌, List, [], ◌∷◌, ◌++◌, map, filter, Some, None, nat_eq, refl, sym, ap, ap₂, subst, ◌∙◌, append_assoc}
 use Rattle.std.specs.List.{list_any, list_all}
 use Rattle.std.proofs.lemmas.Bool.{eq-eqb, cases_Bool, false≢true}
 use Rattle.std.proofs.lemmas.List.{map-append}
@@ -17,9 +17,9 @@ use Rattle.tree_core.proofs.LinkPaths.{parts, other_id}
 use Rattle.tree_core.proofs.Lists.{list_any-map, any_agree}
 use Rattle.tree_core.proofs.MarkWalks.{list_all-append}
 use Rattle.tree_core.proofs.Sharing.{open_by_paths}
-use Rattle.catalogue_store.specs.Housing.{own_or, housed_below, housed, paths_below, contents, is_withheld_from, is_some_there, is_open}
+use Rattle.catalogue_store.specs.Housing.{own_or, housed_below, housed, paths_below, is_withheld_from, is_some_there, is_open}
 use Rattle.catalogue_store.specs.Marking.{mark_of, unnumbered}
-use Rattle.catalogue_store.specs.OpenMarks.{is_clean, naming, OpenByMarks, NumbersTellNothing}
+use Rattle.catalogue_store.specs.OpenMarks.{is_clean, OpenByMarks, NumbersTellNothing}
 use Rattle.catalogue_store.specs.Units.{Unit, has_id, is_closed}
 
 -- ---- lists

@@ -1,5 +1,5 @@
 -- When marks decide that a container is open to the public.
-use Rattle.std.specs.Prelude.{◌≡◌, ℕ, ℤ, Bool, true, false, not, ◌&&◌, List, map, filter}
+use Rattle.std.specs.Prelude.{◌≡◌, ℤ, Bool, false, not, ◌&&◌, List, map, filter}
 use Rattle.std.specs.List.{list_any, list_all}
 use Rattle.isad_core.specs.declared.values.BoxKey.{BoxKey}
 use Rattle.atom_csv.specs.Values.{is_same as is_same_box}
