@@ -1,6 +1,6 @@
 -- What the rows of containers say of the units that name them.
-use Rattle.std.proofs.Common.{◌≡◌, inl, inr, ℕ, zero, suc, pos, ◌+◌, ◌<◌, ◌≤◌, Bool, true, false, List, [], ◌∷◌, map, filter, length, get_or, nat_eq, Ordering, Less, Equal, Greater, refl, sym, ap, subst, ◌∙◌, arith}
-use Rattle.std.specs.List.{AllByRecursion, AllPairs, Contains, list_any, dedup}
+use Rattle.std.proofs.Common.{◌≡◌, inl, inr, ℕ, suc, pos, ◌+◌, ◌<◌, true, false, List, [], ◌∷◌, map, filter, length, get_or, nat_eq, Ordering, Less, Equal, Greater, refl, sym, ap, subst, ◌∙◌, arith}
+use Rattle.std.specs.List.{AllByRecursion, AllPairs, dedup}
 use Rattle.std.specs.List.Sorted.{IsPermutation, IsSorted}
 use Rattle.std.specs.Ordering.{int_cmp, nat_cmp, ordering_then, is_lt}
 use Rattle.std.specs.Cmp.{IsTotalOrder, on_total, int_cmp_total}
@@ -16,7 +16,7 @@ use Rattle.sqlite_rules.specs.Lists.{Has}
 use Rattle.sqlite_rules.proofs.ListLemmas.{all_has, some_has, some_from, has_filtered, has_kept}
 use Rattle.sqlite_trees.proofs.ListLemmas.{IsPermutation-filter, ascending-filter, ascending-map}
 use Rattle.isad_core.specs.declared.values.BoxKey.{BoxKey}
-use Rattle.tree_core.specs.Forest.{Forest, nodes, has}
+use Rattle.tree_core.specs.Forest.{nodes, has}
 use Rattle.tree_core.proofs.Lists.{In, In-from_Contains, Contains-from_In}
 use Rattle.catalogue_store.specs.Marking.{names, AreAttached}
 use Rattle.catalogue_store.specs.Merging.{Catalogue, box_number}

@@ -60,3 +60,4 @@ pub mod Children
 pub mod Descending
 pub mod MarkForests
 pub mod Attachments
+pub mod OpenLemmas

@@ -1,6 +1,6 @@
 -- What the rows of a unit say of its mark.
-use Rattle.std.proofs.Common.{◌≡◌, inl, inr, ℕ, zero, suc, pos, ◌+◌, ◌<◌, ◌≤◌, List, [], ◌∷◌, ◌++◌, map, filter, length, take, get_or, Option, Some, None, option_map, slice_get, Bool, true, false, not, cond, ◌==◌, nat_eq, Less, Equal, refl, sym, ap, subst, ◌∙◌, arith}
-use Rattle.std.specs.List.{find, AllByRecursion, list_any}
+use Rattle.std.proofs.Common.{◌≡◌, inl, inr, ℕ, zero, suc, pos, ◌+◌, ◌<◌, ◌≤◌, List, [], ◌∷◌, ◌++◌, map, filter, length, take, get_or, Some, None, option_map, slice_get, false, not, ◌==◌, nat_eq, Less, Equal, refl, sym, ap, ◌∙◌, arith}
+use Rattle.std.specs.List.{find, AllByRecursion}
 use Rattle.std.specs.List.Sorted.{IsPermutation}
 use Rattle.std.specs.Ordering.{int_cmp}
 use Rattle.std.specs.Cmp.{tied_itself, int_cmp_total}

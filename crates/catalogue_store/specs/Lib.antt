@@ -24,3 +24,4 @@ pub mod Text
 pub mod Housing
 pub mod Marking
 pub mod Marked
+pub mod OpenMarks

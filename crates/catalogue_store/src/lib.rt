@@ -9,6 +9,7 @@ mod describing;
 mod elements;
 mod fault;
 mod housing;
+pub mod laws;
 mod link_reads;
 mod link_rows;
 mod links;

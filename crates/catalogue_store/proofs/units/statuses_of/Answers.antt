@@ -1,4 +1,4 @@
-use Rattle.std.proofs.Common.{List, map, filter, nat_eq, rules, sym, ◌∙◌}
+use Rattle.std.proofs.Common.{map, filter, nat_eq, rules, sym, ◌∙◌}
 use Rattle.sqlite.specs.Held.{state}
 use Rattle.catalogue_store.specs.Units.{Unit}
 use Rattle.catalogue_store.specs.Step.{IsCut, Looks}

@@ -1,0 +1,8 @@
+use Rattle.catalogue_store.proofs.OpenLemmas.{open_by_marks, numbers_tell_nothing}
+use Rattle.catalogue_store.proofs.laws.open_by_marks.Goals as goal
+
+pub returns-clause-open : goal.returns-clause-open
+returns-clause-open c = open_by_marks
+
+pub returns-clause-numbers : goal.returns-clause-numbers
+returns-clause-numbers c = numbers_tell_nothing
