@@ -1,7 +1,6 @@
 //! What the causes 6 to 10 say of rows of doubtful origin. Each function does nothing: its contract is the law.
 
 ghost use Rattle.catalogue_store.specs.Schema.{Version};
-ghost use Rattle.office.specs.DeskCausesRows as row;
 ghost use Rattle.office.specs.DeskJudged.{PassingRowsAreSound, SoundTablesPass};
 ghost use Rattle.office.specs.Reading.{Rows};
 ghost use Rattle.office.specs.State.{State};
@@ -15,9 +14,4 @@ pub fn sound_desks_pass()
 /// those rows of the desk.
 pub fn passing_desks_are_sound()
     ensures { (version : Version) (t : Rows) → PassingRowsAreSound version t }
-{}
-
-/// Each cause is told of a small office with one row changed, and of the office as it was no cause is.
-pub fn worked_causes()
-    ensures { row.Told }
 {}

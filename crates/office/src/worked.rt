@@ -1,6 +1,7 @@
 //! The rules at work in small offices, worked by hand.
 
 ghost use Rattle.office.specs.CatalogueCausesRows as causes;
+ghost use Rattle.office.specs.DeskCausesRows as desk_causes;
 ghost use Rattle.office.specs.ReadingRows as tables;
 ghost use Rattle.office.specs.Rows as row;
 ghost use Rattle.office.specs.AnswerRows as answers;
@@ -55,4 +56,9 @@ pub fn worked_tables()
 /// Each of the causes 1 to 5 is told of a small office with one row changed, and of the office as it was none is.
 pub fn worked_catalogue_causes()
     ensures { causes.Told }
+{}
+
+/// Each of the causes 6 to 10 is told of a small office with a row or two changed, and of the office as it was none is.
+pub fn worked_desk_causes()
+    ensures { desk_causes.Told }
 {}
