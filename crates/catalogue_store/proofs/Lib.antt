@@ -29,4 +29,5 @@ pub mod Changes
 pub mod LinkChanges
 pub mod Creations
 pub mod ReadCauses
+pub mod LinkFaults
 pub mod Transactions

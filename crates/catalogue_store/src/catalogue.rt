@@ -1,12 +1,13 @@
 //! The calls on the whole catalogue.
 
-ghost use Rattle.std.specs.Prelude.{◌≡◌, ◌<◌, ◌^◌, [], OnOk, OnErr, IfOk};
+ghost use Rattle.std.specs.Prelude.{◌≡◌, ◌<◌, ◌^◌, [], OnOk, OnErr, IfOk, IfErr};
 ghost use Rattle.sqlite.specs.Held.{state};
 ghost use Rattle.sqlite.specs.State.{HasCleanDisk};
 ghost use Rattle.sqlite.specs.Effect.{Database};
 ghost use Rattle.sqlite.specs.Change.{KeepsRows};
 ghost use Rattle.tree_core.specs.Forest.{Forest, Empty};
 ghost use Rattle.catalogue_store.specs.Creation.{IsMaking};
+ghost use Rattle.catalogue_store.specs.Faults.{IsUnlimited, HasCause};
 ghost use Rattle.catalogue_store.specs.Finding.{Finds};
 ghost use Rattle.catalogue_store.specs.Merging.{Catalogue};
 ghost use Rattle.catalogue_store.specs.Schema.{desk_schema, desk_tables};
@@ -49,6 +50,7 @@ pub fn known<S: Alter>(
 ) -> Result<Option<u64>, StoreFault>
     requires inside { InOffice (state S.Store conn.old) }
     ensures finds { HasCleanDisk (state S.Store conn.new) → (f : Forest Described) → ShowsUnits (state S.Store conn.old).now.trees f → IfOk result (Finds (is_from source.now legacy.now) f) }
+    ensures faults { HasCleanDisk (state S.Store conn.new) → IsUnlimited (state S.Store conn.old) → (f : Forest Described) → ShowsUnits (state S.Store conn.old).now.trees f → IfErr result (HasCause (state S.Store conn.old) (state S.Store conn.new)) }
     ensures looks { OnOk result (Looks (state S.Store conn.old) (state S.Store conn.new)) }
     ensures cut { OnErr result (IsCut (state S.Store conn.old) (state S.Store conn.new)) }
 {

@@ -16,7 +16,7 @@ ghost use Rattle.catalogue_store.specs.Units.{«Unit» as Described};
 ghost use Rattle.catalogue_store.specs.declared.office.OfficeRow.{OfficeRow};
 ghost use Rattle.catalogue_store.specs.Step.{InOffice, InTransaction, Goes, Looks, IsCut, PutsRow};
 
-use crate::answer::read_all;
+use crate::answer::{only_number, read_all};
 use crate::fault::StoreFault;
 use crate::places::Places;
 use crate::value::{day, number, words};
@@ -135,19 +135,19 @@ pub fn office_row<P: Places, S: Alter>(
 ) -> Result<Office, StoreFault>
     requires inside { InTransaction P.version (state S.Store conn.old) }
     ensures answers { HasCleanDisk (state S.Store conn.new) → (o : OfficeRow) (c : Catalogue) → Shows P.shows P.version (state S.Store conn.old).now o c → IfOk result (λ office. office ≡ record { row = o; units = capped (size c.forest); containers = capped (length c.containers) }) }
+    ensures faults { HasCleanDisk (state S.Store conn.new) → IsUnlimited (state S.Store conn.old) → (o : OfficeRow) (c : Catalogue) → Shows P.shows P.version (state S.Store conn.old).now o c → AreLegibleSettings o → IfErr result (HasCause (state S.Store conn.old) (state S.Store conn.new)) }
     ensures looks { OnOk result (Looks (state S.Store conn.old) (state S.Store conn.new)) }
     ensures cut { OnErr result (IsCut (state S.Store conn.old) (state S.Store conn.new)) }
 {
     let mut rows = office_rows(alloc, conn)?;
     let units = count_units(alloc, conn)?;
     let containers = count_containers(alloc, conn)?;
-    let (Some(row), [units], [containers]) = (rows.pop(), units.as_slice(), containers.as_slice())
-    else {
+    let Some(row) = rows.pop() else {
         return Err(StoreFault::Schema);
     };
     Ok(Office {
         row,
-        units: *units,
-        containers: *containers,
+        units: only_number(&units)?,
+        containers: only_number(&containers)?,
     })
 }
