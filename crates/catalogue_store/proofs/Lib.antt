@@ -30,4 +30,5 @@ pub mod LinkChanges
 pub mod Creations
 pub mod ReadCauses
 pub mod LinkFaults
+pub mod WriteCauses
 pub mod Transactions

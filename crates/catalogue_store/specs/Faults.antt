@@ -29,6 +29,12 @@ HasCause old new fault.Memory = ⊤
 HasCause old new fault.Disk = MoreFaults old.faults new.faults ⊎ (old.is_open ≡ false)
 HasCause old new fault.Schema = ⊥
 
+-- the disk is blamed for its own failures only
+abbrev pub BlamesDisk : State → State → StoreFault → Type 0
+BlamesDisk old new fault.Memory = ⊤
+BlamesDisk old new fault.Disk = HasCause old new fault.Disk
+BlamesDisk old new fault.Schema = ⊤
+
 -- an office keeps so many units at most
 abbrev pub FitsOffice : {A : Type 0} → Forest A → Type 0
 FitsOffice f = size f ≤ 200000
