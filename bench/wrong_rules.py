@@ -33,6 +33,9 @@ E=[
 ('no check 28',O+'Rules.antt','    ∷ unless (has_permit s t u) NoPermit\n',''),
 ('Permit for an unknown unit',O+'Rules.antt','    ∷ unless (has_unit s.forest u) UnknownUnit\n    ∷ when (not (has_permit s t u) && nat_le','    ∷ when (not (has_permit s t u) && nat_le'),
 ('no limit of permits',O+'Rules.antt','    ∷ when (not (has_permit s t u) && nat_le most_permits (length (s.permits t))) Full\n',''),
+('a ticket may have a permit more',O+'Rules.antt','most_permits = 100','most_permits = 101'),
+('a later day counts as another permit',O+'Rules.antt','when (not (has_permit s t u) && nat_le most_permits (length (s.permits t))) Full','when (nat_le most_permits (length (s.permits t))) Full'),
+('a second permit stands beside the first',O+'State.antt','cond (nat_eq p.unit u) (record { unit = u; until = cond (int_lt p.until day) day p.until } ∷ ps)','cond (nat_eq p.unit u) (record { unit = u; until = day } ∷ (p ∷ ps))'),
 # orders
 ('any container is open',O+'State.antt','some_and (λ box. is_open s.forest box (is_permitted s.day (s.permits t)) s.day) (numbered s.boxes c)','some_and (λ box. true) (numbered s.boxes c)'),
 ('an order that is out does not count as ordered',O+'State.antt','list_any (is_by s t) (s.queue c) || is_out_with s t c','list_any (is_by s t) (s.queue c)'),
@@ -86,6 +89,7 @@ E=[
 ('a unit may go below its own child',O+'Rules.antt','list_any (has_id p) (branch (has_id u) f)','nat_eq p u'),
 ('a branch may go as deep as it likes',O+'Rules.antt','    ∷ when (nat_lt most_deep (depth_after u parent s.forest)) TooDeep\n',''),
 ('depth counts the parent alone',O+'Rules.antt','depth parent f + height (tree (has_id u) f)','depth parent f + 1'),
+('depth counts the first of the trees alone',O+'Rules.antt','max (1 + height children) (height others)','1 + height children'),
 ('Move to an unknown parent',O+'Rules.antt','    ∷ unless (has_place has_id parent s.forest) UnknownUnit\n',''),
 ('Remove tells one',O+'Rules.antt','done.Remove (length (branch (has_id u) s.forest))','done.Remove 1'),
 ('own boxes do not hide those above',C+'Housing.antt','own_or (box ∷ boxes) above = box ∷ boxes','own_or (box ∷ boxes) above = above'),

@@ -3,6 +3,7 @@ pub mod Sorted
 pub mod Tests
 pub mod Rows
 pub mod Queries
+pub mod Limits
 pub mod Counts
 pub mod Joins
 pub mod Steps
@@ -27,8 +28,15 @@ pub mod Inserts
 pub mod Selects
 pub mod Changes
 pub mod LinkChanges
+pub mod UnitReads
+pub mod OfficeChanges
+pub mod BoxNumbers
+pub mod Numbered
 pub mod Creations
 pub mod ReadCauses
 pub mod LinkFaults
 pub mod WriteCauses
 pub mod Transactions
+pub mod PlaceReads
+pub mod Climbing
+pub mod MarkReads

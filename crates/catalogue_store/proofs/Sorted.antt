@@ -14,7 +14,7 @@ module _ {X : Type 0} (cmp : X → X → Ordering) (total : IsTotalOrder cmp) wh
   sorted_tail : (y : X) (ys : List X) → IsSorted cmp (y ∷ ys) → IsSorted cmp ys
   sorted_tail y ys up = λ k d low high. subst (λ n. is_lt (cmp (get_or (y ∷ ys) n d) (get_or ys k d)) ≡ false) {x = suc k + 1} {y = suc (k + 1)} (omega arith) (up (suc k) d (omega arith) (omega arith))
 
-  head_below : (y : X) (ys : List X) → IsSorted cmp (y ∷ ys) → AllByRecursion (λ z. is_lt (cmp z y) ≡ false) ys
+  pub head_below : (y : X) (ys : List X) → IsSorted cmp (y ∷ ys) → AllByRecursion (λ z. is_lt (cmp z y) ≡ false) ys
   head_below y [] up = tt
   head_below y (z ∷ zs) up =
       let first : is_lt (cmp z y) ≡ false = up 0 y (omega arith) (omega arith) in

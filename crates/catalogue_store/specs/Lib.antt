@@ -19,3 +19,5 @@ pub mod Order
 pub mod Tests
 pub mod Text
 pub mod Housing
+pub mod Marking
+pub mod Marked

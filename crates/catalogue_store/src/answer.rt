@@ -40,6 +40,47 @@ impl FromRow for u64 {
     }
 }
 
+impl FromRow for Option<u64> {
+    ghost use Rattle.std.specs.Prelude.{pos, [], ◌∷◌, option_map, ⊤};
+    ghost use Rattle.sqlite.specs.Values.{or_null};
+    ghost use Rattle.sqlite.specs.declared.types.Value.TheVariants.{Int};
+
+    ghost cells = { λ n. or_null Int (option_map pos n) ∷ [] };
+
+    ghost is_legible = { λ _. ⊤ };
+
+    fn read(row: &Row) -> Result<Option<u64>, StoreFault> {
+        Ok(row.get(0)?)
+    }
+}
+
+/// Whether a unit is a draft, and the day on which its closure ends.
+#[derive(Clone, Copy)]
+pub(crate) struct Status {
+    pub draft: bool,
+    pub until: Option<i32>,
+}
+
+impl FromRow for Status {
+    ghost use Rattle.std.specs.Prelude.{[], ◌∷◌, IfSome};
+    ghost use Rattle.std.specs.Int.{w32};
+    ghost use Rattle.std.proofs.Common.{SFits};
+    ghost use Rattle.catalogue_store.specs.Rows.{flag};
+    ghost use Rattle.sqlite.specs.Values.{or_null};
+    ghost use Rattle.sqlite.specs.declared.types.Value.TheVariants.{Int};
+
+    ghost cells = { λ s. Int (flag s.draft) ∷ or_null Int s.until ∷ [] };
+
+    ghost is_legible = { λ s. IfSome s.until (SFits w32) };
+
+    fn read(row: &Row) -> Result<Status, StoreFault> {
+        Ok(Status {
+            draft: row.get(0)?,
+            until: row.get(1)?,
+        })
+    }
+}
+
 /// A text of a unit, by the number of its element, 1 to 26 without 4.
 #[derive(Drop)]
 pub(crate) struct Element {

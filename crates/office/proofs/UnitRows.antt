@@ -21,7 +21,8 @@ use Rattle.office.specs.Soundness.{IsGoodUnit}
 use Rattle.office.specs.Words.{numbered}
 use Rattle.office.specs.Laws.{numbers_from}
 use Rattle.office.specs.Tables.{rows_from}
-use Rattle.office.specs.Reading.{UnitRow, unit_row, number_of, ElementRow, after_level, element_rows_from, HousingRow, housing_row, box_at, boxes_from, boxes_said, text_said, Rows, Version, Links, Spans, tables, container_row, box_from, values_said, unit_from, unit_said, places_said, place_rows, SaysUnits}
+use Rattle.catalogue_store.specs.Schema.{Version, Links, Spans}
+use Rattle.office.specs.Reading.{UnitRow, unit_row, number_of, ElementRow, after_level, element_rows_from, HousingRow, housing_row, box_at, boxes_from, boxes_said, text_said, Rows, tables, container_row, box_from, values_said, unit_from, unit_said, places_said, place_rows, SaysUnits}
 use Rattle.office.proofs.TableLaws.{rows_back}
 use Rattle.office.proofs.Nested.{spans_say}
 use Rattle.office.proofs.Linked.{links_say}

@@ -21,4 +21,10 @@ pub mod Secrecy
 pub mod Soundness
 pub mod Tables
 pub mod Reading
+pub mod DeskCauses
+pub mod DeskCausesRows
 pub mod ReadingRows
+pub mod Judging
+pub mod CatalogueCauses
+pub mod Causes
+pub mod Judged

@@ -13,8 +13,9 @@ ghost use Rattle.tree_core.specs.Forest.{Forest};
 ghost use Rattle.tree_core.specs.Spans.{number};
 ghost use Rattle.tree_core.specs.Links.{HoldsLinks};
 ghost use Rattle.tree_core.specs.declared.rows.Link.{Link};
-ghost use Rattle.office.specs.Reading.{LinkRows, SaysAllButUnits, SpanRows, Version, places_said, state_of, tables};
-ghost use Rattle.office.specs.Soundness.{AreGoodDays, AreGoodSettings, IsSound, NamesDays};
+ghost use Rattle.catalogue_store.specs.Schema.{Version};
+ghost use Rattle.office.specs.Reading.{LinkRows, SaysAllButUnits, SpanRows, places_said, state_of, tables};
+ghost use Rattle.office.specs.Soundness.{AreGoodDays, AreGoodSettings, ImportsNothing, IsSound, NamesDays};
 ghost use Rattle.office.specs.Secrecy.{SamePublic, AnswersAlike, ShowsOnlyPublished};
 ghost use Rattle.office.specs.Laws.{OutApart, GoesOn, IssuesTheFirst, OpenToHolders, ImportsAgain, Kind, all_given, ComesNew};
 
@@ -109,4 +110,9 @@ pub fn tables_say_the_state()
 /// A new office is sound, whole, where its settings and its day are good.
 pub fn starts_sound()
     ensures { (settings : Settings) (day : ℤ) → AreGoodSettings settings → IsDayNumber day → IsSound (start settings day) }
+{}
+
+/// A sound office stays sound, whole, over every list of commands that name days and of which none is an import.
+pub fn stays_sound_without_imports()
+    ensures { (s : State) (commands : List Command) → AllByRecursion (λ asked. NamesDays asked × ImportsNothing asked) commands → IsSound s → IsSound (state_after s commands) }
 {}

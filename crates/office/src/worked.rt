@@ -33,6 +33,7 @@ pub fn worked_rows()
     ensures names_of_readers { row.NamesOfReaders }
     ensures at_the_counter { row.AtTheCounter }
     ensures depths { row.Depths }
+    ensures most_permits { row.MostPermits }
     ensures placed { row.Placed }
 {}
 

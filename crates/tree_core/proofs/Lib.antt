@@ -9,6 +9,8 @@ pub mod OneForest
 pub mod Cutting
 pub mod Members
 pub mod Moving
+pub mod LastPlaces
+pub mod MovedRows
 pub mod SpanBelow
 pub mod MarkWalks
 pub mod PlaceOrder
