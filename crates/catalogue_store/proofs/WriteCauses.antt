@@ -1,5 +1,5 @@
 -- That no write which is refused blames the disk.
-use Rattle.std.proofs.Common.{◌≡◌, ◌⊎◌, inl, inr, ℕ, List, Bool, true, false, Ok, Err, Result, Option, Some, None, IfErr, ℤ, [], slice_get, fold, if◌then◌else◌, refl, sym, ap, subst, subst₂, ◌∙◌, append-nil}
+use Rattle.std.proofs.Common.{◌≡◌, ◌⊎◌, inl, inr, ℕ, List, Bool, true, false, Ok, Err, Result, Option, Some, None, IfErr, OnErr, ℤ, [], slice_get, fold, if◌then◌else◌, refl, sym, ap, subst, subst₂, ◌∙◌, append-nil}
 use Rattle.std.proofs.lemmas.Bool.{cases_Bool}
 use Rattle.std.specs.Bool.{MatchBool}
 use Rattle.std.specs.Ordering.{is_lt, int_cmp}
@@ -37,10 +37,10 @@ use Rattle.sqlite.specs.State.{State, HasCleanDisk, shows_rows, ExecutesIn, Exec
 use Rattle.sqlite.specs.State as state
 use Rattle.sqlite.proofs.Callers.{IsPlain, command_of}
 use Rattle.catalogue_store.specs.Faults.{fault_of, HasCause, BlamesDisk}
-use Rattle.catalogue_store.specs.Step.{Continues}
+use Rattle.catalogue_store.specs.Step.{Continues, IsCut}
 use Rattle.catalogue_store.specs.declared.fault.StoreFault.{StoreFault}
 use Rattle.catalogue_store.specs.declared.fault.StoreFault.TheVariants as fault
-use Rattle.catalogue_store.proofs.Calls.{Knows, is_write}
+use Rattle.catalogue_store.proofs.Calls.{early, Knows, is_write}
 use Rattle.catalogue_store.proofs.Causes.{cause_then}
 
 -- each error of the part is one of the schema
@@ -259,3 +259,8 @@ pub disk_of : (a b : State) (e : StoreFault) → HasCause a b e → BlamesDisk a
 disk_of a b fault.Memory h = tt
 disk_of a b fault.Disk h = h
 disk_of a b fault.Schema h = tt
+
+-- the fault of the last step, whose result is the call's
+pub last_disk : {X : Type 0} (a b c : State) → Continues a b → (r : Result X StoreFault) → OnErr r (IsCut b c) → HasCleanDisk c → IfErr r (BlamesDisk b c) → IfErr r (BlamesDisk a c)
+last_disk a b c p (Ok x) cut clean h = tt
+last_disk a b c p (Err e) cut clean h = disk_then a b c p (early b c _ cut.crash clean) e h

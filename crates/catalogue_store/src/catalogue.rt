@@ -7,7 +7,7 @@ ghost use Rattle.sqlite.specs.Effect.{Database};
 ghost use Rattle.sqlite.specs.Change.{KeepsRows};
 ghost use Rattle.tree_core.specs.Forest.{Forest, Empty};
 ghost use Rattle.catalogue_store.specs.Creation.{IsMaking};
-ghost use Rattle.catalogue_store.specs.Faults.{IsUnlimited, HasCause};
+ghost use Rattle.catalogue_store.specs.Faults.{IsUnlimited, HasCause, BlamesDisk};
 ghost use Rattle.catalogue_store.specs.Finding.{Finds};
 ghost use Rattle.catalogue_store.specs.Merging.{Catalogue};
 ghost use Rattle.catalogue_store.specs.Schema.{desk_schema, desk_tables};
@@ -33,6 +33,7 @@ pub fn create<P: Places, S: Alter>(
     ensures shows { (start : Database) → IsMaking desk_tables desk_schema start (state S.Store conn.old) → HasCleanDisk (state S.Store conn.new) → OnOk result (Shows P.shows P.version (state S.Store conn.new).now row.now (record { forest = Empty; containers = []; next = row.now.next_unit })) }
     ensures desk { (start : Database) → IsMaking desk_tables desk_schema start (state S.Store conn.old) → HasCleanDisk (state S.Store conn.new) → OnOk result (KeepsRows desk_tables start.trees (state S.Store conn.new).now.trees) }
     ensures goes { (start : Database) → IsMaking desk_tables desk_schema start (state S.Store conn.old) → OnOk result (Continues (state S.Store conn.old) (state S.Store conn.new)) }
+    ensures disk { (start : Database) → IsMaking desk_tables desk_schema start (state S.Store conn.old) → HasCleanDisk (state S.Store conn.new) → IfErr result (BlamesDisk (state S.Store conn.old) (state S.Store conn.new)) }
     ensures cut { (start : Database) → IsMaking desk_tables desk_schema start (state S.Store conn.old) → OnErr result (IsCut (state S.Store conn.old) (state S.Store conn.new)) }
 {
     create_units(conn)?;

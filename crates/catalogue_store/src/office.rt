@@ -6,7 +6,7 @@ ghost use Rattle.sqlite.specs.Held.{state};
 ghost use Rattle.sqlite.specs.State.{HasCleanDisk};
 ghost use Rattle.isad_core.specs.declared.values.BoxKey.{BoxKey};
 ghost use Rattle.tree_core.specs.Forest.{size};
-ghost use Rattle.catalogue_store.specs.Faults.{IsUnlimited, HasCause};
+ghost use Rattle.catalogue_store.specs.Faults.{IsUnlimited, HasCause, BlamesDisk};
 ghost use Rattle.catalogue_store.specs.Counting.{capped};
 ghost use Rattle.catalogue_store.specs.Merging.{Catalogue};
 ghost use Rattle.catalogue_store.specs.Rows.{container_row, office_row as row_of_office, unit_row};
@@ -53,6 +53,7 @@ pub(crate) fn insert_office<P: Places, S: Alter>(
     requires { row.now.next_unit < 2 ^ 63 }
     ensures goes { InTransaction P.version (state S.Store conn.old) → OnOk result (Goes (state S.Store conn.old) (state S.Store conn.new)) }
     ensures puts { InTransaction P.version (state S.Store conn.old) → HasCleanDisk (state S.Store conn.new) → OnOk result (PutsRow 13 (row_of_office P.version row.now) (state S.Store conn.old).now (state S.Store conn.new).now) }
+    ensures disk { InTransaction P.version (state S.Store conn.old) → HasCleanDisk (state S.Store conn.new) → IfErr result (BlamesDisk (state S.Store conn.old) (state S.Store conn.new)) }
     ensures cut { InTransaction P.version (state S.Store conn.old) → OnErr result (IsCut (state S.Store conn.old) (state S.Store conn.new)) }
 {
     let version = P::number();
