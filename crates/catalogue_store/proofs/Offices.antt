@@ -1,5 +1,5 @@
 -- What the office's row tells.
-use Rattle.std.proofs.Common.{◌≡◌, ℕ, ◌+◌, List, [], ◌∷◌, ◌++◌, length, refl, Result, Ok, Err, ap, ◌∙◌, arith, length-append}
+use Rattle.std.proofs.Common.{◌≡◌, ℕ, ◌+◌, List, [], ◌∷◌, ◌++◌, length, refl, Result, Ok, Err, ap, arith, length-append}
 use Rattle.tree_core.specs.Forest.{Forest, Empty, Node, nodes, size}
 use Rattle.catalogue_store.specs.Rows.{counted_from}
 

@@ -1,5 +1,5 @@
 -- That no write which is refused blames the disk.
-use Rattle.std.proofs.Common.{◌≡◌, ◌⊎◌, inl, inr, ℕ, List, Bool, true, false, Ok, Err, Result, Option, Some, None, IfErr, OnErr, ℤ, [], slice_get, fold, if◌then◌else◌, refl, sym, ap, subst, subst₂, ◌∙◌, append-nil}
+use Rattle.std.proofs.Common.{◌≡◌, ◌⊎◌, inl, inr, ℕ, List, Bool, true, false, Ok, Err, Result, Option, Some, None, IfErr, OnErr, ℤ, [], slice_get, fold, if◌then◌else◌, refl, sym, ap, subst, subst₂, ◌∙◌}
 use Rattle.std.proofs.lemmas.Bool.{cases_Bool}
 use Rattle.std.specs.Bool.{MatchBool}
 use Rattle.std.specs.Ordering.{is_lt, int_cmp}
@@ -20,7 +20,6 @@ use Rattle.sqlite_schema.specs.declared.schema.Constraint.TheVariants.{ForeignKe
 use Rattle.sqlite.specs.declared.error.Error.{Error}
 use Rattle.sqlite_schema.specs.declared.schema.Keys.{Keys}
 use Rattle.sqlite_schema.specs.declared.program.Program.{Program}
-use Rattle.sqlite_schema.specs.declared.command.Returning.{Returning}
 use Rattle.sqlite_rules.specs.declared.error.Refusal.{Refusal}
 use Rattle.sqlite_rules.specs.declared.error.Refusal.TheVariants.{Violates, Mismatch, NoRowid, BadReference, TooDeep}
 use Rattle.sqlite_catalog.specs.declared.error.Refusal as alter
@@ -29,9 +28,9 @@ use Rattle.sqlite_resolve.specs.declared.compiled.Compiled.{Compiled}
 use Rattle.sqlite_trees.specs.declared.error.StoreError.{StoreError}
 use Rattle.sqlite_trees.specs.declared.error.StoreError.TheVariants.{OutOfMemory, Io, Corrupt, Full, Broken, Unstorable}
 use Rattle.sqlite.specs.Clock.{timed}
-use Rattle.sqlite.specs.Effect.{Database, RefusesQuery, RefusesSource, edit_error, alter_error, IsNoText, RefusesToAlter}
+use Rattle.sqlite.specs.Effect.{Database, edit_error, alter_error, IsNoText, RefusesToAlter}
 use Rattle.sqlite.specs.Rows.{Part, Then, stamped, rowids_for, count_of, higher, Gives, Queried, Sourced, Edited, Counter, Counts, CounterIn, CountsIn, Task, Written, sequence}
-use Rattle.sqlite.specs.Does.{Does, Tally, AtPlace, OnRows, WritesRows, Concludes, Tested, Defines, MakesTable, MakesSequence, MakesIndex, lacks_sequence, sequence_text}
+use Rattle.sqlite.specs.Does.{Does, AtPlace, OnRows, WritesRows, Concludes, Defines, MakesTable, MakesSequence, MakesIndex, lacks_sequence, sequence_text}
 use Rattle.sqlite.specs.declared.run.Mode.{Mode}
 use Rattle.sqlite.specs.State.{State, HasCleanDisk, shows_rows, ExecutesIn, Executes, IsNotRun, IsNoStatement, IsMisplaced, RunsCommand, Fails, MayChange, store_error, text_of, mode_of}
 use Rattle.sqlite.specs.State as state

@@ -9,7 +9,7 @@ use Rattle.catalogue_store.specs.Rows.{counted_from}
 use Rattle.catalogue_store.proofs.Offices.{last_of, length-nodes, length-counted, same_number, not_refused}
 use Rattle.catalogue_store.specs.Step.{IsCut}
 use Rattle.catalogue_store.proofs.Calls.{early, cut_after, office_of, still_office, goes_then, looks_then, cut_then}
-use Rattle.catalogue_store.specs.Faults.{IsUnlimited, HasCause}
+use Rattle.catalogue_store.specs.Faults.{IsUnlimited}
 use Rattle.catalogue_store.proofs.Causes.{cause_then, still_unlimited}
 use Rattle.catalogue_store.proofs.office.office_row.Goals as goal
 
