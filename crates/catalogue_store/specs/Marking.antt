@@ -1,5 +1,5 @@
 -- Marks of units: what of a unit bears on who may see what lies in a container.
-use Rattle.std.specs.Prelude.{◌≡◌, ℕ, nat_eq, Bool, false, List, [], ◌∷◌, map, filter, Option, Some, None, IsPermutation}
+use Rattle.std.specs.Prelude.{◌≡◌, ℕ, nat_eq, Bool, false, List, [], ◌∷◌, map, filter, Option, Some, None, IsPermutation, ⊤}
 use Rattle.std.specs.List.{list_any}
 use Rattle.isad_core.specs.declared.values.BoxKey.{BoxKey}
 use Rattle.tree_core.specs.Forest.{Forest, nodes, each, path, tree}
@@ -10,6 +10,7 @@ use Rattle.catalogue_store.specs.Merging.{Catalogue, box_number}
 use Rattle.catalogue_store.specs.Order.{Rises}
 use Rattle.catalogue_store.specs.Rows.{by_number}
 use Rattle.catalogue_store.specs.Units.{Unit, has_id}
+use Rattle.catalogue_store.specs.declared.marking.Attached.{Attached}
 
 -- ---- the marks of units
 
@@ -58,3 +59,11 @@ names containers number unit = list_any (λ box. nat_eq number (box_number conta
 pub record AreAttached (c : Catalogue) (container : ℕ) (units : List Unit) : Type 0 where
   pub are : IsPermutation (filter (names c.containers container) (nodes c.forest)) units
   pub rise : Rises by_number units
+
+-- of each of these units the marks of its path and of its branch
+abbrev pub AreMarksOfEach : Forest Unit → List ℕ → List Attached → Type 0
+AreMarksOfEach f [] [] = ⊤
+AreMarksOfEach f [] (one ∷ more) = ⊥
+AreMarksOfEach f (id ∷ ids) [] = ⊥
+AreMarksOfEach f (id ∷ ids) (one ∷ more) =
+    AreMarks (path (has_id id) f) one.path.items × AreWalkMarks (tree (has_id id) f) one.branch.items × AreMarksOfEach f ids more

@@ -1,14 +1,12 @@
 -- The catalogue stays good where units are changed, removed or moved.
-use Rattle.std.proofs.Common.{◌≡◌, ℕ, ◌+◌, ◌<◌, ◌≤◌, Bool, true, false, cond, List, [], ◌∷◌, ◌++◌, length, map, Option, Some, None, refl, sym, ap, ◌∙◌, subst, inl, inr, arith}
+use Rattle.std.proofs.Common.{◌≡◌, ℕ, ◌+◌, ◌<◌, ◌≤◌, Bool, true, false, cond, List, [], ◌∷◌, length, map, Option, Some, None, refl, sym, ap, ◌∙◌, subst, inl, inr, arith}
 use Rattle.std.specs.Prelude.{nat_eq}
 use Rattle.std.specs.List.{list_any, list_all, AllByRecursion, IsDistinct}
 use Rattle.std.specs.List.Sorted.{IsPermutation}
-use Rattle.std.specs.Str.{bytes_eq}
 use Rattle.std.proofs.lemmas.Bool.{cases_Bool, eq-eqb, eqb-true, false≢true}
 use Rattle.std.proofs.lemmas.List.Sorted.{IsPermutation-map, length_permutation}
 use Rattle.std.proofs.lemmas.Map.Keys.{IsDistinct-IsPermutation}
-use Rattle.std.proofs.lemmas.Slice.Eq.{bytes_eq-Decides}
-use Rattle.isad_core.specs.Texts.{Bytes, is_blank_text}
+use Rattle.isad_core.specs.Texts.{is_blank_text}
 use Rattle.isad_core.specs.declared.values.BoxKey.{BoxKey}
 use Rattle.isad_core.specs.declared.values.Values.{Values}
 use Rattle.tree_core.specs.Forest.{Forest, Empty, Node, nodes, each, has_place, size, cut, move_last}
@@ -22,67 +20,26 @@ use Rattle.office.specs.Intake.{most_units}
 use Rattle.office.specs.Rules.{is_into_itself, depth_after, is_source, most_deep}
 use Rattle.office.specs.Soundness.{most_bytes, is_good_text, IsGoodUnit, is_same_unit, AreGoodUnits}
 use Rattle.office.proofs.Again.{all_append, all_split, all_each}
-use Rattle.office.proofs.Days.{all_cut, all_moved, all_turned}
+use Rattle.office.proofs.DistinctLists.{all_so, distinct_so, distinct_mapped, distinct_unmapped, distinct_beside, distinct_parts}
+use Rattle.office.proofs.Days.{all_cut, all_moved}
+use Rattle.office.proofs.ImportedNumbers.{same_flip}
 use Rattle.office.proofs.Branches.{many, passing, passing-many, IsOnePlace, moved_same}
 use Rattle.office.proofs.Heights.{height-each, height_cut, height_moved}
 
 -- ---- no two alike
 
--- of two lists: no two of either are alike, nor one and one
-record AreApart {X : Type 0} (e : X → X → Bool) (xs ys : List X) : Type 0 where
-  left : IsDistinct e xs
-  right : IsDistinct e ys
-  across : AllByRecursion (λ x. AllByRecursion (λ y. e x y ≡ false) ys) xs
-
-apart_split : {X : Type 0} (e : X → X → Bool) (xs ys : List X) → IsDistinct e (xs ++ ys) → AreApart e xs ys
-unfolding IsDistinct
-apart_split e [] ys d = record { left = tt; right = d; across = tt }
-apart_split e (x ∷ xs) ys d =
-    let r = apart_split e xs ys d.1 in
-    let s = all_split (λ y. e x y ≡ false) xs ys d.0 in
-    record { left = (s.0, r.left); right = r.right; across = (s.1, r.across) }
-
-apart_join : {X : Type 0} (e : X → X → Bool) (xs ys : List X) → AreApart e xs ys → IsDistinct e (xs ++ ys)
-unfolding IsDistinct
-apart_join e [] ys a = a.right
-apart_join e (x ∷ xs) ys a =
-    (all_append (λ y. e x y ≡ false) xs ys a.left.0 a.across.0, apart_join e xs ys (record { left = a.left.1; right = a.right; across = a.across.1 }))
-
-distinct_map : {X Y : Type 0} (e : Y → Y → Bool) (g : X → Y) (xs : List X) → IsDistinct (λ a b. e (g a) (g b)) xs → IsDistinct e (map g xs)
-unfolding IsDistinct
-distinct_map e g [] d = tt
-distinct_map e g (x ∷ xs) d = (mapped (e (g x)) g xs d.0, distinct_map e g xs d.1)
-  where
-    mapped : {X Y : Type 0} (p : Y → Bool) (g : X → Y) (xs : List X) → AllByRecursion (λ a. p (g a) ≡ false) xs → AllByRecursion (λ y. p y ≡ false) (map g xs)
-    mapped p g [] h = tt
-    mapped p g (x ∷ xs) h = (h.0, mapped p g xs h.1)
-
-map_distinct : {X Y : Type 0} (e : Y → Y → Bool) (g : X → Y) (xs : List X) → IsDistinct e (map g xs) → IsDistinct (λ a b. e (g a) (g b)) xs
-unfolding IsDistinct
-map_distinct e g [] d = tt
-map_distinct e g (x ∷ xs) d = (unmapped (e (g x)) g xs d.0, map_distinct e g xs d.1)
-  where
-    unmapped : {X Y : Type 0} (p : Y → Bool) (g : X → Y) (xs : List X) → AllByRecursion (λ y. p y ≡ false) (map g xs) → AllByRecursion (λ a. p (g a) ≡ false) xs
-    unmapped p g [] h = tt
-    unmapped p g (x ∷ xs) h = (h.0, unmapped p g xs h.1)
-
-distinct_as : {X : Type 0} (d e : X → X → Bool) → ((a b : X) → d a b ≡ e a b) → (xs : List X) → IsDistinct d xs → IsDistinct e xs
-unfolding IsDistinct
-distinct_as d e same [] h = tt
-distinct_as d e same (x ∷ xs) h = (all_turned (λ y. d x y ≡ false) (λ y. e x y ≡ false) (λ y k. sym (same x y) ∙ k) xs h.0, distinct_as d e same xs h.1)
-
 distinct_cut : {A : Type 0} (e : A → A → Bool) (gone : A → Bool) (f : Forest A) → IsDistinct e (nodes f) → IsDistinct e (nodes (cut gone f))
 unfolding IsDistinct
 distinct_cut e gone Empty d = tt
 distinct_cut e gone (Node a c o) d =
-    let r = apart_split e (nodes c) (nodes o) d.1 in
+    let r = distinct_parts e (nodes c) (nodes o) d.1 in
     let s = all_split (λ y. e a y ≡ false) (nodes c) (nodes o) d.0 in
-    let across = all_cut (λ x. AllByRecursion (λ y. e x y ≡ false) (nodes (cut gone o))) gone c (all_turned (λ x. AllByRecursion (λ y. e x y ≡ false) (nodes o)) (λ x. AllByRecursion (λ y. e x y ≡ false) (nodes (cut gone o))) (λ x. all_cut (λ y. e x y ≡ false) gone o) (nodes c) r.across) in
-    at (gone a) (distinct_cut e gone c r.left) (distinct_cut e gone o r.right) across (all_cut (λ y. e a y ≡ false) gone c s.0) (all_cut (λ y. e a y ≡ false) gone o s.1)
+    let across = all_cut (λ x. AllByRecursion (λ y. e x y ≡ false) (nodes (cut gone o))) gone c (all_so (λ x. AllByRecursion (λ y. e x y ≡ false) (nodes o)) (λ x. AllByRecursion (λ y. e x y ≡ false) (nodes (cut gone o))) (λ x. all_cut (λ y. e x y ≡ false) gone o) (nodes c) r.2) in
+    at (gone a) (distinct_cut e gone c r.0) (distinct_cut e gone o r.1) across (all_cut (λ y. e a y ≡ false) gone c s.0) (all_cut (λ y. e a y ≡ false) gone o s.1)
   where
     at : (b : Bool) → IsDistinct e (nodes (cut gone c)) → IsDistinct e (nodes (cut gone o)) → AllByRecursion (λ x. AllByRecursion (λ y. e x y ≡ false) (nodes (cut gone o))) (nodes (cut gone c)) → AllByRecursion (λ y. e a y ≡ false) (nodes (cut gone c)) → AllByRecursion (λ y. e a y ≡ false) (nodes (cut gone o)) → IsDistinct e (nodes (cond b (cut gone o) (Node a (cut gone c) (cut gone o))))
     at true l r x h k = r
-    at false l r x h k = (all_append (λ y. e a y ≡ false) (nodes (cut gone c)) (nodes (cut gone o)) h k, apart_join e (nodes (cut gone c)) (nodes (cut gone o)) (record { left = l; right = r; across = x }))
+    at false l r x h k = (all_append (λ y. e a y ≡ false) (nodes (cut gone c)) (nodes (cut gone o)) h k, distinct_beside e (nodes (cut gone c)) (nodes (cut gone o)) l r x)
 
 -- ---- units
 
@@ -112,7 +69,7 @@ once e is alike (x ∷ xs) d = at (is x) refl (once e is alike xs d.1)
 
 one_unit : (u : ℕ) (f : Forest Unit) → IsDistinct nat_eq (map number (nodes f)) → passing (has_id u) f ≤ 1
 one_unit u f d =
-    let l = once same_number (has_id u) (λ a b h k. eq-eqb a.id b.id (sym (eqb-true u a.id h) ∙ eqb-true u b.id k)) (nodes f) (map_distinct nat_eq number (nodes f) d) in
+    let l = once same_number (has_id u) (λ a b h k. eq-eqb a.id b.id (sym (eqb-true u a.id h) ∙ eqb-true u b.id k)) (nodes f) (distinct_unmapped nat_eq number (nodes f) d) in
     let e = passing-many (has_id u) f in
     omega (arith, l, e)
 
@@ -148,11 +105,11 @@ same_pair g k a b = rw (k.source a, k.source b, k.legacy a, k.legacy b) refl
 pub each_good : (s : State) (g : Unit → Unit) → KeepsUnits g → AreGoodUnits s → AreGoodUnits (record s { forest = each g s.forest })
 each_good s g k h =
     record {
-      each = all_each (IsGoodUnit s.boxes) g s.forest (all_turned (IsGoodUnit s.boxes) (λ unit. IsGoodUnit s.boxes (g unit)) (kept_unit s.boxes g k) (nodes s.forest) h.each);
+      each = all_each (IsGoodUnit s.boxes) g s.forest (all_so (IsGoodUnit s.boxes) (λ unit. IsGoodUnit s.boxes (g unit)) (kept_unit s.boxes g k) (nodes s.forest) h.each);
       ids = subst (IsDistinct nat_eq) (sym (ap (map number) (nodes-each g s.forest) ∙ same_numbers g k (nodes s.forest))) h.ids;
       pairs = subst (IsDistinct is_same_unit) (sym (nodes-each g s.forest))
-          (distinct_map is_same_unit g (nodes s.forest) (distinct_as is_same_unit (λ a b. is_same_unit (g a) (g b)) (same_pair g k) (nodes s.forest) h.pairs));
-      given = all_each (IsGiven s.next_unit) g s.forest (all_turned (IsGiven s.next_unit) (λ unit. IsGiven s.next_unit (g unit)) (λ unit i. subst (λ n. (1 ≤ n) × (n < s.next_unit)) (sym (k.id unit)) i) (nodes s.forest) h.given);
+          (distinct_mapped is_same_unit g (nodes s.forest) (distinct_so is_same_unit (λ a b. is_same_unit (g a) (g b)) (λ a b n. sym (same_pair g k a b) ∙ n) (nodes s.forest) h.pairs));
+      given = all_each (IsGiven s.next_unit) g s.forest (all_so (IsGiven s.next_unit) (λ unit. IsGiven s.next_unit (g unit)) (λ unit i. subst (λ n. (1 ≤ n) × (n < s.next_unit)) (sym (k.id unit)) i) (nodes s.forest) h.given);
       next = h.next;
       few = subst (λ n. n ≤ most_units) (sym (size-each g s.forest)) h.few;
       depth = subst (λ n. n ≤ most_deep) (sym (height-each g s.forest)) h.depth;
@@ -174,7 +131,7 @@ cut_good s permits gone h =
     let lower = height_cut gone s.forest in
     record {
       each = all_cut (IsGoodUnit s.boxes) gone s.forest h.each;
-      ids = distinct_map nat_eq number (nodes (cut gone s.forest)) (distinct_cut same_number gone s.forest (map_distinct nat_eq number (nodes s.forest) h.ids));
+      ids = distinct_mapped nat_eq number (nodes (cut gone s.forest)) (distinct_cut same_number gone s.forest (distinct_unmapped nat_eq number (nodes s.forest) h.ids));
       pairs = distinct_cut is_same_unit gone s.forest h.pairs;
       given = all_cut (IsGiven s.next_unit) gone s.forest h.given;
       next = h.next;
@@ -183,12 +140,6 @@ cut_good s permits gone h =
     }
 
 -- ---- a branch goes below another unit
-
-either_way : (a b : Bytes) → bytes_eq a b ≡ bytes_eq b a
-either_way a b = grind (arith, bytes_eq-Decides a b, bytes_eq-Decides b a)
-
-pair_either_way : (a b : Unit) → is_same_unit a b ≡ is_same_unit b a
-pair_either_way a b = rw (either_way b.source a.source, either_way b.legacy a.legacy) refl
 
 one_place : (p : Option ℕ) (f : Forest Unit) → IsDistinct nat_eq (map number (nodes f)) → has_place has_id p f ≡ true → IsOnePlace has_id p f
 one_place None f d h = tt
@@ -215,7 +166,7 @@ move_good s u p h m =
     record {
       each = all_moved (IsGoodUnit s.boxes) u p s.forest h.each;
       ids = IsDistinct-IsPermutation nat_eq eqb_comm (map number (nodes s.forest)) (map number (nodes f)) (IsPermutation-map number (nodes s.forest) (nodes f) same) h.ids;
-      pairs = IsDistinct-IsPermutation is_same_unit pair_either_way (nodes s.forest) (nodes f) same h.pairs;
+      pairs = IsDistinct-IsPermutation is_same_unit same_flip (nodes s.forest) (nodes f) same h.pairs;
       given = all_moved (IsGiven s.next_unit) u p s.forest h.given;
       next = h.next;
       few = omega (arith, count, old, new, h.few);

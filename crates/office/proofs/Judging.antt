@@ -1,7 +1,7 @@
 -- Tests of which none holds.
-use Rattle.std.proofs.Common.{◌≡◌, ℕ, suc, Bool, true, false, not, cond, List, [], ◌∷◌, ◌++◌, Option, Some, None, refl, sym, ap, ◌∙◌}
+use Rattle.std.proofs.Common.{◌≡◌, ℕ, suc, Bool, true, false, not, List, [], ◌∷◌, ◌++◌, Option, Some, None, refl, ap}
 use Rattle.std.specs.Prelude.{is_some, option_map}
-use Rattle.office.specs.Judging.{first_held}
+use Rattle.office.specs.Causes.{first_held}
 
 pub none_held : (b : Bool) (bs : List Bool) → first_held (b ∷ bs) ≡ None → (b ≡ false) × (first_held bs ≡ None)
 none_held true bs h = absurd (cc)

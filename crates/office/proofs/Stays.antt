@@ -15,22 +15,19 @@ use Rattle.office.specs.Words.{put}
 use Rattle.office.specs.State.{State, Permit, has_unit, container_of, granted, revoked}
 use Rattle.office.specs.Intake.{most_units, most_unit_numbers, most_containers}
 use Rattle.office.specs.Rules.{height, depth_after, is_into_itself, most_deep, checks, after, removed, cancelled, issued, returned, is_chosen, state_after}
-use Rattle.office.specs.Soundness.{IsGoodUnit, is_same_unit, AreGoodSettings, AreGoodUnits, AreGoodContainers, ArePermitsOfUnits, IsSound, NamesDays, ImportsNothing}
+use Rattle.office.specs.Soundness.{IsGoodUnit, is_same_unit, AreGoodSettings, AreGoodUnits, AreGoodContainers, ArePermitsOfUnits, IsSound, NamesDays}
+use Rattle.office.specs.Imported.{IsSoundCatalogue}
 use Rattle.office.proofs.Steps.{Passes, held_so, held_not, run_keeps_if}
 use Rattle.office.proofs.Extends.{extends_after}
 use Rattle.office.proofs.Again.{all_filtered}
 use Rattle.office.proofs.Comes.{each_units}
-use Rattle.office.proofs.Days.{all_turned, days_after}
+use Rattle.office.proofs.DistinctLists.{all_so}
+use Rattle.office.proofs.Days.{days_after}
 use Rattle.office.proofs.Readers.{all_granted, all_passing}
 use Rattle.office.proofs.Words.{put_each}
 use Rattle.office.proofs.Soundness.{desk_after}
+use Rattle.office.proofs.ImportedUnits.{import_keeps_units}
 use Rattle.office.proofs.Catalogues.{KeepsUnits, each_good, cut_good, CanMove, move_same, move_good}
-
--- the catalogue, its containers and the permits
-record IsSoundCatalogue (s : State) : Type 0 where
-  units : AreGoodUnits s
-  containers : AreGoodContainers s
-  permits : ArePermitsOfUnits s
 
 -- ---- commands that leave the catalogue
 
@@ -62,7 +59,7 @@ containers_same s t e g =
 
 permits_there : (s t : State) → t.permits ≡ s.permits → ((v : ℕ) → has_unit s.forest v ≡ true → has_unit t.forest v ≡ true) → ArePermitsOfUnits s → ArePermitsOfUnits t
 permits_there s t e f g n =
-    all_turned (λ permit. has_unit s.forest permit.unit ≡ true) (λ permit. has_unit t.forest permit.unit ≡ true) (λ permit. f permit.unit) (t.permits n)
+    all_so (λ permit. has_unit s.forest permit.unit ≡ true) (λ permit. has_unit t.forest permit.unit ≡ true) (λ permit. f permit.unit) (t.permits n)
     (subst (λ permits. AllByRecursion (λ permit. has_unit s.forest permit.unit ≡ true) (permits n)) (sym e) (g n))
 
 good_same : (s t : State) → SameCatalogue s t → t.permits ≡ s.permits → IsSoundCatalogue s → IsSoundCatalogue t
@@ -173,37 +170,37 @@ revoked_good s t u g =
 its_catalogue : (s : State) → IsSound s → IsSoundCatalogue s
 its_catalogue s g = record { units = g.units; containers = g.containers; permits = g.permits }
 
-catalogue_after : (s : State) (asked : Command) → IsSound s → ImportsNothing asked → Passes (checks s asked) → IsSoundCatalogue (after s asked)
-catalogue_after s (command.OpenDay day) g none ok = good_same s (after s (command.OpenDay day)) (record { forest = refl; boxes = refl; next = refl }) refl (its_catalogue s g)
-catalogue_after s (command.Register name until) g none ok = good_same s (after s (command.Register name until)) (record { forest = refl; boxes = refl; next = refl }) refl (its_catalogue s g)
-catalogue_after s (command.Renew t until) g none ok = good_same s (after s (command.Renew t until)) (record { forest = refl; boxes = refl; next = refl }) refl (its_catalogue s g)
-catalogue_after s (command.TakeSeat t) g none ok = good_same s (after s (command.TakeSeat t)) (record { forest = refl; boxes = refl; next = refl }) refl (its_catalogue s g)
-catalogue_after s (command.LeaveSeat t) g none ok = good_same s (after s (command.LeaveSeat t)) (record { forest = refl; boxes = refl; next = refl }) refl (its_catalogue s g)
-catalogue_after s (command.Order t c) g none ok = good_same s (after s (command.Order t c)) (record { forest = refl; boxes = refl; next = refl }) refl (its_catalogue s g)
-catalogue_after s command.Run g none ok = good_same s (after s command.Run) (record { forest = refl; boxes = refl; next = refl }) refl (its_catalogue s g)
-catalogue_after s command.Reshelve g none ok = good_same s (after s command.Reshelve) (record { forest = refl; boxes = refl; next = refl }) refl (its_catalogue s g)
-catalogue_after s (command.Import source file) g none ok = absurd none
-catalogue_after s (command.SetStatus u draft whole) g none ok = changed_good s _ (status_keeps whole draft u s) (its_catalogue s g)
-catalogue_after s (command.SetClosure u until) g none ok = changed_good s _ (closure_keeps until u) (its_catalogue s g)
-catalogue_after s (command.Move u parent) g none ok = moved_good s u parent (can_move s u parent ok) (its_catalogue s g)
-catalogue_after s (command.Remove u) g none ok = removed_good s u (its_catalogue s g)
-catalogue_after s (command.Cancel o) g none ok = cancelled_good s o (container_of s o) (its_catalogue s g)
-catalogue_after s (command.Issue c t) g none ok = issued_good s c (s.queue c) (its_catalogue s g)
-catalogue_after s (command.Return c) g none ok = returned_good s c (s.place c) (its_catalogue s g)
-catalogue_after s (command.Permit t u until) g none ok = granted_good s t u until (held_so (has_unit s.forest u) _ ok.1.0) (its_catalogue s g)
-catalogue_after s (command.Revoke t u) g none ok = revoked_good s t u (its_catalogue s g)
+catalogue_after : (s : State) (asked : Command) → IsSound s → Passes (checks s asked) → IsSoundCatalogue (after s asked)
+catalogue_after s (command.OpenDay day) g ok = good_same s (after s (command.OpenDay day)) (record { forest = refl; boxes = refl; next = refl }) refl (its_catalogue s g)
+catalogue_after s (command.Register name until) g ok = good_same s (after s (command.Register name until)) (record { forest = refl; boxes = refl; next = refl }) refl (its_catalogue s g)
+catalogue_after s (command.Renew t until) g ok = good_same s (after s (command.Renew t until)) (record { forest = refl; boxes = refl; next = refl }) refl (its_catalogue s g)
+catalogue_after s (command.TakeSeat t) g ok = good_same s (after s (command.TakeSeat t)) (record { forest = refl; boxes = refl; next = refl }) refl (its_catalogue s g)
+catalogue_after s (command.LeaveSeat t) g ok = good_same s (after s (command.LeaveSeat t)) (record { forest = refl; boxes = refl; next = refl }) refl (its_catalogue s g)
+catalogue_after s (command.Order t c) g ok = good_same s (after s (command.Order t c)) (record { forest = refl; boxes = refl; next = refl }) refl (its_catalogue s g)
+catalogue_after s command.Run g ok = good_same s (after s command.Run) (record { forest = refl; boxes = refl; next = refl }) refl (its_catalogue s g)
+catalogue_after s command.Reshelve g ok = good_same s (after s command.Reshelve) (record { forest = refl; boxes = refl; next = refl }) refl (its_catalogue s g)
+catalogue_after s (command.Import source file) g ok = import_keeps_units s source file g ok
+catalogue_after s (command.SetStatus u draft whole) g ok = changed_good s _ (status_keeps whole draft u s) (its_catalogue s g)
+catalogue_after s (command.SetClosure u until) g ok = changed_good s _ (closure_keeps until u) (its_catalogue s g)
+catalogue_after s (command.Move u parent) g ok = moved_good s u parent (can_move s u parent ok) (its_catalogue s g)
+catalogue_after s (command.Remove u) g ok = removed_good s u (its_catalogue s g)
+catalogue_after s (command.Cancel o) g ok = cancelled_good s o (container_of s o) (its_catalogue s g)
+catalogue_after s (command.Issue c t) g ok = issued_good s c (s.queue c) (its_catalogue s g)
+catalogue_after s (command.Return c) g ok = returned_good s c (s.place c) (its_catalogue s g)
+catalogue_after s (command.Permit t u until) g ok = granted_good s t u until (held_so (has_unit s.forest u) _ ok.1.0) (its_catalogue s g)
+catalogue_after s (command.Revoke t u) g ok = revoked_good s t u (its_catalogue s g)
 
-sound_after : (s : State) (asked : Command) → IsSound s → NamesDays asked × ImportsNothing asked → Passes (checks s asked) → IsSound (after s asked)
+sound_after : (s : State) (asked : Command) → IsSound s → NamesDays asked → Passes (checks s asked) → IsSound (after s asked)
 sound_after s asked g d ok =
-    let k = catalogue_after s asked g d.1 ok in
+    let k = catalogue_after s asked g ok in
     record {
       settings = subst AreGoodSettings (sym (extends_after s asked g.desk.boxes ok).settings) g.settings;
-      days = days_after s asked g.days d.0 ok;
+      days = days_after s asked g.days d ok;
       units = k.units;
       containers = k.containers;
       permits = k.permits;
       desk = desk_after s asked g.desk ok;
     }
 
-pub always_sound : (s : State) (later : List Command) → AllByRecursion (λ asked. NamesDays asked × ImportsNothing asked) later → IsSound s → IsSound (state_after s later)
-always_sound = run_keeps_if IsSound (λ asked. NamesDays asked × ImportsNothing asked) sound_after
+pub always_sound : (s : State) (later : List Command) → AllByRecursion NamesDays later → IsSound s → IsSound (state_after s later)
+always_sound = run_keeps_if IsSound NamesDays sound_after

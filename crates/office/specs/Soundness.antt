@@ -114,8 +114,3 @@ NamesDays (command.Register name until) = IsDayNumber until
 NamesDays (command.Renew t until) = IsDayNumber until
 NamesDays (command.Permit t u until) = IsDayNumber until
 NamesDays _ = Prim.Unit {0}
-
--- the command imports no file
-abbrev pub ImportsNothing : Command → Type 0
-ImportsNothing (command.Import source file) = ⊥
-ImportsNothing _ = Prim.Unit {0}

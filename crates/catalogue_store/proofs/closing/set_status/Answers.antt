@@ -33,20 +33,3 @@ returns-clause-only g c clean o k it =
     let same : b.now ≡ a.now = c.in_ok-units.ensures.looks.same before in
     subst (λ (db : Database). OnlyTouches (14 ∷ []) db d.now) same
     (c.in_ok-set_drafts.ensures.only clean o k (subst (λ (db : Database). Shows g.P.Places.shows g.P.Places.version db o k) (sym same) it))
-
-pub returns-in_err-units-clause-disk : goal.returns-in_err-units-clause-disk
-returns-in_err-units-clause-disk g c clean free o k it few =
-    let a = state g.S.Store c.args.conn.now in
-    let b = state g.S.Store c.units_under.new.conn in
-    let ids = each (λ (u : Unit). u.id) k.forest in
-    let fits : FitsOffice ids = subst (λ n. n ≤ 200000) (sym (size-each (λ (u : Unit). u.id) k.forest)) few in
-    let fair = disk_of a b _ (c.in_err-units.ensures.faults clean free ids it.shown fits) in
-    search (rules, fair)
-
-pub returns-in_err-set_drafts-clause-disk : goal.returns-in_err-set_drafts-clause-disk
-returns-in_err-set_drafts-clause-disk g c clean free o k it few =
-    let a = state g.S.Store c.args.conn.now in
-    let b = state g.S.Store c.units_under.new.conn in
-    let d = state g.S.Store c.set_drafts.new.conn in
-    let fair = disk_then a b d c.in_ok-units.ensures.looks.goes.on (early b d _ c.in_err-set_drafts.ensures.cut.crash clean) _ (c.in_err-set_drafts.ensures.disk clean) in
-    search (rules, fair)
