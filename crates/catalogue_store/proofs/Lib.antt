@@ -52,6 +52,8 @@ pub mod UnitDeletes
 pub mod Removals
 pub mod Creations
 pub mod ReadCauses
+pub mod LinkFaults
+pub mod WriteCauses
 pub mod Transactions
 pub mod PlaceReads
 pub mod Climbing

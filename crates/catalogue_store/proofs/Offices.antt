@@ -1,5 +1,5 @@
 -- What the office's row tells.
-use Rattle.std.proofs.Common.{◌≡◌, ℕ, ◌+◌, List, [], ◌∷◌, ◌++◌, length, get_or, refl, ap, ◌∙◌, arith, length-append}
+use Rattle.std.proofs.Common.{◌≡◌, ℕ, ◌+◌, List, [], ◌∷◌, ◌++◌, length, refl, Result, Ok, Err, ap, arith, length-append}
 use Rattle.tree_core.specs.Forest.{Forest, Empty, Node, nodes, size}
 use Rattle.catalogue_store.specs.Rows.{counted_from}
 
@@ -15,5 +15,8 @@ pub length-counted : {A : Type 0} (n : ℕ) (xs : List A) → length (counted_fr
 length-counted n [] = refl
 length-counted n (x ∷ xs) = omega (arith, length-counted (n + 1) xs)
 
-pub only_one : (items now : List ℕ) (n : ℕ) → now ≡ items → items ≡ n ∷ [] → get_or now 0 0 ≡ n
-only_one items now n same is = ap (λ l. get_or l 0 0) (same ∙ is)
+pub same_number : {E : Type 0} {m n : ℕ} → ◌≡◌ {A = Result ℕ E} (Ok m) (Ok n) → m ≡ n
+same_number e = cc
+
+pub not_refused : {E : Type 0} {e : E} {n : ℕ} → ◌≡◌ {A = Result ℕ E} (Err e) (Ok n) → ⊥
+not_refused e = cc

@@ -18,8 +18,8 @@ pub(crate) trait FromRow {
     /// The cells that stand for it.
     ghost cells: { Self → Row };
 
-    /// Its cells can be read.
-    ghost is_legible: { Self → Type 0 };
+    /// Its cells can be read; nothing is promised where it is not said when.
+    ghost is_legible: { Self → Type 0 } = { λ _. ⊥ };
 
     fn read(row: &Row) -> Result<Self, StoreFault>
     where
@@ -213,6 +213,16 @@ pub(crate) fn read_all<T: FromRow + Drop>(alloc: Global, rows: &[Row]) -> Result
         all.push(T::read(row)?)?;
     }
     Ok(all)
+}
+
+/// The number of an answer that has one.
+pub(crate) fn only_number(numbers: &[u64]) -> Result<u64, StoreFault>
+    ensures { (n : ℕ) → numbers.now ≡ n ∷ [] → result ≡ Ok n }
+{
+    match numbers {
+        [number] => Ok(*number),
+        _ => Err(StoreFault::Schema),
+    }
 }
 
 /// The number in the first row, or 0 where there is none.

@@ -1,12 +1,13 @@
 //! The calls on the whole catalogue.
 
-ghost use Rattle.std.specs.Prelude.{◌≡◌, ◌<◌, ◌^◌, [], OnOk, OnErr, IfOk};
+ghost use Rattle.std.specs.Prelude.{◌≡◌, ◌<◌, ◌^◌, [], OnOk, OnErr, IfOk, IfErr};
 ghost use Rattle.sqlite.specs.Held.{state};
 ghost use Rattle.sqlite.specs.State.{HasCleanDisk};
 ghost use Rattle.sqlite.specs.Effect.{Database};
 ghost use Rattle.sqlite.specs.Change.{KeepsRows};
 ghost use Rattle.tree_core.specs.Forest.{Forest, Empty};
 ghost use Rattle.catalogue_store.specs.Creation.{IsMaking};
+ghost use Rattle.catalogue_store.specs.Faults.{IsUnlimited, HasCause, BlamesDisk};
 ghost use Rattle.catalogue_store.specs.Finding.{Finds};
 ghost use Rattle.catalogue_store.specs.Merging.{Catalogue};
 ghost use Rattle.catalogue_store.specs.Schema.{desk_schema, desk_tables};
@@ -32,6 +33,7 @@ pub fn create<P: Places, S: Alter>(
     ensures shows { (start : Database) → IsMaking desk_tables desk_schema start (state S.Store conn.old) → HasCleanDisk (state S.Store conn.new) → OnOk result (Shows P.shows P.version (state S.Store conn.new).now row.now (record { forest = Empty; containers = []; next = row.now.next_unit })) }
     ensures desk { (start : Database) → IsMaking desk_tables desk_schema start (state S.Store conn.old) → HasCleanDisk (state S.Store conn.new) → OnOk result (KeepsRows desk_tables start.trees (state S.Store conn.new).now.trees) }
     ensures goes { (start : Database) → IsMaking desk_tables desk_schema start (state S.Store conn.old) → OnOk result (Continues (state S.Store conn.old) (state S.Store conn.new)) }
+    ensures disk { (start : Database) → IsMaking desk_tables desk_schema start (state S.Store conn.old) → HasCleanDisk (state S.Store conn.new) → IfErr result (BlamesDisk (state S.Store conn.old) (state S.Store conn.new)) }
     ensures cut { (start : Database) → IsMaking desk_tables desk_schema start (state S.Store conn.old) → OnErr result (IsCut (state S.Store conn.old) (state S.Store conn.new)) }
 {
     create_units(conn)?;
@@ -49,6 +51,7 @@ pub fn known<S: Alter>(
 ) -> Result<Option<u64>, StoreFault>
     requires inside { InOffice (state S.Store conn.old) }
     ensures finds { HasCleanDisk (state S.Store conn.new) → (f : Forest Described) → ShowsUnits (state S.Store conn.old).now.trees f → IfOk result (Finds (is_from source.now legacy.now) f) }
+    ensures faults { HasCleanDisk (state S.Store conn.new) → IsUnlimited (state S.Store conn.old) → (f : Forest Described) → ShowsUnits (state S.Store conn.old).now.trees f → IfErr result (HasCause (state S.Store conn.old) (state S.Store conn.new)) }
     ensures looks { OnOk result (Looks (state S.Store conn.old) (state S.Store conn.new)) }
     ensures cut { OnErr result (IsCut (state S.Store conn.old) (state S.Store conn.new)) }
 {

@@ -1,11 +1,13 @@
 //! The tables are made.
 
-ghost use Rattle.std.specs.Prelude.{◌≡◌, List, OnOk, OnErr};
+ghost use Rattle.std.specs.Prelude.{◌≡◌, List, OnOk, OnErr, IfErr};
+ghost use Rattle.sqlite.specs.State.{HasCleanDisk};
 ghost use Rattle.sqlite.specs.Held.{state};
 ghost use Rattle.sqlite.specs.Schema.{Schema};
 ghost use Rattle.sqlite.specs.Table.{Table};
 ghost use Rattle.sqlite.specs.Effect.{Database};
 ghost use Rattle.catalogue_store.specs.Creation.{DefinesTable, DefinesIndex, IsMaking, catalogue_schema, unit_schema};
+ghost use Rattle.catalogue_store.specs.Faults.{BlamesDisk};
 ghost use Rattle.catalogue_store.specs.Schema.{desk_schema, desk_tables};
 ghost use Rattle.catalogue_store.specs.Step.{Continues, IsCut};
 
@@ -15,6 +17,7 @@ use sqlite::{Alter, Connection};
 /// Makes one table.
 pub fn create_table<S: Alter>(conn: &mut Connection<S>, text: &str) -> Result<(), StoreFault>
     ensures made { (there : List Table) (start : Database) (before after : Schema) → IsMaking there before start (state S.Store conn.old) → DefinesTable there before text.now after → OnOk result (Continues (state S.Store conn.old) (state S.Store conn.new) × IsMaking there after start (state S.Store conn.new)) }
+    ensures disk { (there : List Table) (start : Database) (before after : Schema) → IsMaking there before start (state S.Store conn.old) → DefinesTable there before text.now after → HasCleanDisk (state S.Store conn.new) → IfErr result (BlamesDisk (state S.Store conn.old) (state S.Store conn.new)) }
     ensures cut { (there : List Table) (start : Database) (before after : Schema) → IsMaking there before start (state S.Store conn.old) → DefinesTable there before text.now after → OnErr result (IsCut (state S.Store conn.old) (state S.Store conn.new)) }
 {
     conn.execute(text, &[])?;
@@ -24,6 +27,7 @@ pub fn create_table<S: Alter>(conn: &mut Connection<S>, text: &str) -> Result<()
 /// Makes one index.
 pub fn create_index<S: Alter>(conn: &mut Connection<S>, text: &str) -> Result<(), StoreFault>
     ensures made { (there : List Table) (start : Database) (before after : Schema) → IsMaking there before start (state S.Store conn.old) → DefinesIndex there before text.now after → OnOk result (Continues (state S.Store conn.old) (state S.Store conn.new) × IsMaking there after start (state S.Store conn.new)) }
+    ensures disk { (there : List Table) (start : Database) (before after : Schema) → IsMaking there before start (state S.Store conn.old) → DefinesIndex there before text.now after → HasCleanDisk (state S.Store conn.new) → IfErr result (BlamesDisk (state S.Store conn.old) (state S.Store conn.new)) }
     ensures cut { (there : List Table) (start : Database) (before after : Schema) → IsMaking there before start (state S.Store conn.old) → DefinesIndex there before text.now after → OnErr result (IsCut (state S.Store conn.old) (state S.Store conn.new)) }
 {
     conn.execute(text, &[])?;
@@ -33,6 +37,7 @@ pub fn create_index<S: Alter>(conn: &mut Connection<S>, text: &str) -> Result<()
 /// Makes the tables of the office, the units and their elements.
 pub(crate) fn create_units<S: Alter>(conn: &mut Connection<S>) -> Result<(), StoreFault>
     ensures made { (start : Database) → IsMaking desk_tables desk_schema start (state S.Store conn.old) → OnOk result (Continues (state S.Store conn.old) (state S.Store conn.new) × IsMaking desk_tables unit_schema start (state S.Store conn.new)) }
+    ensures disk { (start : Database) → IsMaking desk_tables desk_schema start (state S.Store conn.old) → HasCleanDisk (state S.Store conn.new) → IfErr result (BlamesDisk (state S.Store conn.old) (state S.Store conn.new)) }
     ensures cut { (start : Database) → IsMaking desk_tables desk_schema start (state S.Store conn.old) → OnErr result (IsCut (state S.Store conn.old) (state S.Store conn.new)) }
 {
     create_table(
@@ -52,6 +57,7 @@ pub(crate) fn create_units<S: Alter>(conn: &mut Connection<S>) -> Result<(), Sto
 /// Makes the tables of the containers and of what they hold.
 pub(crate) fn create_containers<S: Alter>(conn: &mut Connection<S>) -> Result<(), StoreFault>
     ensures made { (start : Database) → IsMaking desk_tables unit_schema start (state S.Store conn.old) → OnOk result (Continues (state S.Store conn.old) (state S.Store conn.new) × IsMaking desk_tables catalogue_schema start (state S.Store conn.new)) }
+    ensures disk { (start : Database) → IsMaking desk_tables unit_schema start (state S.Store conn.old) → HasCleanDisk (state S.Store conn.new) → IfErr result (BlamesDisk (state S.Store conn.old) (state S.Store conn.new)) }
     ensures cut { (start : Database) → IsMaking desk_tables unit_schema start (state S.Store conn.old) → OnErr result (IsCut (state S.Store conn.old) (state S.Store conn.new)) }
 {
     create_table(

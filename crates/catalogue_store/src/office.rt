@@ -6,7 +6,7 @@ ghost use Rattle.sqlite.specs.Held.{state};
 ghost use Rattle.sqlite.specs.State.{HasCleanDisk};
 ghost use Rattle.isad_core.specs.declared.values.BoxKey.{BoxKey};
 ghost use Rattle.tree_core.specs.Forest.{size};
-ghost use Rattle.catalogue_store.specs.Faults.{IsUnlimited, HasCause};
+ghost use Rattle.catalogue_store.specs.Faults.{IsUnlimited, HasCause, BlamesDisk};
 ghost use Rattle.catalogue_store.specs.Counting.{capped};
 ghost use Rattle.catalogue_store.specs.Merging.{Catalogue};
 ghost use Rattle.catalogue_store.specs.Rows.{container_row, office_row as row_of_office, unit_row};
@@ -16,7 +16,7 @@ ghost use Rattle.catalogue_store.specs.Units.{«Unit» as Described};
 ghost use Rattle.catalogue_store.specs.declared.office.OfficeRow.{OfficeRow};
 ghost use Rattle.catalogue_store.specs.Step.{InOffice, InTransaction, Goes, Looks, IsCut, PutsRow, HasRows};
 
-use crate::answer::read_all;
+use crate::answer::{only_number, read_all};
 use crate::fault::StoreFault;
 use crate::places::Places;
 use crate::value::{day, number, words};
@@ -53,6 +53,7 @@ pub(crate) fn insert_office<P: Places, S: Alter>(
     requires { row.now.next_unit < 2 ^ 63 }
     ensures goes { InTransaction P.version (state S.Store conn.old) → OnOk result (Goes (state S.Store conn.old) (state S.Store conn.new)) }
     ensures puts { InTransaction P.version (state S.Store conn.old) → HasCleanDisk (state S.Store conn.new) → OnOk result (PutsRow 13 (row_of_office P.version row.now) (state S.Store conn.old).now (state S.Store conn.new).now) }
+    ensures disk { InTransaction P.version (state S.Store conn.old) → HasCleanDisk (state S.Store conn.new) → IfErr result (BlamesDisk (state S.Store conn.old) (state S.Store conn.new)) }
     ensures cut { InTransaction P.version (state S.Store conn.old) → OnErr result (IsCut (state S.Store conn.old) (state S.Store conn.new)) }
 {
     let version = P::number();
@@ -150,19 +151,19 @@ pub fn office_row<P: Places, S: Alter>(
 ) -> Result<Office, StoreFault>
     requires inside { InTransaction P.version (state S.Store conn.old) }
     ensures answers { HasCleanDisk (state S.Store conn.new) → (o : OfficeRow) (c : Catalogue) → Shows P.shows P.version (state S.Store conn.old).now o c → IfOk result (λ office. office ≡ record { row = o; units = capped (size c.forest); containers = capped (length c.containers) }) }
+    ensures faults { HasCleanDisk (state S.Store conn.new) → IsUnlimited (state S.Store conn.old) → (o : OfficeRow) (c : Catalogue) → Shows P.shows P.version (state S.Store conn.old).now o c → AreLegibleSettings o → IfErr result (HasCause (state S.Store conn.old) (state S.Store conn.new)) }
     ensures looks { OnOk result (Looks (state S.Store conn.old) (state S.Store conn.new)) }
     ensures cut { OnErr result (IsCut (state S.Store conn.old) (state S.Store conn.new)) }
 {
     let mut rows = office_rows(alloc, conn)?;
     let units = count_units(alloc, conn)?;
     let containers = count_containers(alloc, conn)?;
-    let (Some(row), [units], [containers]) = (rows.pop(), units.as_slice(), containers.as_slice())
-    else {
+    let Some(row) = rows.pop() else {
         return Err(StoreFault::Schema);
     };
     Ok(Office {
         row,
-        units: *units,
-        containers: *containers,
+        units: only_number(&units)?,
+        containers: only_number(&containers)?,
     })
 }

@@ -1,4 +1,4 @@
-use Rattle.std.proofs.Common.{ap, ◌≡◌, subst, sym, ◌∙◌, map, slice_get}
+use Rattle.std.proofs.Common.{rules, ap, ◌≡◌, subst, sym, ◌∙◌, map, slice_get}
 use Rattle.catalogue_store.specs.Units.{Unit, is_from}
 use Rattle.catalogue_store.specs.Finding.{Finds}
 use Rattle.catalogue_store.proofs.Finding.{finds_first}
@@ -10,3 +10,8 @@ returns-clause-finds g c clean f shows =
     let got = c.in_ok-found.ensures.rows clean shows.units shows.rows in
     let e : c.copied.result ≡ slice_get (map (λ (u : Unit). u.id) got.0) 0 = c.copied.ensures ∙ c.first.ensures.value ∙ ap (λ l. slice_get l 0) (c.deref.ensures.value ∙ got.2) in
     subst (Finds is f) (sym e) (finds_first is f shows.units got.0 shows.are got.1.0)
+
+pub returns-in_err-found-clause-faults : goal.returns-in_err-found-clause-faults
+returns-in_err-found-clause-faults g c clean free f shows =
+    let why = c.in_err-found.ensures.faults clean free shows.units shows.rows in
+    search (rules, why)

@@ -8,6 +8,7 @@ use Rattle.catalogue_store.specs.Step.{IsCut}
 use Rattle.catalogue_store.proofs.Calls.{early, goes_nowhere, goes_then, cut_then, office_of}
 use Rattle.catalogue_store.proofs.Statuses.{draft_step, status_of_none}
 use Rattle.catalogue_store.proofs.Touching.{nothing_touched, touched_again}
+use Rattle.catalogue_store.proofs.WriteCauses.{disk_then}
 use Rattle.catalogue_store.proofs.closing.set_drafts.Goals as goal
 
 pub loop-unit-init : goal.loop-unit-init
@@ -54,3 +55,11 @@ returns-clause-shows g c clean o k it =
 
 pub returns-clause-only : goal.returns-clause-only
 returns-clause-only g c clean o k it = (c.loop-unit.invariant.1.1 clean o k it).1
+
+pub returns-in_err-set_draft-clause-disk : goal.returns-in_err-set_draft-clause-disk
+returns-in_err-set_draft-clause-disk g c clean =
+    let a = state g.S.Store c.args.conn.now in
+    let b = state g.S.Store c.loop-unit.conn in
+    let d = state g.S.Store c.set_draft.new.conn in
+    let fair = disk_then a b d c.loop-unit.invariant.1.0.on (early b d _ c.in_err-set_draft.ensures.cut.crash clean) _ (c.in_err-set_draft.ensures.disk clean) in
+    search (rules, fair)

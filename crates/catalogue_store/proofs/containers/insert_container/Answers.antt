@@ -4,6 +4,7 @@ use Rattle.sqlite.specs.State.{HasCleanDisk}
 use Rattle.catalogue_store.specs.Step.{IsCut}
 use Rattle.catalogue_store.proofs.Calls.{early, in_office, write_cut, write_went}
 use Rattle.catalogue_store.proofs.Inserts.{insert_container_text, insert_container_command, insert_container_is, insert_container_plain, insert_container_done, insert_container_rows, insert_container_touches, insert_container_fresh}
+use Rattle.catalogue_store.proofs.WriteCauses.{write_disk}
 use Rattle.catalogue_store.proofs.containers.insert_container.Goals as goal
 
 pub returns-in_err-execute-clause-cut : goal.returns-in_err-execute-clause-cut
@@ -28,3 +29,10 @@ returns-clause-puts g c clean =
     let ran = λ (clean : HasCleanDisk new). rw (c.number.ensures, c.words.ensures, c.words-2.ensures, c.words-3.ensures) at (c.in_ok-execute.ensures.runs clean) in
     let at = λ (clean : HasCleanDisk new). c.requires.inside (early old new _ c.execute.ensures.survives clean) in
     record { rows = insert_container_rows old new c.args.n c.args.key.now c.in_ok-execute.field-0 (at clean).0 (at clean).1 (ran clean); only = insert_container_touches old new c.args.n c.args.key.now c.in_ok-execute.field-0 (at clean).0 (at clean).1 (ran clean); fresh = insert_container_fresh old new c.args.n c.args.key.now c.in_ok-execute.field-0 (at clean).0 (at clean).1 (ran clean) }
+
+pub returns-in_err-execute-clause-disk : goal.returns-in_err-execute-clause-disk
+returns-in_err-execute-clause-disk g c clean =
+    let old = state g.S.Store c.args.conn.now in
+    let new = state g.S.Store c.execute.new.self in
+    let fair = write_disk insert_container_text _ old new insert_container_command refl (in_office insert_container_text insert_container_command old (c.requires.inside) insert_container_is insert_container_plain (early old new _ c.execute.ensures.survives clean)) c.in_err-execute.field-0.0 (c.in_err-execute.ensures.runs clean) in
+    search (rules, fair)

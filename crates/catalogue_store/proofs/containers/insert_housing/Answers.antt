@@ -4,6 +4,7 @@ use Rattle.sqlite.specs.State.{HasCleanDisk}
 use Rattle.catalogue_store.specs.Step.{IsCut}
 use Rattle.catalogue_store.proofs.Calls.{early, in_office, write_cut, write_went}
 use Rattle.catalogue_store.proofs.Inserts.{insert_housing_text, insert_housing_command, insert_housing_is, insert_housing_plain, insert_housing_done, insert_housing_rows, insert_housing_touches, insert_housing_fresh}
+use Rattle.catalogue_store.proofs.WriteCauses.{write_disk}
 use Rattle.catalogue_store.proofs.containers.insert_housing.Goals as goal
 
 pub returns-in_err-execute-clause-cut : goal.returns-in_err-execute-clause-cut
@@ -28,3 +29,10 @@ returns-clause-puts g c clean =
     let ran = λ (clean : HasCleanDisk new). rw (c.number.ensures, c.number-2.ensures, c.number-3.ensures) at (c.in_ok-execute.ensures.runs clean) in
     let at = λ (clean : HasCleanDisk new). c.requires.inside (early old new _ c.execute.ensures.survives clean) in
     record { rows = insert_housing_rows old new c.args.unit c.args.ord c.args.container c.in_ok-execute.field-0 (at clean).0 (at clean).1 (ran clean); only = insert_housing_touches old new c.args.unit c.args.ord c.args.container c.in_ok-execute.field-0 (at clean).0 (at clean).1 (ran clean); fresh = insert_housing_fresh old new c.args.unit c.args.ord c.args.container c.in_ok-execute.field-0 (at clean).0 (at clean).1 (ran clean) }
+
+pub returns-in_err-execute-clause-disk : goal.returns-in_err-execute-clause-disk
+returns-in_err-execute-clause-disk g c clean =
+    let old = state g.S.Store c.args.conn.now in
+    let new = state g.S.Store c.execute.new.self in
+    let fair = write_disk insert_housing_text _ old new insert_housing_command refl (in_office insert_housing_text insert_housing_command old (c.requires.inside) insert_housing_is insert_housing_plain (early old new _ c.execute.ensures.survives clean)) c.in_err-execute.field-0.0 (c.in_err-execute.ensures.runs clean) in
+    search (rules, fair)

@@ -4,6 +4,7 @@ use Rattle.sqlite.specs.State.{HasCleanDisk}
 use Rattle.catalogue_store.specs.Step.{IsCut}
 use Rattle.catalogue_store.proofs.Calls.{early, in_office, write_cut, write_went}
 use Rattle.catalogue_store.proofs.Inserts.{insert_element_text, insert_element_command, insert_element_is, insert_element_plain, insert_element_done, insert_element_rows, insert_element_touches, insert_element_fresh}
+use Rattle.catalogue_store.proofs.WriteCauses.{write_disk}
 use Rattle.catalogue_store.proofs.elements.insert_element.Goals as goal
 
 pub returns-in_err-execute-clause-cut : goal.returns-in_err-execute-clause-cut
@@ -28,3 +29,10 @@ returns-clause-puts g c clean =
     let ran = λ (clean : HasCleanDisk new). rw (c.number.ensures, c.number-2.ensures, c.words.ensures) at (c.in_ok-execute.ensures.runs clean) in
     let at = λ (clean : HasCleanDisk new). c.requires.inside (early old new _ c.execute.ensures.survives clean) in
     record { rows = insert_element_rows old new c.args.unit c.args.k c.args.value.now c.in_ok-execute.field-0 (at clean).0 (at clean).1 (ran clean); only = insert_element_touches old new c.args.unit c.args.k c.args.value.now c.in_ok-execute.field-0 (at clean).0 (at clean).1 (ran clean); fresh = insert_element_fresh old new c.args.unit c.args.k c.args.value.now c.in_ok-execute.field-0 (at clean).0 (at clean).1 (ran clean) }
+
+pub returns-in_err-execute-clause-disk : goal.returns-in_err-execute-clause-disk
+returns-in_err-execute-clause-disk g c clean =
+    let old = state g.S.Store c.args.conn.now in
+    let new = state g.S.Store c.execute.new.self in
+    let fair = write_disk insert_element_text _ old new insert_element_command refl (in_office insert_element_text insert_element_command old (c.requires.inside) insert_element_is insert_element_plain (early old new _ c.execute.ensures.survives clean)) c.in_err-execute.field-0.0 (c.in_err-execute.ensures.runs clean) in
+    search (rules, fair)

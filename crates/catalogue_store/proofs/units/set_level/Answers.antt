@@ -4,6 +4,7 @@ use Rattle.sqlite.specs.State.{HasCleanDisk}
 use Rattle.catalogue_store.specs.Step.{IsCut}
 use Rattle.catalogue_store.proofs.Calls.{early, in_office, write_cut, write_went}
 use Rattle.catalogue_store.proofs.Changes.{set_level_text, set_level_command, set_level_is, set_level_plain, set_level_done, set_level_rows, set_level_touches}
+use Rattle.catalogue_store.proofs.WriteCauses.{write_disk}
 use Rattle.catalogue_store.proofs.units.set_level.Goals as goal
 
 pub returns-in_err-execute-clause-cut : goal.returns-in_err-execute-clause-cut
@@ -28,3 +29,10 @@ returns-clause-rows g c clean xs stored up =
     let ran = λ (clean : HasCleanDisk new). rw (c.number.ensures, c.words.ensures) at (c.in_ok-execute.ensures.runs clean) in
     let at = λ (clean : HasCleanDisk new). c.requires.inside (early old new _ c.execute.ensures.survives clean) in
     record { are = set_level_rows old new c.args.id c.args.values.now c.in_ok-execute.field-0 (at clean).0 (at clean).1 (ran clean) xs stored up; only = set_level_touches old new c.args.id c.args.values.now c.in_ok-execute.field-0 (at clean).0 (at clean).1 (ran clean) }
+
+pub returns-in_err-execute-clause-disk : goal.returns-in_err-execute-clause-disk
+returns-in_err-execute-clause-disk g c clean =
+    let old = state g.S.Store c.args.conn.now in
+    let new = state g.S.Store c.execute.new.self in
+    let fair = write_disk set_level_text _ old new set_level_command refl (in_office set_level_text set_level_command old (c.requires.inside) set_level_is set_level_plain (early old new _ c.execute.ensures.survives clean)) c.in_err-execute.field-0.0 (c.in_err-execute.ensures.runs clean) in
+    search (rules, fair)
