@@ -14,7 +14,6 @@ use Rattle.catalogue_store.specs.Schema.{Version, Links, Spans, schema}
 use Rattle.catalogue_store.proofs.Causes.{read_cause, none_refuse, sums_nothing, counts_always}
 use Rattle.catalogue_store.proofs.Failures.{IsWhole}
 use Rattle.catalogue_store.proofs.Selects.{known_text, known_is, known_plain, known_unlisted, elements_text, elements_is, elements_plain, elements_unlisted, housings_text, housings_is, housings_plain, housings_unlisted, housed_text, housed_is, housed_plain, housed_unlisted, find_container_text, find_container_is, find_container_plain, find_container_unlisted, container_number_text, container_number_is, container_number_plain, container_number_unlisted, office_is_text, office_is_is, office_is_plain, office_is_unlisted, count_units_text, count_units_is, count_units_plain, count_units_unlisted, count_containers_text, count_containers_is, count_containers_plain, count_containers_unlisted, all_links_text, all_links_is, all_links_plain, all_links_unlisted}
-use Rattle.catalogue_store.proofs.LinkChanges.{count_children_text, count_children_is, count_children_plain, count_children_unlisted}
 
 known_whole : (v : Version) → IsWhole (length known_text) 2 (understood (schema v) known_text)
 unfolding understood everything
@@ -141,16 +140,3 @@ pub all_links_cause : (old new : State) → old.now.schema ≡ schema Links → 
 all_links_cause old new has free e h =
     read_cause all_links_text [] old new (schema Links) has _ _ all_links_is all_links_plain all_links_whole all_links_unlisted
     (λ db e r. none_refuse r (λ t. let clash : true ≡ false = t in cc) (sums_nothing _)) free e h
-
-count_children_whole : IsWhole (length count_children_text) 1 (understood (schema Links) count_children_text)
-unfolding understood everything
-count_children_whole = (le_refl _, refl, refl)
-
-pub count_children_cause : (old new : State) (parent : Option ℕ) → old.now.schema ≡ schema Links → IsUnlimited old
-    → (e : Error) → FailsToQuery count_children_text (or_null Int (option_map pos parent) ∷ []) old new e → HasCause old new (fault_of e)
-count_children_cause old new None has free e h =
-    read_cause count_children_text (Null ∷ []) old new (schema Links) has _ _ count_children_is count_children_plain count_children_whole count_children_unlisted
-    (λ db e r. none_refuse r (λ t. let clash : true ≡ false = t in cc) (counts_always _ _)) free e h
-count_children_cause old new (Some p) has free e h =
-    read_cause count_children_text (Int (pos p) ∷ []) old new (schema Links) has _ _ count_children_is count_children_plain count_children_whole count_children_unlisted
-    (λ db e r. none_refuse r (λ t. let clash : true ≡ false = t in cc) (counts_always _ _)) free e h

@@ -30,7 +30,6 @@ pub use describing::{add_unit, replace_values};
 pub use fault::StoreFault;
 pub use links::LinkPlaces;
 pub use making::{create_index, create_table};
-pub use moving::move_unit;
 pub use marking::{Attached, branch_marks, contents_marks, path_marks};
 pub use moving::{move_unit, remove_branch};
 pub use office::{Office, OfficeRow, office_row};
