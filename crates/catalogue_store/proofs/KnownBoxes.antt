@@ -1,12 +1,12 @@
 -- A catalogue that knows its containers knows them after a unit was added or was given other values.
-use Rattle.std.proofs.Common.{◌≡◌, ℕ, List, [], ◌∷◌, ◌++◌, Bool, true, false, if◌then◌else◌, cond, Option, Some, None, refl, sym, subst}
+use Rattle.std.proofs.Common.{◌≡◌, ℕ, List, [], ◌∷◌, ◌++◌, Bool, true, false, if◌then◌else◌, cond, Option, Some, None, sym, subst}
 use Rattle.std.specs.List.{AllByRecursion, list_any, list_all}
 use Rattle.sqlite_rules.proofs.ListLemmas.{test_from, test_has}
 use Rattle.sqlite_trees.proofs.ListLemmas.{all-append, all_weaker}
 use Rattle.isad_core.specs.declared.values.BoxKey.{BoxKey}
 use Rattle.isad_core.specs.declared.values.Values.{Values}
 use Rattle.atom_csv.specs.Values.{distinct, is_same}
-use Rattle.tree_core.specs.Forest.{Forest, Empty, Node, nodes, each, join, put_below, put_last, add}
+use Rattle.tree_core.specs.Forest.{Forest, Empty, Node, nodes, join, put_below, add}
 use Rattle.catalogue_store.specs.Adding.{with_boxes}
 use Rattle.catalogue_store.specs.Describing.{KnowsItsContainers, with_unit, with_values}
 use Rattle.catalogue_store.specs.Merging.{Catalogue}
