@@ -1,11 +1,10 @@
 -- A container that is found by its number.
-use Rattle.std.proofs.Common.{◌≡◌, ℕ, zero, suc, ◌+◌, ◌<◌, List, [], ◌∷◌, ◌++◌, map, filter, Option, Some, None, Bool, true, false, nat_eq, refl, sym, ap, subst, ◌∙◌, arith, inl, inr}
+use Rattle.std.proofs.Common.{◌≡◌, ℕ, suc, ◌+◌, ◌<◌, List, [], ◌∷◌, ◌++◌, map, filter, Option, Some, None, Bool, true, false, nat_eq, refl, sym, ap, ◌∙◌, arith, inl, inr}
 use Rattle.std.specs.Prelude.{option_map, unwrap_or, if◌then◌else◌}
-use Rattle.std.specs.List.{AllByRecursion}
 use Rattle.std.specs.List.Sorted.{IsPermutation}
 use Rattle.std.proofs.lemmas.Bool.{cases_Bool, eqb-true}
 use Rattle.sqlite_rules.specs.Lists.{Has}
-use Rattle.sqlite_rules.proofs.ListLemmas.{all_has, has_filtered, has_last}
+use Rattle.sqlite_rules.proofs.ListLemmas.{has_filtered, has_last}
 use Rattle.isad_core.specs.declared.values.BoxKey.{BoxKey}
 use Rattle.atom_csv.specs.Values.{is_same}
 use Rattle.catalogue_store.specs.Merging.{number_in, box_number}

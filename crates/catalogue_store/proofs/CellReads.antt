@@ -1,5 +1,5 @@
 -- What is read of a unit's rows: its cells in their order.
-use Rattle.std.proofs.Common.{◌≡◌, ℕ, zero, suc, ◌+◌, ◌≤◌, ◌<◌, pos, List, [], ◌∷◌, length, map, filter, get_or, Option, Some, None, Ordering, Less, Equal, Bool, true, nat_eq, refl, sym, ap, ap₂, subst, ◌∙◌, arith, inl, inr}
+use Rattle.std.proofs.Common.{◌≡◌, ℕ, zero, suc, ◌+◌, ◌≤◌, ◌<◌, pos, List, [], ◌∷◌, length, map, filter, get_or, Option, Some, None, Ordering, Less, nat_eq, refl, sym, ap, ap₂, ◌∙◌, arith, inl, inr}
 use Rattle.std.specs.List.{AllByRecursion}
 use Rattle.std.specs.List.Sorted.{IsPermutation, IsSorted}
 use Rattle.std.specs.Ordering.{int_cmp, is_lt, ordering_then}
@@ -8,7 +8,7 @@ use Rattle.std.proofs.lemmas.Bool.{cases_lt, eqb-true}
 use Rattle.std.proofs.lemmas.List.{get_or-map, length-map}
 use Rattle.std.proofs.lemmas.List.Sorted.{IsPermutation-map, IsPermutation-trans}
 use Rattle.sqlite_rules.proofs.ListLemmas.{all_from, has_filtered}
-use Rattle.sqlite_trees.proofs.ListLemmas.{all_weaker, all-get_or, ascending-map, ascending_weaker}
+use Rattle.sqlite_trees.proofs.ListLemmas.{all_weaker, all-get_or, ascending-map}
 use Rattle.isad_core.specs.Texts.{Bytes}
 use Rattle.isad_core.specs.declared.values.BoxKey.{BoxKey}
 use Rattle.isad_core.specs.declared.values.Values.{Values}

@@ -1,5 +1,5 @@
 -- Containers of a unit that are told one after another.
-use Rattle.std.proofs.Common.{◌≡◌, ℕ, suc, ◌+◌, List, [], ◌∷◌, ◌++◌, length, map, true, refl, sym, ap, ap₂, subst, ◌∙◌, arith, pos}
+use Rattle.std.proofs.Common.{◌≡◌, ℕ, ◌+◌, List, [], ◌∷◌, ◌++◌, length, map, true, refl, sym, ap, ap₂, subst, ◌∙◌, arith}
 use Rattle.std.specs.Prelude.{unwrap_or}
 use Rattle.std.specs.List.{list_any, list_all}
 use Rattle.std.proofs.lemmas.Bool.{and_parts}
@@ -11,7 +11,7 @@ use Rattle.sqlite.specs.Tree.{Trees, put_row}
 use Rattle.isad_core.specs.declared.values.BoxKey.{BoxKey}
 use Rattle.atom_csv.specs.Values.{distinct, is_same}
 use Rattle.catalogue_store.specs.Adding.{AreHoused, WithHousings, with_boxes}
-use Rattle.catalogue_store.specs.Merging.{number_in, box_number}
+use Rattle.catalogue_store.specs.Merging.{box_number}
 use Rattle.catalogue_store.specs.Put.{put_by}
 use Rattle.catalogue_store.specs.Rows.{HousingRow, housing_row, counted_from}
 use Rattle.catalogue_store.specs.Shows.{ShowsContainers}

@@ -47,6 +47,7 @@ pub mod CellReads
 pub mod TextReads
 pub mod BoxReads
 pub mod FoundUnits
+pub mod KnownBoxes
 pub mod Moves
 pub mod UnitDeletes
 pub mod Removals

@@ -1,5 +1,5 @@
 -- What the tables show after a unit is added.
-use Rattle.std.proofs.Common.{◌≡◌, ◌≢◌, ℕ, ◌+◌, ◌≤◌, pos, List, [], ◌∷◌, length, map, filter, Bool, true, false, not, Option, nat_eq, Equal, refl, sym, ap, subst, ◌∙◌, inl, inr}
+use Rattle.std.proofs.Common.{◌≡◌, ◌≢◌, ℕ, ◌+◌, ◌≤◌, pos, List, [], ◌∷◌, length, filter, Bool, true, false, not, Option, nat_eq, Equal, refl, sym, ap, subst, ◌∙◌, inl, inr}
 use Rattle.std.specs.List.{AllByRecursion, list_any, list_all}
 use Rattle.std.specs.List.Sorted.{IsPermutation}
 use Rattle.std.specs.Ordering.{int_cmp, is_eq}
@@ -19,7 +19,6 @@ use Rattle.tree_core.proofs.Lists.{eqb_comm}
 use Rattle.catalogue_store.specs.Adding.{WithTexts, cell_of, WithHousings, housing_cell, IsDescribed, with_boxes}
 use Rattle.catalogue_store.specs.Describing.{with_unit, KnowsItsContainers}
 use Rattle.catalogue_store.specs.Merging.{Catalogue}
-use Rattle.catalogue_store.specs.Order.{Rises}
 use Rattle.catalogue_store.specs.Put.{put_by}
 use Rattle.catalogue_store.specs.Rows.{office_row, unit_row, by_number, ElementRow, HousingRow}
 use Rattle.catalogue_store.specs.Schema.{Version}

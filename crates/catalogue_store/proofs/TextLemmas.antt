@@ -6,7 +6,7 @@ use Rattle.sqlite.specs.Edit.{next_rowid, is_taken}
 use Rattle.sqlite.specs.Effect.{Database}
 use Rattle.sqlite.specs.Tree.{Trees, put_row}
 use Rattle.isad_core.specs.Texts.{Bytes}
-use Rattle.catalogue_store.specs.Adding.{text_cells, cell_of, WithTexts, AreElements}
+use Rattle.catalogue_store.specs.Adding.{text_cells, WithTexts, AreElements}
 use Rattle.catalogue_store.specs.Put.{put_by}
 use Rattle.catalogue_store.specs.Rows.{ElementRow, element_row}
 use Rattle.catalogue_store.specs.Shows.{texts_from, element_number}

@@ -1,5 +1,5 @@
 -- What the queries answer by which units are described.
-use Rattle.std.proofs.Common.{◌≡◌, ℕ, pos, List, [], ◌∷◌, map, filter, take, codes, true, false, refl, sym, ap, subst, ◌∙◌, nat_eq, Ordering}
+use Rattle.std.proofs.Common.{◌≡◌, ℕ, pos, List, [], ◌∷◌, map, filter, take, codes, true, false, refl, sym, subst, ◌∙◌, nat_eq, Ordering}
 use Rattle.std.specs.Ordering.{int_cmp}
 use Rattle.std.specs.List.Sorted.{IsPermutation, IsSorted}
 use Rattle.isad_core.specs.declared.values.BoxKey.{BoxKey}

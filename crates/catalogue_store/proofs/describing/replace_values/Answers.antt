@@ -1,4 +1,4 @@
-use Rattle.std.proofs.Common.{[], ◌∷◌, map, filter, not, nat_eq, if◌then◌else◌, refl, ◌∙◌}
+use Rattle.std.proofs.Common.{[], ◌∷◌, filter, not, nat_eq, refl, ◌∙◌}
 use Rattle.sqlite.specs.Held.{state}
 use Rattle.catalogue_store.specs.Adding.{IsDescribed}
 use Rattle.catalogue_store.specs.Describing.{with_values}

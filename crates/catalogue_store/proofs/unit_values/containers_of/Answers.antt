@@ -1,4 +1,4 @@
-use Rattle.std.proofs.Common.{◌≡◌, ℕ, List, map, ap, sym, ◌∙◌}
+use Rattle.std.proofs.Common.{◌≡◌, ℕ, map, ap, sym, ◌∙◌}
 use Rattle.sqlite_trees.proofs.ListLemmas.{map-map}
 use Rattle.catalogue_store.specs.Adding.{housing_cell}
 use Rattle.catalogue_store.specs.Rows.{HousingRow}

@@ -1,7 +1,6 @@
 use Rattle.std.proofs.Common.{◌≡◌, List, [], ◌∷◌, map, rules, refl, sym, ap, subst, ◌∙◌}
 use Rattle.std.proofs.lemmas.Iterator.Adapters.{YieldsList-from_vec}
 use Rattle.std.proofs.lemmas.Iterator.Consumers.{YieldsList-end}
-use Rattle.catalogue_store.specs.declared.answer.Element.{Element}
 use Rattle.catalogue_store.proofs.TextReads.{AreTold, all_told, one_told}
 use Rattle.catalogue_store.proofs.unit_values.placed.Goals as goal
 

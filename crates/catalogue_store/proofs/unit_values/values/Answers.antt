@@ -1,4 +1,4 @@
-use Rattle.std.proofs.Common.{◌≡◌, ℕ, List, map, length, rules, refl, sym, ap, subst, ◌∙◌, arith, find, Option, None, Some}
+use Rattle.std.proofs.Common.{◌≡◌, map, length, rules, refl, sym, ap, subst, ◌∙◌, arith}
 use Rattle.std.specs.Prelude.{option_map}
 use Rattle.std.specs.List.Sorted.{IsPermutation}
 use Rattle.std.proofs.lemmas.List.{length-map}
@@ -7,10 +7,9 @@ use Rattle.sqlite.specs.Held.{state}
 use Rattle.sqlite_rules.proofs.ListLemmas.{all_has}
 use Rattle.tree_core.specs.Forest.{nodes}
 use Rattle.catalogue_store.specs.Merging.{box_number}
-use Rattle.catalogue_store.specs.Rows.{element_row, housing_row}
 use Rattle.catalogue_store.specs.Shows.{ShowsContainers, element_cells, elements_of, housing_cells, housings_of}
 use Rattle.catalogue_store.specs.Step.{IsCut}
-use Rattle.catalogue_store.specs.Units.{Unit, has_id}
+use Rattle.catalogue_store.specs.Units.{Unit}
 use Rattle.catalogue_store.specs.declared.unit_values.UnitValues.{UnitValues}
 use Rattle.catalogue_store.proofs.Calls.{cut_then, early, goes_then, looks_then}
 use Rattle.catalogue_store.proofs.FoundUnits.{none_found, one_found}
