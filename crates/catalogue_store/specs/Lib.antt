@@ -3,6 +3,8 @@ pub mod Merging
 pub mod Publishing
 pub mod Schema
 pub mod Step
+pub mod Faults
+pub mod Legible
 pub mod Transactions
 pub mod Rows
 pub mod Shows
@@ -14,8 +16,11 @@ pub mod Statuses
 pub mod Moves
 pub mod Removals
 pub mod Adding
+pub mod Describing
 pub mod Creation
 pub mod Order
 pub mod Tests
 pub mod Text
 pub mod Housing
+pub mod Marking
+pub mod Marked

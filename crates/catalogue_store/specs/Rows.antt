@@ -106,3 +106,7 @@ link_row l = Int (pos l.id) ∷ Null ∷ or_null Int (option_map pos l.parent) �
 
 abbrev pub by_id : Link → Link → Ordering
 by_id a b = int_cmp (pos a.id) (pos b.id)
+
+-- by their place among siblings, then by their number
+abbrev pub by_place : Link → Link → Ordering
+by_place a b = ordering_then (int_cmp (pos a.ord) (pos b.ord)) (int_cmp (pos a.id) (pos b.id))

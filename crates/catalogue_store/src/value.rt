@@ -9,6 +9,9 @@ ghost use Rattle.catalogue_store.specs.Rows.{flag};
 use isad_core::{Day, Text};
 use sqlite::types::ValueRef;
 
+/// Nothing has this number or a greater one.
+pub(crate) const NO_NUMBER: u64 = 1 << 63;
+
 pub(crate) fn number<'a>(n: u64) -> ValueRef<'a>
     requires { n < 2 ^ 63 }
     ensures { owned result ≡ Int (pos n) }

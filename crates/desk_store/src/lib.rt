@@ -4,3 +4,6 @@
 mod making;
 
 pub use making::create_desk;
+
+#[cfg(test)]
+mod tests;

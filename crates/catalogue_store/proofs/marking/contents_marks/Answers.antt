@@ -1,0 +1,31 @@
+use Rattle.std.proofs.Common.{List, ℕ, map, sym, subst, ◌∙◌}
+use Rattle.std.proofs.lemmas.Result.{IfOk-weaker}
+use Rattle.sqlite.specs.Held.{state}
+use Rattle.sqlite.specs.Effect.{Database}
+use Rattle.catalogue_store.specs.Marking.{AreAttached, AreMarksOfEach}
+use Rattle.catalogue_store.specs.Shows.{Shows}
+use Rattle.catalogue_store.specs.Step.{Looks}
+use Rattle.catalogue_store.specs.Units.{Unit}
+use Rattle.catalogue_store.proofs.Calls.{early, office_of}
+use Rattle.catalogue_store.proofs.MarkForests.{if_ok_with}
+use Rattle.catalogue_store.proofs.marking.contents_marks.Goals as goal
+
+pub attached_units-requires-clause-inside : goal.attached_units-requires-clause-inside
+attached_units-requires-clause-inside g c = office_of g.P.Places.version (state g.S.Store c.args.conn.now) c.requires.inside
+
+pub returns-clause-answers : goal.returns-clause-answers
+returns-clause-answers g c clean o k it =
+    let a = state g.S.Store c.args.conn.now in
+    let b = state g.S.Store c.attached_units.new.conn in
+    let d = state g.S.Store c.marks_of_each.new.conn in
+    let ids = λ (units : List Unit). map (λ (u : Unit). u.id) units in
+    if_ok_with c.marks_of_each.result (Looks b d) (λ found. (units : List Unit) × AreAttached k c.args.container units × AreMarksOfEach k.forest (ids units) found.items)
+    (λ last.
+    let before = early b d _ last.goes.on.crash clean in
+    let still = sym (c.in_ok-units.ensures.looks.same before) in
+    let got = c.in_ok-units.ensures.answers before k it.catalogue.units it.catalogue.housings in
+    let same = c.deref.ensures.value ∙ got.2 in
+    IfOk-weaker c.marks_of_each.result (λ found. AreMarksOfEach k.forest c.deref.result.now found.items) (λ found. (units : List Unit) × AreAttached k c.args.container units × AreMarksOfEach k.forest (ids units) found.items)
+    (λ found each. (got.0, got.1, subst (λ (l : List ℕ). AreMarksOfEach k.forest l found.items) same each))
+    (c.marks_of_each.ensures.answers clean o k (subst (λ (db : Database). Shows g.P.Places.shows g.P.Places.version db o k) still it)))
+    c.marks_of_each.ensures.looks

@@ -1,0 +1,17 @@
+use Rattle.std.proofs.Common.{take}
+use Rattle.sqlite.specs.Held.{state}
+use Rattle.sqlite.specs.State.{HasCleanDisk}
+use Rattle.catalogue_store.specs.Marking.{AreMarksOfEach}
+use Rattle.catalogue_store.specs.Merging.{Catalogue}
+use Rattle.catalogue_store.specs.Shows.{Shows}
+use Rattle.catalogue_store.specs.Step.{InTransaction, Looks}
+use Rattle.catalogue_store.specs.declared.office.OfficeRow.{OfficeRow}
+use Rattle.catalogue_store.proofs.marking.marks_of_each.Given as goal
+
+abbrev pub invariant-loop-unit : goal.invariant-loop-unit
+invariant-loop-unit g l = record {
+  inside : InTransaction g.P.Places.version (state g.S.Store l.initial.conn);
+  looks : Looks (state g.S.Store l.initial.conn) (state g.S.Store l.conn);
+  so_far : HasCleanDisk (state g.S.Store l.conn) → (o : OfficeRow) (c : Catalogue) → Shows g.P.Places.shows g.P.Places.version (state g.S.Store l.initial.conn).now o c
+      → AreMarksOfEach c.forest (take l.unit-index l.units) l.found.items;
+}
