@@ -106,6 +106,35 @@ E=[
 ('a level beside its own is remarked on',O+'Intake.antt','is_level_above (Some rank) (Some other) = nat_lt rank other','is_level_above (Some rank) (Some other) = nat_lt rank (1 + other)'),
 ('no remark on tops',O+'Intake.antt','remark_if (lacks_essential top.values) (LacksEssential row)','[]'),
 ('a status comes with the file',C+'Merging.antt','    then record unit { values','    then record unit { draft = not unit.draft; values'),
+# rows of doubtful origin: the desk's causes
+('tickets in any numbers',O+'DeskCauses.antt','are_numbered_from (λ (row : ReaderRow). row.ticket) 1 t.readers &&','true &&'),
+('a reader with any name',O+'DeskCauses.antt','is_name row.name && is_day_number row.until','is_day_number row.until'),
+('a ticket for ever',O+'DeskCauses.antt','is_name row.name && is_day_number row.until','is_name row.name'),
+('a seat that the office has not',O+'DeskCauses.antt','is_between 1 t.office.seats row.seat &&','true &&'),
+('a stranger on a seat',O+'DeskCauses.antt','is_between 1 t.office.seats row.seat && is_registered t row.ticket','is_between 1 t.office.seats row.seat'),
+('a permit of a stranger',O+'DeskCauses.antt','is_registered t row.ticket && (is_unit_there t row.unit','true && (is_unit_there t row.unit'),
+('a permit for no unit',O+'DeskCauses.antt','(is_unit_there t row.unit &&','(true &&'),
+('permits without a limit',O+'DeskCauses.antt','nat_le (count_by (λ (other : PermitRow). nat_eq other.ticket row.ticket) t.permits) most_permits','true'),
+('orders in any numbers',O+'DeskCauses.antt','are_numbered_from (λ (row : OrderRow). row.id) 1 t.orders','true'),
+('an order of a stranger',O+'DeskCauses.antt','is_registered t row.ticket && (is_container_there','true && (is_container_there'),
+('an order for no container',O+'DeskCauses.antt','(is_container_there t row.container && (is_between 1 4','(true && (is_between 1 4'),
+('an order in a fifth state',O+'DeskCauses.antt','is_between 1 4 row.state','is_between 1 5 row.state'),
+('an order of tomorrow',O+'DeskCauses.antt','(int_le row.day t.office.day\n    && (nat_le (count_by (is_of_the_day','(true\n    && (nat_le (count_by (is_of_the_day'),
+('orders of a day without a limit',O+'DeskCauses.antt','nat_le (count_by (is_of_the_day row) t.orders) t.office.daily','true'),
+('an order twice',O+'DeskCauses.antt','not (list_any (are_twice row) t.orders)','true'),
+('a done order counts as live',O+'DeskCauses.antt','is_live row = is_between 1 2 row.state','is_live row = is_between 1 3 row.state'),
+('a holding of no container',O+'DeskCauses.antt','is_container_there t row.container && (is_at_desk row','true && (is_at_desk row'),
+('an order named at the desk',O+'DeskCauses.antt','nat_eq row.place 1 && is_none row.held_by','nat_eq row.place 1'),
+('a done order holds a container',O+'DeskCauses.antt','nat_eq row.id o && (nat_eq row.container c && nat_eq row.state 2)','nat_eq row.id o && nat_eq row.container c'),
+('out with an order for another container',O+'DeskCauses.antt','nat_eq row.id o && (nat_eq row.container c && nat_eq row.state 2)','nat_eq row.id o && nat_eq row.state 2'),
+('an order that is out without its container',O+'DeskCauses.antt','list_all (is_good_holding t) t.holdings && list_all (has_its_holding t) t.orders','list_all (is_good_holding t) t.holdings'),
+('runs in any numbers',O+'DeskCauses.antt','are_numbered_from (λ (row : RunRow). row.id) 1 t.runs &&','true &&'),
+('a run of nothing',O+'DeskCauses.antt','is_between 1 t.office.run_size (count_by','is_between 0 t.office.run_size (count_by'),
+('a line of no run',O+'DeskCauses.antt','list_any (λ (row : RunRow). nat_eq row.id line.run) t.runs &&','true &&'),
+('a line of another ticket',O+'DeskCauses.antt','(nat_eq row.container line.container && nat_eq row.ticket line.ticket)','nat_eq row.container line.container'),
+('a holder without a seat',O+'DeskCauses.antt','is_seated s ticket && (nat_le','true && (nat_le'),
+('hands without a limit',O+'DeskCauses.antt','nat_le (held s ticket) s.settings.hands && opens','true && opens'),
+('closed to its holder',O+'DeskCauses.antt','(nat_le (held s ticket) s.settings.hands && opens s ticket c)','(nat_le (held s ticket) s.settings.hands)'),
 # what is shown
 ('closed units are shown whole',O+'Queries.antt','public_of s.day s.forest','public_of (Rattle.std.specs.Prelude.pos 4000000) s.forest'),
 ('every element is found above',O+'Pages.antt','cond (is_found_above element) (nearest_value element higher) None','nearest_value element higher'),
@@ -143,7 +172,7 @@ E=[
 ('containers of a unit with a gap',O+'CatalogueCauses.antt','is_between 1 (length (housings_of row.unit t.housings)) row.ord','nat_le 1 row.ord'),
 ('the second cause before the first',O+'CatalogueCauses.antt','office_is_bad version t ∷ places_are_bad version t ∷','places_are_bad version t ∷ office_is_bad version t ∷'),
 ]
-ROWS=['worked_rows','worked_answers','worked_catalogue_causes']  # the functions of office::worked whose rows are looked at first
+ROWS=['worked_rows','worked_answers','worked_catalogue_causes','worked_desk_causes']  # the functions of office::worked whose rows are looked at first
 def run(cmd,cwd):
     p=subprocess.run(cmd,cwd=cwd,capture_output=True,text=True); return p.stdout+p.stderr
 def errors(out):
