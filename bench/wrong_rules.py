@@ -117,32 +117,46 @@ E=[
 ('ended orders are listed',O+'Queries.antt','is_by s t o && (waits s o || is_out_now s o)','is_by s t o'),
 ('keys of an import in another order',O+'Json.antt','((codes "changed", count changed)\n    ∷ (codes "new", count new)','((codes "new", count new)\n    ∷ (codes "changed", count changed)'),
 ]
+ROWS=['worked_rows','worked_answers']  # the functions of office::worked whose rows are looked at first
 def run(cmd,cwd):
     p=subprocess.run(cmd,cwd=cwd,capture_output=True,text=True); return p.stdout+p.stderr
+def errors(out):
+    return sorted(set(m.group(1)+'.'+m.group(2) for m in re.finditer(r'proofs/([\w/]+)\.antt:\d+:\d+: error: `([\w-]+)`',out)))
+def rows_say(office):
+    """What the worked rows alone say: the names of those that fail, or none. They are quick."""
+    out=''
+    for row in ROWS:
+        out=run(['rt','check','--jobs','1','--allow-holes','--only','office::worked::'+row],office)
+        if 'error' in out: break
+    return out
+def proofs_say(office):
+    return run(['rt','check','--jobs','1'],office)
+def tried(label,f,office):
+    t=time.time()
+    if f.startswith(C):
+        out=run(['rt','lib'],W+'/crates/catalogue_store')
+        if 'logic=proved' not in out: return f'refused {time.time()-t:4.1f}s | {label} | catalogue_store: {", ".join(errors(out))}',False
+    out=rows_say(office)
+    if 'error' not in out: out=proofs_say(office)
+    spec=[l for l in out.split('\n') if 'error' in l and '/specs/' in l]
+    dt=time.time()-t
+    if spec: return f'DOES NOT READ | {label} | {spec[0][:200]}',False
+    if 'logic=proved' in out: return f'LET THROUGH {dt:4.1f}s | {label}',True
+    return f'refused {dt:4.1f}s | {label} | {", ".join(errors(out)) or out[-300:]}',False
 if __name__=='__main__':
-    only=sys.argv[1:] 
-    subprocess.run(['cp','-r',SRC,W])
+    only=sys.argv[1:]
+    subprocess.run(['cp','-a',SRC,W])
+    kept=W+'/crates/catalogue_store/out'
+    subprocess.run(['cp','-a',kept,kept+'.kept'])
     passed=[]; n=0
     for label,f,old,new in E:
         if only and not any(o in label for o in only): continue
         p=W+'/'+f; orig=open(p).read()
-        if old not in orig: print(f'NOT APPLIED | {label}',flush=True); continue
-        s=orig.replace(old,new,1)
-        open(p,'w').write(s); n+=1
-        t=time.time()
-        out=''
-        if f.startswith(C):
-            out=run(['rt','lib'],W+'/crates/catalogue_store')
-        o2=run(['rt','check'],W+'/crates/office') if ('logic=proved' in out or not f.startswith(C)) else out
-        dt=time.time()-t
-        spec_err=[l for l in o2.split('\n') if 'error' in l and '/specs/' in l]
-        names=sorted(set(m.group(1)+'.'+m.group(2) for m in re.finditer(r'proofs/([\w/]+)\.antt:\d+:\d+: error: `([\w-]+)`',o2)))
-        rows=[x for x in names if x.startswith('Rows.') or x.startswith('AnswerRows.')]
-        others=[x for x in names if not(x.startswith('Rows.') or x.startswith('AnswerRows.')) and '/' not in x]
-        if 'logic=proved' in o2:
-            print(f'LET THROUGH {dt:4.1f}s | {label}',flush=True); passed.append(label)
-        elif spec_err: print(f'DOES NOT READ | {label} | {spec_err[0][:200]}',flush=True)
-        else: print(f'refused {dt:4.1f}s | {label} | rows: {", ".join(rows)} | proofs: {", ".join(others)}',flush=True)
+        if orig.count(old)!=1: print(f'NOT APPLIED | {label}',flush=True); continue
+        open(p,'w').write(orig.replace(old,new,1)); n+=1
+        line,through=tried(label,f,W+'/crates/office')
+        print(line,flush=True)
+        if through: passed.append(label)
         open(p,'w').write(orig)
-        if f.startswith(C): run(['rt','lib'],W+'/crates/catalogue_store')
+        if f.startswith(C): subprocess.run(f'rm -rf {kept} && cp -a {kept}.kept {kept}',shell=True)
     print(f'{n} tried, {len(passed)} let through: {passed}')

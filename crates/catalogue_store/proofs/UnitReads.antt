@@ -1,9 +1,10 @@
 -- What the queries answer by which units are described.
-use Rattle.std.proofs.Common.{◌≡◌, ℕ, pos, List, [], ◌∷◌, map, filter, take, codes, true, false, refl, ap, subst, ◌∙◌, nat_eq, Ordering}
+use Rattle.std.proofs.Common.{◌≡◌, ℕ, pos, List, [], ◌∷◌, map, filter, take, codes, true, false, refl, sym, ap, subst, ◌∙◌, nat_eq, Ordering}
 use Rattle.std.specs.Ordering.{int_cmp}
 use Rattle.std.specs.List.Sorted.{IsPermutation, IsSorted}
 use Rattle.isad_core.specs.declared.values.BoxKey.{BoxKey}
 use Rattle.sqlite.specs.declared.types.Value.TheVariants.{Null, Int, Text}
+use Rattle.std.proofs.lemmas.List.{take-map}
 use Rattle.sqlite.specs.Order.{Row}
 use Rattle.sqlite.specs.Term.{col, op2}
 use Rattle.sqlite.specs.Query.{inner, end, key_cmp}
@@ -25,7 +26,7 @@ use Rattle.catalogue_store.specs.Rows.{unit_row, by_number, container_row}
 use Rattle.catalogue_store.proofs.Tests.{only, same_number, by_one_int}
 use Rattle.catalogue_store.proofs.Rows.{kept_all}
 use Rattle.catalogue_store.proofs.Queries.{plain_query, answers}
-use Rattle.catalogue_store.proofs.Limits.{first_query, first_answers}
+use Rattle.catalogue_store.proofs.Limits.{limited_query, first_answers}
 
 abbrev descending : Key
 descending = record { collation = Binary; descending = true }
@@ -36,7 +37,7 @@ abbrev pub last_container_text : List ℕ
 last_container_text = codes "SELECT id FROM container ORDER BY id DESC LIMIT 1"
 
 abbrev pub last_container_command : Command
-last_container_command = Select (record { lets = []; body = first_query 1 (inner 18 end) [] (col 1 0 ∷ []) ((col 1 0, descending) ∷ []) }) (codes "id" ∷ [])
+last_container_command = Select (record { lets = []; body = limited_query (inner 18 end) [] (col 1 0 ∷ []) ((col 1 0, descending) ∷ []) 1 }) (codes "id" ∷ [])
 
 pub last_container_is : (v : Version) → command_of (understood (schema v) last_container_text) ≡ last_container_command
 unfolding understood everything
@@ -64,10 +65,10 @@ pub last_container_rows : (old new : State) (xs : List (ℕ × BoxKey)) (rows : 
     → (ys : List (ℕ × BoxKey)) × IsPermutation xs ys × IsSorted from_the_last ys × (rows ≡ take 1 (map (λ c. Int (pos c.0) ∷ []) ys))
 last_container_rows old new xs rows v has stored shown =
     let read = reads_as last_container_text [] old new (schema v) has last_container_command (last_container_is v) (last_container_plain v) (last_container_unlisted v) rows shown in
-    let got = first_answers 1 18 [] (col 1 0 ∷ []) ((col 1 0, descending) ∷ []) old.now.trees []
+    let got = first_answers 18 [] (col 1 0 ∷ []) ((col 1 0, descending) ∷ []) old.now.trees []
     container_row xs (λ _. true) (λ c. Int (pos c.0) ∷ []) (λ (c : ℕ × BoxKey). Int (pos c.0) ∷ []) from_the_last
-    stored (λ _. refl) (λ _. refl) (λ _. refl) by_one_back rows (read.answer Null) in
-    (got.0, subst (λ l. IsPermutation l got.0) (kept_all xs) got.1, got.2, got.3)
+    stored (λ _. refl) (λ _. refl) (λ _. refl) by_one_back 1 rows (read.answer Null) in
+    (got.0, subst (λ l. IsPermutation l got.0) (kept_all xs) got.1, got.2, got.3 ∙ sym (take-map (λ (c : ℕ × BoxKey). Int (pos c.0) ∷ []) 1 got.0))
 
 -- ---- units
 

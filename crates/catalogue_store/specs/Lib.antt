@@ -13,7 +13,9 @@ pub mod Finding
 pub mod Put
 pub mod Counting
 pub mod Statuses
+pub mod Moves
 pub mod Adding
+pub mod Describing
 pub mod Creation
 pub mod Order
 pub mod Tests

@@ -1,7 +1,8 @@
 //! Rows that a query answers, read one by one.
 
-ghost use Rattle.std.specs.Prelude.{◌≡◌, List, map, IfOk, IfErr};
+ghost use Rattle.std.specs.Prelude.{◌≡◌, ℕ, pos, List, [], ◌∷◌, map, slice_index_or, IfOk, IfErr};
 ghost use Rattle.std.specs.List.{AllByRecursion};
+ghost use Rattle.sqlite.specs.declared.types.Value.TheVariants.{Int};
 
 use crate::fault::StoreFault;
 use crate::office::OfficeRow;
@@ -78,6 +79,19 @@ impl FromRow for Status {
             draft: row.get(0)?,
             until: row.get(1)?,
         })
+    }
+}
+
+impl FromRow for Text {
+    ghost use Rattle.std.specs.Prelude.{[], ◌∷◌, IsUtf8};
+    ghost use Rattle.sqlite.specs.declared.types.Value.TheVariants.{Text as words_cell};
+
+    ghost cells = { λ t. words_cell t ∷ [] };
+
+    ghost is_legible = { λ t. IsUtf8 t };
+
+    fn read(row: &Row) -> Result<Text, StoreFault> {
+        Ok(Text(row.get(0)?))
     }
 }
 
@@ -199,4 +213,14 @@ pub(crate) fn read_all<T: FromRow + Drop>(alloc: Global, rows: &[Row]) -> Result
         all.push(T::read(row)?)?;
     }
     Ok(all)
+}
+
+/// The number in the first row, or 0 where there is none.
+pub(crate) fn first_or_zero(rows: &[Row]) -> Result<u32, StoreFault>
+    ensures { (xs : List ℕ) → rows.now ≡ map (λ n. Int (pos n) ∷ []) xs → IfOk result (λ n. n ≡ slice_index_or xs 0 0) }
+{
+    match rows.first() {
+        Some(row) => Ok(row.get(0)?),
+        None => Ok(0),
+    }
 }

@@ -14,7 +14,7 @@ ghost use Rattle.catalogue_store.specs.Schema.{Version};
 ghost use Rattle.catalogue_store.specs.Shows.{Shows, ShowsOffice};
 ghost use Rattle.catalogue_store.specs.Units.{«Unit» as Described};
 ghost use Rattle.catalogue_store.specs.declared.office.OfficeRow.{OfficeRow};
-ghost use Rattle.catalogue_store.specs.Step.{InOffice, InTransaction, Goes, Looks, IsCut, PutsRow};
+ghost use Rattle.catalogue_store.specs.Step.{InOffice, InTransaction, Goes, Looks, IsCut, PutsRow, HasRows};
 
 use crate::answer::read_all;
 use crate::fault::StoreFault;
@@ -69,6 +69,21 @@ pub(crate) fn insert_office<P: Places, S: Alter>(
             day(row.day),
             number(row.next_unit),
         ],
+    )?;
+    Ok(())
+}
+
+/// Writes the number of the next new unit.
+pub(crate) fn set_next_unit<S: Alter>(conn: &mut Connection<S>, next: u64) -> Result<(), StoreFault>
+    requires inside { InOffice (state S.Store conn.old) }
+    requires small { next < 2 ^ 63 }
+    ensures goes { OnOk result (Goes (state S.Store conn.old) (state S.Store conn.new)) }
+    ensures rows { HasCleanDisk (state S.Store conn.new) → (version : Version) (o : OfficeRow) → ShowsOffice version (state S.Store conn.old).now.trees o → OnOk result (HasRows 13 (row_of_office version (record o { next_unit = next }) ∷ []) (state S.Store conn.old).now (state S.Store conn.new).now) }
+    ensures cut { OnErr result (IsCut (state S.Store conn.old) (state S.Store conn.new)) }
+{
+    conn.execute(
+        "UPDATE office SET next_unit = ?1 WHERE one = 1",
+        &[number(next)],
     )?;
     Ok(())
 }

@@ -1,169 +1,195 @@
--- Rows taken by a number of each: those of one number after those of another are all of them.
-use Rattle.std.proofs.Common.{◌≡◌, ℕ, zero, suc, ◌+◌, ◌<◌, ◌≤◌, Bool, true, false, cond, not, ◌&&◌, List, [], ◌∷◌, ◌++◌, length, Option, Some, None, refl, sym, ap, ◌∙◌, subst, ◌⊎◌, inl, inr, arith, nat_eq, map}
-use Rattle.std.specs.Prelude.{filter, find}
-use Rattle.std.specs.List.{list_any, list_all, flat_map, IsDistinct, AllByRecursion}
-use Rattle.std.specs.Option.{option_to_list}
-use Rattle.std.specs.List.Sorted.{IsPermutation}
-use Rattle.std.proofs.lemmas.Bool.{cases_eq, false≢true, eq-eqb, eqb-true, and_parts, and_from, or_cases, or_parts, or_from}
+-- Rows in ascending order of a number: what is found by each number in turn is all of them.
+use Rattle.std.proofs.Common.{◌≡◌, ◌≢◌, ℕ, zero, suc, ◌+◌, ◌<◌, ◌≤◌, Bool, true, false, not, cond, ◌&&◌, ◌||◌, List, [], ◌∷◌, ◌++◌, Some, None, refl, sym, ap, ◌∙◌, subst, inl, inr, arith}
+use Rattle.std.specs.Prelude.{map, filter, filter_map, find, nat_eq}
+use Rattle.std.specs.List.{list_any, flat_map, cons_option}
+use Rattle.std.proofs.lemmas.Bool.{eqb-true, cases_eq, false≢true}
 use Rattle.std.proofs.lemmas.List.Concat.{flat_map-cons}
-use Rattle.std.proofs.lemmas.List.Sorted.{IsPermutation-refl, IsPermutation-trans, IsPermutation-sym, IsPermutation-append, IsPermutation-filter_both}
-use Rattle.tree_core.proofs.Lists.{In, In-map, head_apart, any_from_In, distinct_cons}
-use Rattle.tree_core.proofs.Repeats.{distinct_repeats}
+use Rattle.office.specs.Secrecy.{StandsIn}
 use Rattle.office.specs.Laws.{numbers_from}
-use Rattle.office.specs.Words.{stands}
+use Rattle.office.specs.DeskCauses.{AreInOrder}
 use Rattle.office.proofs.Words.{same_number, other_number}
+use Rattle.office.proofs.Members.{all_in, all_of_in, in_filter, in_map}
 
--- ---- what stands in a list
+module _ {X : Type 0} where
+  -- filters
 
-pub all_in : {X : Type 0} (p : X → Bool) (xs : List X) (x : X) → list_all p xs ≡ true → In x xs → p x ≡ true
-all_in p [] x h i = absurd i
-all_in p (y ∷ ys) x h (inl e) = ap p e ∙ (and_parts (p y) (list_all p ys) h).0
-all_in p (y ∷ ys) x h (inr i) = all_in p ys x (and_parts (p y) (list_all p ys) h).1 i
+  pub filter_none : (p : X → Bool) (xs : List X) → ((x : X) → StandsIn x xs → p x ≡ false) → filter p xs ≡ []
+  filter_none p [] f = refl
+  filter_none p (x ∷ xs) f = ap (λ b. cond b (x ∷ filter p xs) (filter p xs)) (f x (inl refl)) ∙ filter_none p xs (λ y k. f y (inr k))
 
-pub in_all : {X : Type 0} (p : X → Bool) (xs : List X) → ((x : X) → In x xs → p x ≡ true) → list_all p xs ≡ true
-in_all p [] h = refl
-in_all p (y ∷ ys) h = and_from (p y) (list_all p ys) (h y (inl refl)) (in_all p ys (λ x i. h x (inr i)))
+  pub filter_all : (p : X → Bool) (xs : List X) → ((x : X) → StandsIn x xs → p x ≡ true) → filter p xs ≡ xs
+  filter_all p [] f = refl
+  filter_all p (x ∷ xs) f = ap (λ b. cond b (x ∷ filter p xs) (filter p xs)) (f x (inl refl)) ∙ ap (λ l. x ∷ l) (filter_all p xs (λ y k. f y (inr k)))
 
-pub each_in : {X : Type 0} (P : X → Type 0) (xs : List X) (x : X) → AllByRecursion P xs → In x xs → P x
-each_in P [] x h i = absurd i
-each_in P (y ∷ ys) x h (inl e) = subst P (sym e) h.0
-each_in P (y ∷ ys) x h (inr i) = each_in P ys x h.1 i
+  -- what the first test lets through, where the second does
+  pub filter_filter : (p q : X → Bool) (xs : List X) → ((x : X) → p x ≡ true → q x ≡ true) → filter p (filter q xs) ≡ filter p xs
+  filter_filter p q [] f = refl
+  filter_filter p q (x ∷ xs) f = at (q x) (p x) refl refl (filter_filter p q xs f)
+    where
+      at : (b c : Bool) → q x ≡ b → p x ≡ c → filter p (filter q xs) ≡ filter p xs → filter p (cond b (x ∷ filter q xs) (filter q xs)) ≡ cond c (x ∷ filter p xs) (filter p xs)
+      at true true a e h = ap (λ d. cond d (x ∷ filter p (filter q xs)) (filter p (filter q xs))) e ∙ ap (λ l. x ∷ l) h
+      at true false a e h = ap (λ d. cond d (x ∷ filter p (filter q xs)) (filter p (filter q xs))) e ∙ h
+      at false true a e h = absurd (false≢true (sym a ∙ f x e))
+      at false false a e h = h
 
-pub in_each : {X : Type 0} (P : X → Type 0) (xs : List X) → ((x : X) → In x xs → P x) → AllByRecursion P xs
-in_each P [] h = tt
-in_each P (y ∷ ys) h = (h y (inl refl), in_each P ys (λ x i. h x (inr i)))
+  pub any_filter : (p q : X → Bool) (xs : List X) → list_any p (filter q xs) ≡ list_any (λ x. p x && q x) xs
+  any_filter p q [] = refl
+  any_filter p q (x ∷ xs) = at (q x) (p x) refl (any_filter p q xs)
+    where
+      at : (b c : Bool) → p x ≡ c → list_any p (filter q xs) ≡ list_any (λ x. p x && q x) xs → list_any p (cond b (x ∷ filter q xs) (filter q xs)) ≡ ((c && b) || list_any (λ x. p x && q x) xs)
+      at true true e h = ap (λ d. d || list_any p (filter q xs)) e
+      at true false e h = ap (λ d. d || list_any p (filter q xs)) e ∙ h
+      at false true e h = h
+      at false false e h = h
 
-pub stands_in : (n : ℕ) (ns : List ℕ) → stands n ns ≡ true → In n ns
-stands_in n [] h = absurd (false≢true h)
-stands_in n (m ∷ ms) h = elim (or_cases (nat_eq n m) (stands n ms) h) [ inl e ↦ inl (eqb-true n m e) | inr k ↦ inr (stands_in n ms k) ]
+  -- orders
 
--- what stands in a mapped list comes from the list
-pub record From {X Y : Type 0} (g : X → Y) (xs : List X) (y : Y) : Type 0 where
-  pub it : X
-  pub there : In it xs
-  pub is : g it ≡ y
+  pub order_weaker : (B C : X → X → Type 0) (xs : List X) → ((x y : X) → B x y → C x y) → AreInOrder B xs → AreInOrder C xs
+  order_weaker B C [] f h = tt
+  order_weaker B C (x ∷ xs) f h = (all_of_in (C x) xs (λ y k. f x y (all_in (B x) xs y h.0 k)), order_weaker B C xs f h.1)
 
-pub in_map : {X Y : Type 0} (g : X → Y) (xs : List X) (y : Y) → In y (map g xs) → From g xs y
-in_map g [] y i = absurd i
-in_map g (x ∷ xs) y (inl e) = record { it = x; there = inl refl; is = sym e }
-in_map g (x ∷ xs) y (inr i) = let r = in_map g xs y i in record { it = r.it; there = inr r.there; is = r.is }
+  pub order-filter : (B : X → X → Type 0) (p : X → Bool) (xs : List X) → AreInOrder B xs → AreInOrder B (filter p xs)
+  order-filter B p [] h = tt
+  order-filter B p (x ∷ xs) h = at (p x) (order-filter B p xs h.1)
+    where
+      at : (b : Bool) → AreInOrder B (filter p xs) → AreInOrder B (cond b (x ∷ filter p xs) (filter p xs))
+      at true k = (all_of_in (B x) (filter p xs) (λ y m. all_in (B x) xs y h.0 (in_filter p xs y m).0), k)
+      at false k = k
 
-pub in_filter : {X : Type 0} (p : X → Bool) (xs : List X) (x : X) → In x (filter p xs) → In x xs × (p x ≡ true)
-in_filter p [] x i = absurd i
-in_filter {X} p (y ∷ ys) x i = at (p y) refl i (λ k. in_filter p ys x k)
-  where
-    at : (b : Bool) → p y ≡ b → In x (cond b (y ∷ filter p ys) (filter p ys)) → (In x (filter p ys) → In x ys × (p x ≡ true)) → In x (y ∷ ys) × (p x ≡ true)
-    at true e (inl same) f = (inl same, ap p same ∙ e)
-    at true e (inr k) f = let r = f k in (inr r.0, r.1)
-    at false e k f = let r = f k in (inr r.0, r.1)
+  pub order-map : {Y : Type 0} (B : X → X → Type 0) (C : Y → Y → Type 0) (f : X → Y) (xs : List X) → ((x y : X) → StandsIn x xs → StandsIn y xs → B x y → C (f x) (f y)) → AreInOrder B xs → AreInOrder C (map f xs)
+  order-map B C f [] g h = tt
+  order-map B C f (x ∷ xs) g h = (
+    all_of_in (C (f x)) (map f xs) (λ y k.
+        let i = in_map f xs y k in
+        subst (C (f x)) (sym i.2) (g x i.0 (inl refl) (inr i.1) (all_in (B x) xs i.0 h.0 i.1))),
+    order-map B C f xs (λ a b k l. g a b (inr k) (inr l)) h.1,
+  )
 
-pub filter_in : {X : Type 0} (p : X → Bool) (xs : List X) (x : X) → In x xs → p x ≡ true → In x (filter p xs)
-filter_in p [] x i t = absurd i
-filter_in p (y ∷ ys) x (inl e) t = subst (λ b. In x (cond b (y ∷ filter p ys) (filter p ys))) (sym (sym (ap p e) ∙ t)) (inl e)
-filter_in p (y ∷ ys) x (inr i) t = elim (p y) as (λ b. In x (cond b (y ∷ filter p ys) (filter p ys))) [ true ↦ inr (filter_in p ys x i t) | false ↦ filter_in p ys x i t ]
-
--- ---- lists of lists
-
-pub flat_map_same : {X Y : Type 0} (f g : X → List Y) (xs : List X) → ((x : X) → In x xs → f x ≡ g x) → flat_map f xs ≡ flat_map g xs
-flat_map_same f g [] h = refl
-flat_map_same f g (x ∷ xs) h =
-    flat_map-cons f x xs
-    ∙ (ap (λ l. l ++ flat_map f xs) (h x (inl refl))
-    ∙ (ap (λ l. g x ++ l) (flat_map_same f g xs (λ y i. h y (inr i))) ∙ sym (flat_map-cons g x xs)))
-
-pub flat_map_reordered : {X Y : Type 0} (f g : X → List Y) (xs : List X) → ((x : X) → In x xs → IsPermutation (f x) (g x)) → IsPermutation (flat_map f xs) (flat_map g xs)
-flat_map_reordered f g [] h = IsPermutation-refl []
-flat_map_reordered f g (x ∷ xs) h =
-    subst (λ l. IsPermutation l (flat_map g (x ∷ xs))) (sym (flat_map-cons f x xs))
-    (subst (IsPermutation (f x ++ flat_map f xs)) (sym (flat_map-cons g x xs))
-    (IsPermutation-append (f x) (g x) (flat_map f xs) (flat_map g xs) (h x (inl refl)) (flat_map_reordered f g xs (λ y i. h y (inr i)))))
-
--- ---- rows by a number
+  pub found : (p : X → Bool) (xs : List X) (x : X) → find p xs ≡ Some x → StandsIn x xs × (p x ≡ true)
+  found p [] x e = absurd (cc)
+  found p (y ∷ ys) x e = at (p y) refl (found p ys x) e
+    where
+      at : (b : Bool) → p y ≡ b → (find p ys ≡ Some x → StandsIn x ys × (p x ≡ true)) → cond b (Some y) (find p ys) ≡ Some x → StandsIn x (y ∷ ys) × (p x ≡ true)
+      at true q f e = let s : y ≡ x = cc in (inl (sym s), ap p (sym s) ∙ q)
+      at false q f e = let r = f e in (inr r.0, r.1)
 
 module _ {R : Type 0} (key : R → ℕ) where
-  abbrev has_key : ℕ → R → Bool
-  has_key n r = nat_eq (key r) n
+  -- two rows with one number are one
+  pub same_row : (rows : List R) (a b : R) → AreInOrder (λ x y. key x ≢ key y) rows → StandsIn a rows → StandsIn b rows → key a ≡ key b → a ≡ b
+  same_row [] a b h k l e = absurd k
+  same_row (r ∷ rows) a b h k l e =
+      elim k [
+        | inl x ↦ elim l [
+          | inl y ↦ x ∙ sym y
+          | inr m ↦ absurd (all_in (λ y. key r ≢ key y) rows b h.0 m (sym (ap key x) ∙ e))
+        ]
+        | inr n ↦ elim l [
+          | inl y ↦ absurd (all_in (λ y. key r ≢ key y) rows a h.0 n (sym (ap key y) ∙ sym e))
+          | inr m ↦ same_row rows a b h.1 n m e
+        ]
+      ]
 
-  others_too : (n m : ℕ) (rows : List R) → nat_eq m n ≡ false → filter (has_key m) (filter (λ r. not (has_key n r)) rows) ≡ filter (has_key m) rows
-  others_too n m [] e = refl
-  others_too n m (r ∷ rows) e = at (nat_eq (key r) n) refl (others_too n m rows e)
+  pub less_apart : (rows : List R) → AreInOrder (λ x y. key x < key y) rows → AreInOrder (λ x y. key x ≢ key y) rows
+  less_apart rows h = order_weaker (λ x y. key x < key y) (λ x y. key x ≢ key y) rows (λ x y l e. omega (arith, l, e)) h
+
+  abbrev is_of : ℕ → R → Bool
+  is_of m r = nat_eq (key r) m
+
+  -- the rows have numbers from n on, so many in all
+  abbrev pub AreFrom : ℕ → ℕ → List R → Type 0
+  AreFrom n more rows = (r : R) → StandsIn r rows → (n ≤ key r) × (key r < n + more)
+
+  find_none : (m : ℕ) (rows : List R) → ((r : R) → StandsIn r rows → key r ≢ m) → find (is_of m) rows ≡ None
+  find_none m [] f = refl
+  find_none m (r ∷ rows) f = ap (λ b. cond b (Some r) (find (is_of m) rows)) (other_number (key r) m (f r (inl refl))) ∙ find_none m rows (λ x k. f x (inr k))
+
+  lower : (r : R) (rows : List R) (m more : ℕ) → key r < m → filter_map (λ n. find (is_of n) (r ∷ rows)) (numbers_from m more) ≡ filter_map (λ n. find (is_of n) rows) (numbers_from m more)
+  lower r rows m zero l = refl
+  lower r rows m (suc more) l =
+      ap (λ b. cons_option (cond b (Some r) (find (is_of m) rows)) (filter_map (λ n. find (is_of n) (r ∷ rows)) (numbers_from (suc m) more))) (other_number (key r) m (λ e. omega (arith, l, e)))
+      ∙ ap (cons_option (find (is_of m) rows)) (lower r rows (suc m) more (omega (arith, l)))
+
+  -- one row or none of each number
+  pub found_all : (n more : ℕ) (rows : List R) → AreInOrder (λ a b. key a < key b) rows → AreFrom n more rows → filter_map (λ m. find (is_of m) rows) (numbers_from n more) ≡ rows
+  found_all n zero [] h f = refl
+  found_all n zero (r ∷ rows) h f = let i = f r (inl refl) in let a = i.0 in let b = i.1 in absurd (omega (arith, a, b))
+  found_all n (suc more) [] h f = found_all (suc n) more [] tt (λ r k. absurd k)
+  found_all n (suc more) (r ∷ rows) h f =
+      elim (cases_eq (key r) n) [
+        | inl e ↦
+            ap (λ b. cons_option (cond b (Some r) (find (is_of n) rows)) (filter_map (λ m. find (is_of m) (r ∷ rows)) (numbers_from (suc n) more))) (ap (λ k. nat_eq k n) e ∙ same_number n)
+            ∙ ap (λ l. r ∷ l)
+            (lower r rows (suc n) more (omega (arith, e))
+            ∙ found_all (suc n) more rows h.1 (λ x k.
+            let i = f x (inr k) in
+            let b = i.1 in
+            let l = all_in (λ y. key r < key y) rows x h.0 k in
+            (omega (arith, e, l), omega (arith, b))))
+        | inr ne ↦
+            ap (λ o. cons_option o (filter_map (λ m. find (is_of m) (r ∷ rows)) (numbers_from (suc n) more))) (find_none n (r ∷ rows) (λ x k. above ne x k))
+            ∙ found_all (suc n) more (r ∷ rows) h (λ x k.
+            let i = f x k in
+            let a = i.0 in
+            let b = i.1 in
+            let c = above ne x k in
+            (omega (arith, a, c), omega (arith, b)))
+      ]
     where
-      at : (b : Bool) → nat_eq (key r) n ≡ b → filter (has_key m) (filter (λ r. not (has_key n r)) rows) ≡ filter (has_key m) rows
-          → filter (has_key m) (cond (not b) (r ∷ filter (λ r. not (has_key n r)) rows) (filter (λ r. not (has_key n r)) rows)) ≡ cond (nat_eq (key r) m) (r ∷ filter (has_key m) rows) (filter (has_key m) rows)
-      at true q h =
-          let same : key r ≡ n = eqb-true (key r) n q in
-          h ∙ sym (ap (λ b. cond b (r ∷ filter (has_key m) rows) (filter (has_key m) rows)) (other_number (key r) m (λ k. false≢true (sym e ∙ eq-eqb m n (sym k ∙ same)))))
-      at false q h = ap (λ l. cond (nat_eq (key r) m) (r ∷ l) l) h
+      above : key r ≢ n → (x : R) → StandsIn x (r ∷ rows) → key x ≢ n
+      above ne x k e =
+          elim k [
+            | inl s ↦ ne (sym (ap key s) ∙ e)
+            | inr l ↦
+                let a = (f r (inl refl)).0 in
+                let b = all_in (λ y. key r < key y) rows x h.0 l in
+                omega (arith, a, b, e)
+          ]
 
-  -- the rows of each number, one after another
-  pub grouped : (ns : List ℕ) (rows : List R) → IsDistinct nat_eq ns → ((r : R) → In r rows → In (key r) ns) → IsPermutation (flat_map (λ n. filter (λ r. nat_eq (key r) n) rows) ns) rows
-  grouped [] [] d h = IsPermutation-refl []
-  grouped [] (r ∷ rows) d h = absurd (h r (inl refl))
-  grouped (n ∷ ns) rows d h =
-      let mine = filter (has_key n) rows in
-      let rest = filter (λ r. not (has_key n r)) rows in
-      let p = head_apart n ns d in
-      let deeper : IsPermutation (flat_map (λ m. filter (has_key m) rest) ns) rest = grouped ns rest p.1 (λ r i. let k = in_filter (λ r. not (has_key n r)) rows r i in behind r (h r k.0) k.1) in
-      let same : flat_map (λ m. filter (has_key m) rest) ns ≡ flat_map (λ m. filter (has_key m) rows) ns = flat_map_same (λ m. filter (has_key m) rest) (λ m. filter (has_key m) rows) ns (λ m i. others_too n m rows (apart m i p.0)) in
-      subst (λ l. IsPermutation l rows) (sym (flat_map-cons (λ m. filter (has_key m) rows) n ns))
-      (IsPermutation-trans (mine ++ flat_map (λ m. filter (has_key m) rows) ns) (mine ++ rest) rows
-      (IsPermutation-append mine mine (flat_map (λ m. filter (has_key m) rows) ns) rest (IsPermutation-refl mine) (subst (λ l. IsPermutation l rest) same deeper))
-      (IsPermutation-sym rows (mine ++ rest) (IsPermutation-filter_both (has_key n) (λ r. not (has_key n r)) (λ r. refl) rows)))
-    where
-      behind : (r : R) → In (key r) (n ∷ ns) → not (nat_eq (key r) n) ≡ true → In (key r) ns
-      behind r (inl e) t = absurd (false≢true (ap not (sym (eq-eqb (key r) n e)) ∙ t))
-      behind r (inr i) t = i
+  -- the rows of the least number come first
+  first_group : (n : ℕ) (rows : List R) → AreInOrder (λ a b. key a ≤ key b) rows → ((r : R) → StandsIn r rows → n ≤ key r) → rows ≡ filter (is_of n) rows ++ filter (λ r. not (is_of n r)) rows
+  first_group n [] h f = refl
+  first_group n (r ∷ rows) h f =
+      elim (cases_eq (key r) n) [
+        | inl e ↦
+            let b : is_of n r ≡ true = ap (λ k. nat_eq k n) e ∙ same_number n in
+            ap (λ l. r ∷ l) (first_group n rows h.1 (λ x k. f x (inr k)))
+            ∙ ap (λ b. cond b (r ∷ filter (is_of n) rows) (filter (is_of n) rows) ++ cond (not b) (r ∷ filter (λ r. not (is_of n r)) rows) (filter (λ r. not (is_of n r)) rows)) (sym b)
+        | inr ne ↦
+            let past : (x : R) → StandsIn x (r ∷ rows) → key x ≢ n = λ x k e. elim k [
+              | inl s ↦ ne (sym (ap key s) ∙ e)
+              | inr l ↦
+                  let a = f r (inl refl) in
+                  let b = all_in (λ y. key r ≤ key y) rows x h.0 l in
+                  absurd (omega (arith, a, b, e, ne))
+            ] in
+            sym (ap (λ l. l ++ filter (λ r. not (is_of n r)) (r ∷ rows)) (filter_none (is_of n) (r ∷ rows) (λ x k. other_number (key x) n (past x k)))
+            ∙ filter_all (λ r. not (is_of n r)) (r ∷ rows) (λ x k. ap not (other_number (key x) n (past x k))))
+      ]
 
-      apart : (m : ℕ) → In m ns → list_any (nat_eq n) ns ≡ false → nat_eq m n ≡ false
-      apart m i none = other_number m n (λ e. false≢true (sym none ∙ any_from_In ns n (subst (λ k. In k ns) e i)))
+  same_groups : (n : ℕ) (rows : List R) (m more : ℕ) → n < m → flat_map (λ k. filter (is_of k) rows) (numbers_from m more) ≡ flat_map (λ k. filter (is_of k) (filter (λ r. not (is_of n r)) rows)) (numbers_from m more)
+  same_groups n rows m zero l = refl
+  same_groups n rows m (suc more) l =
+      let rest : List R = filter (λ r. not (is_of n r)) rows in
+      flat_map-cons (λ k. filter (is_of k) rows) m (numbers_from (suc m) more)
+      ∙ (ap (λ x. filter (is_of m) rows ++ x) (same_groups n rows (suc m) more (omega (arith, l)))
+      ∙ (ap (λ x. x ++ flat_map (λ k. filter (is_of k) rest) (numbers_from (suc m) more)) (sym (filter_filter (is_of m) (λ r. not (is_of n r)) rows (λ r e.
+      let q = eqb-true (key r) m e in
+      ap not (other_number (key r) n (λ z. omega (arith, q, z, l))))))
+      ∙ sym (flat_map-cons (λ k. filter (is_of k) rest) m (numbers_from (suc m) more))))
 
-  -- where no two have one number, a row is found by its own
-  pub found_by : (rows : List R) (r : R) → IsDistinct nat_eq (map key rows) → In r rows → find (λ x. nat_eq (key x) (key r)) rows ≡ Some r
-  found_by [] r d i = absurd i
-  found_by (x ∷ xs) r d (inl e) = ap (λ b. cond b (Some x) (find (λ y. nat_eq (key y) (key r)) xs)) (eq-eqb (key x) (key r) (ap key (sym e))) ∙ ap Some (sym e)
-  found_by (x ∷ xs) r d (inr i) =
-      let p = head_apart (key x) (map key xs) d in
-      ap (λ b. cond b (Some x) (find (λ y. nat_eq (key y) (key r)) xs)) (other_number (key x) (key r) (λ e. false≢true (sym p.0 ∙ any_from_In (map key xs) (key x) (subst (λ k. In k (map key xs)) (sym e) (In-map key xs r i)))))
-      ∙ found_by xs r p.1 i
-
--- where no two rows have one number, at most one is kept
-pub one_kept : {R : Type 0} (key : R → ℕ) (n : ℕ) (rows : List R) → IsDistinct nat_eq (map key rows) → filter (λ r. nat_eq (key r) n) rows ≡ option_to_list (find (λ r. nat_eq (key r) n) rows)
-one_kept key n [] d = refl
-one_kept {R} key n (r ∷ rows) d = at (nat_eq (key r) n) refl (one_kept key n rows p.1)
-  where
-    p : (list_any (nat_eq (key r)) (map key rows) ≡ false) × IsDistinct nat_eq (map key rows)
-    p = head_apart (key r) (map key rows) d
-
-    none : (xs : List R) → list_any (nat_eq (key r)) (map key xs) ≡ false → key r ≡ n → filter (λ x. nat_eq (key x) n) xs ≡ []
-    none [] h e = refl
-    none (x ∷ xs) h e =
-        let q = or_parts (nat_eq (key r) (key x)) (list_any (nat_eq (key r)) (map key xs)) h in
-        ap (λ b. cond b (x ∷ filter (λ x. nat_eq (key x) n) xs) (filter (λ x. nat_eq (key x) n) xs)) (other_number (key x) n (λ k. false≢true (sym q.0 ∙ eq-eqb (key r) (key x) (e ∙ sym k))))
-        ∙ none xs q.1 e
-
-    at : (b : Bool) → nat_eq (key r) n ≡ b → filter (λ x. nat_eq (key x) n) rows ≡ option_to_list (find (λ x. nat_eq (key x) n) rows) → cond b (r ∷ filter (λ x. nat_eq (key x) n) rows) (filter (λ x. nat_eq (key x) n) rows) ≡ option_to_list (cond b (Some r) (find (λ x. nat_eq (key x) n) rows))
-    at true e h = ap (λ l. r ∷ l) (none rows p.0 (eqb-true (key r) n e))
-    at false e h = h
-
--- ---- numbers in a row
-
-pub in_numbers : (m k n : ℕ) → m ≤ k → k < m + n → In k (numbers_from m n)
-in_numbers m k zero a b = absurd (omega arith)
-in_numbers m k (suc n) a b = elim (cases_eq k m) [ inl e ↦ inl e | inr other ↦ inr (in_numbers (suc m) k n (omega arith) (omega arith)) ]
-
-pub numbers_in : (m k n : ℕ) → In k (numbers_from m n) → (m ≤ k) × (k < m + n)
-numbers_in m k zero i = absurd i
-numbers_in m k (suc n) (inl e) = (omega arith, omega arith)
-numbers_in m k (suc n) (inr i) = let r = numbers_in (suc m) k n i in (omega (arith, r.0), omega (arith, r.1))
-
-pub numbers_length : (m n : ℕ) → length (numbers_from m n) ≡ n
-numbers_length m zero = refl
-numbers_length m (suc n) = ap suc (numbers_length (suc m) n)
-
-pub numbers_apart : (m n : ℕ) → IsDistinct nat_eq (numbers_from m n)
-numbers_apart m zero = distinct_repeats nat_eq [] refl
-numbers_apart m (suc n) = distinct_cons m (numbers_from (suc m) n) (none m (suc m) n (omega arith)) (numbers_apart (suc m) n)
-  where
-    none : (k m n : ℕ) → k < m → list_any (nat_eq k) (numbers_from m n) ≡ false
-    none k m zero h = refl
-    none k m (suc n) h = or_from (nat_eq k m) (list_any (nat_eq k) (numbers_from (suc m) n)) (other_number k m (λ e. omega (arith, h, e))) (none k (suc m) n (omega (arith, h)))
+  -- all rows of each number
+  pub grouped_all : (n more : ℕ) (rows : List R) → AreInOrder (λ a b. key a ≤ key b) rows → AreFrom n more rows → flat_map (λ m. filter (is_of m) rows) (numbers_from n more) ≡ rows
+  grouped_all n zero [] h f = refl
+  grouped_all n zero (r ∷ rows) h f = let i = f r (inl refl) in let a = i.0 in let b = i.1 in absurd (omega (arith, a, b))
+  grouped_all n (suc more) rows h f =
+      let rest : List R = filter (λ r. not (is_of n r)) rows in
+      flat_map-cons (λ m. filter (is_of m) rows) n (numbers_from (suc n) more)
+      ∙ (ap (λ l. filter (is_of n) rows ++ l) (same_groups n rows (suc n) more (omega arith)
+      ∙ grouped_all (suc n) more rest (order-filter (λ a b. key a ≤ key b) (λ r. not (is_of n r)) rows h) (λ r k.
+      let i = in_filter (λ r. not (is_of n r)) rows r k in
+      let b = f r i.0 in
+      let low = b.0 in
+      let high = b.1 in
+      let ne : key r ≢ n = λ e. false≢true (sym (ap not (ap (λ k. nat_eq k n) e ∙ same_number n)) ∙ i.1) in
+      (omega (arith, low, ne), omega (arith, high))))
+      ∙ sym (first_group n rows h (λ r k. (f r k).0)))

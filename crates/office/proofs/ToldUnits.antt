@@ -1,20 +1,18 @@
 -- The units that rows say are those rows.
-use Rattle.std.proofs.Common.{◌≡◌, ℕ, Bool, true, false, List, [], ◌∷◌, Option, Some, None, refl, sym, ap, ◌∙◌, subst, nat_eq, map}
+use Rattle.std.proofs.Common.{◌≡◌, ℕ, false, List, [], ◌∷◌, Option, Some, None, refl, sym, ap, ◌∙◌, subst, nat_eq, map}
 use Rattle.std.specs.Prelude.{find, option_map, unwrap_or}
-use Rattle.std.specs.List.{IsDistinct, list_all}
+use Rattle.std.specs.List.{IsDistinct}
 use Rattle.std.specs.List.Sorted.{IsPermutation}
 use Rattle.std.proofs.lemmas.Bool.{eqb-true}
-use Rattle.isad_core.specs.Texts.{Bytes}
-use Rattle.isad_core.specs.declared.values.BoxKey.{BoxKey}
 use Rattle.tree_core.specs.Forest.{Forest, nodes, each}
 use Rattle.tree_core.proofs.Lists.{In, In-map, find_some}
 use Rattle.tree_core.proofs.EachLemmas.{nodes-each}
 use Rattle.tree_core.proofs.Members.{permutation_from_members}
 use Rattle.catalogue_store.specs.Units.{Unit}
 use Rattle.office.specs.Laws.{numbers_from}
-use Rattle.office.specs.Reading.{UnitRow, unit_row, Rows, places_said, box_from, text_said, boxes_said, values_said, unit_from, unit_said}
-use Rattle.office.specs.CatalogueCauses.{unit_numbers, place_numbers, all_stand_in}
-use Rattle.office.proofs.Grouped.{From, in_map, all_in, stands_in, found_by}
+use Rattle.office.specs.Reading.{UnitRow, unit_row, Rows, box_from, text_said, boxes_said, values_said, unit_from, unit_said}
+use Rattle.office.specs.CatalogueCauses.{unit_numbers}
+use Rattle.office.proofs.RowsByNumber.{From, in_map, found_by}
 
 abbrev row_of : Rows → ℕ → Option UnitRow
 row_of t u = find (λ (row : UnitRow). nat_eq row.id u) t.units

@@ -101,7 +101,7 @@ module _ {R : Type 0} (key : R → ℕ) (rows : Unit → List R) (own : (u : Uni
 
 -- ---- the texts of a unit
 
-found_kept : {R : Type 0} (a b : R → Bool) (rs : List R) → find (λ r. a r && b r) rs ≡ find b (filter a rs)
+pub found_kept : {R : Type 0} (a b : R → Bool) (rs : List R) → find (λ r. a r && b r) rs ≡ find b (filter a rs)
 found_kept a b [] = refl
 found_kept a b (r ∷ rs) = at (a r) (found_kept a b rs)
   where
@@ -109,7 +109,7 @@ found_kept a b (r ∷ rs) = at (a r) (found_kept a b rs)
     at true e = ap (λ x. cond (b r) (Some r) x) e
     at false e = e
 
-after_less : (a b : ℕ) → a < b → after_level a < after_level b
+pub after_less : (a b : ℕ) → a < b → after_level a < after_level b
 after_less a b h = at (nat_lt a 4) (nat_lt b 4) refl refl
   where
     at : (x y : Bool) → nat_lt a 4 ≡ x → nat_lt b 4 ≡ y → cond x a (a + 1) < cond y b (b + 1)
@@ -151,7 +151,7 @@ texts_back u k (Some text ∷ texts) =
 
 -- ---- the containers of a unit
 
-box_itself : (b : BoxKey) → is_same_box b b ≡ true
+pub box_itself : (b : BoxKey) → is_same_box b b ≡ true
 box_itself b = both (bytes_eq b.name b.name) (bytes_eq b.location b.location && bytes_eq b.kind b.kind) (same_text b.name) (both (bytes_eq b.location b.location) (bytes_eq b.kind b.kind) (same_text b.location) (same_text b.kind))
   where
     same_text : (a : Bytes) → bytes_eq a a ≡ true
@@ -161,7 +161,7 @@ box_itself b = both (bytes_eq b.name b.name) (bytes_eq b.location b.location && 
     both true y e f = f
     both false y e f = absurd (false≢true e)
 
-number_there : (boxes : List BoxKey) (b : BoxKey) → list_any (is_same_box b) boxes ≡ true → (n : ℕ) × (number_in boxes b ≡ Some (suc n)) × (slice_get boxes n ≡ Some b)
+pub number_there : (boxes : List BoxKey) (b : BoxKey) → list_any (is_same_box b) boxes ≡ true → (n : ℕ) × (number_in boxes b ≡ Some (suc n)) × (slice_get boxes n ≡ Some b)
 number_there [] b h = absurd (false≢true h)
 number_there (c ∷ boxes) b h = at (is_same_box c b) refl (number_there boxes b)
   where
@@ -174,7 +174,7 @@ number_there (c ∷ boxes) b h = at (is_same_box c b) refl (number_there boxes b
         ]) in
         (suc r.0, ap (option_map suc) r.1, r.2)
 
-number_back : (boxes : List BoxKey) (b : BoxKey) → list_any (is_same_box b) boxes ≡ true → numbered boxes (box_number boxes b) ≡ Some b
+pub number_back : (boxes : List BoxKey) (b : BoxKey) → list_any (is_same_box b) boxes ≡ true → numbered boxes (box_number boxes b) ≡ Some b
 number_back boxes b h = let r = number_there boxes b h in ap (λ n. numbered boxes (unwrap_or n 0)) r.1 ∙ r.2
 
 abbrev box_of : List BoxKey → List HousingRow → ℕ → Option BoxKey
@@ -202,12 +202,12 @@ length-rows boxes u n (b ∷ bs) = ap suc (length-rows boxes u (suc n) bs)
 
 -- ---- one unit
 
-elements_own : (u k : ℕ) (texts : List (Option Bytes)) → AllByRecursion (λ (r : ElementRow). r.unit ≡ u) (element_rows_from u k texts)
+pub elements_own : (u k : ℕ) (texts : List (Option Bytes)) → AllByRecursion (λ (r : ElementRow). r.unit ≡ u) (element_rows_from u k texts)
 elements_own u k [] = tt
 elements_own u k (None ∷ texts) = elements_own u (suc k) texts
 elements_own u k (Some text ∷ texts) = (refl, elements_own u (suc k) texts)
 
-housings_own : (boxes : List BoxKey) (u n : ℕ) (bs : List BoxKey) → AllByRecursion (λ (r : HousingRow). r.unit ≡ u) (rows_from (housing_row boxes u) n bs)
+pub housings_own : (boxes : List BoxKey) (u n : ℕ) (bs : List BoxKey) → AllByRecursion (λ (r : HousingRow). r.unit ≡ u) (rows_from (housing_row boxes u) n bs)
 housings_own boxes u n [] = tt
 housings_own boxes u n (b ∷ bs) = (refl, housings_own boxes u (suc n) bs)
 

@@ -19,7 +19,7 @@ use Rattle.office.specs.State.{State}
 use Rattle.office.specs.Rules.{is_source, is_between, height, most_deep}
 use Rattle.office.specs.Soundness.{is_country, is_repository, most_bytes}
 use Rattle.office.specs.Reading.{OfficeRow, UnitRow, ElementRow, ContainerRow, HousingRow, PlaceRows, LinkRows, SpanRows, Rows, tables, state_of, box_from, housings_of}
-use Rattle.office.specs.Judging.{counts_from}
+use Rattle.office.specs.DeskCauses.{are_numbered_from}
 
 -- ---- 1: the office
 
@@ -98,7 +98,7 @@ is_good_housing t row =
 -- they are numbered from 1 on, not too many, and each has a name
 abbrev pub are_good_container_rows : List ContainerRow → Bool
 are_good_container_rows rows =
-    counts_from 1 (map (λ (row : ContainerRow). row.id) rows) && (list_all (λ (row : ContainerRow). not (is_blank_text row.name)) rows
+    are_numbered_from (λ (row : ContainerRow). row.id) 1 rows && (list_all (λ (row : ContainerRow). not (is_blank_text row.name)) rows
     && nat_le (length rows) most_containers)
 
 abbrev pub containers_are_bad : Rows → Bool

@@ -1,10 +1,23 @@
--- Why the rows of all tables show no sound state: the least of the causes, by its number.
-use Rattle.std.specs.Prelude.{ℕ, Option}
+-- Why the rows of all tables show no sound state: the least cause, by its number.
+use Rattle.std.specs.Prelude.{ℕ, Bool, List, [], ◌∷◌, ◌++◌, Option}
 use Rattle.catalogue_store.specs.Schema.{Version}
 use Rattle.office.specs.Reading.{Rows}
 use Rattle.office.specs.Judging.{first_held}
-use Rattle.office.specs.CatalogueCauses.{catalogue_tests}
+use Rattle.office.specs.CatalogueCauses.{catalogue_tests, MeetsCatalogueKeys}
+use Rattle.office.specs.DeskCauses.{readers_are_bad, orders_are_bad, holdings_are_bad, runs_are_bad, day_is_broken, MeetsDeskKeys}
+
+abbrev pub desk_tests : Rows → List Bool
+desk_tests t = readers_are_bad t ∷ orders_are_bad t ∷ holdings_are_bad t ∷ runs_are_bad t ∷ day_is_broken t ∷ []
+
+-- the number of the first cause that holds of rows that are to be of this version, 1 to 10
+abbrev pub cause : Version → Rows → Option ℕ
+cause version t = first_held (catalogue_tests version t ++ desk_tests t)
 
 -- the first of the catalogue's causes, 1 to 5
 abbrev pub catalogue_cause : Version → Rows → Option ℕ
 catalogue_cause version t = first_held (catalogue_tests version t)
+
+-- what the schema keeps of the rows
+pub record MeetsKeys (t : Rows) : Type 0 where
+  pub catalogue : MeetsCatalogueKeys t
+  pub desk : MeetsDeskKeys t

@@ -23,9 +23,11 @@ pub mod Tables
 pub mod Reading
 pub mod DeskCauses
 pub mod DeskCausesRows
+pub mod DeskJudged
 pub mod ReadingRows
 pub mod Imported
 pub mod Judging
 pub mod CatalogueCauses
+pub mod CatalogueCausesRows
 pub mod Causes
 pub mod Judged

@@ -14,7 +14,8 @@ ghost use Rattle.tree_core.specs.Spans.{number};
 ghost use Rattle.tree_core.specs.Links.{HoldsLinks};
 ghost use Rattle.tree_core.specs.declared.rows.Link.{Link};
 ghost use Rattle.catalogue_store.specs.Schema.{Version};
-ghost use Rattle.office.specs.Reading.{LinkRows, SaysAllButUnits, SpanRows, places_said, state_of, tables};
+ghost use Rattle.office.specs.Judged.{HasNoCatalogueCause, HasNoCause, SaysTheCatalogue};
+ghost use Rattle.office.specs.Reading.{LinkRows, Rows, SaysAllButUnits, SpanRows, places_said, state_of, tables};
 ghost use Rattle.office.specs.Soundness.{AreGoodDays, AreGoodSettings, IsSound, NamesDays};
 ghost use Rattle.office.specs.Imported.{ImportsBringTheNew, ImportsKeepTheCatalogue};
 ghost use Rattle.office.specs.Secrecy.{SamePublic, AnswersAlike, ShowsOnlyPublished};
@@ -106,6 +107,22 @@ pub fn links_say_the_forest()
 /// The rows of a sound state say that state, in either version.
 pub fn tables_say_the_state()
     ensures { (version : Version) (s : State) → IsSound s → state_of (tables version s) ≡ s }
+{}
+
+/// Rows of the catalogue's tables with their keys and without one of the causes 1 to 5 say a sound catalogue, and are
+/// its rows, table by table, up to their order.
+pub fn rows_say_the_catalogue()
+    ensures { (version : Version) (t : Rows) → SaysTheCatalogue version t }
+{}
+
+/// The rows of a sound catalogue have their keys, and none of the causes 1 to 5.
+pub fn catalogue_has_no_cause()
+    ensures { (version : Version) (s : State) → HasNoCatalogueCause version s }
+{}
+
+/// The rows of a sound state have their keys, and none of the causes 1 to 10.
+pub fn tables_have_no_cause()
+    ensures { (version : Version) (s : State) → HasNoCause version s }
 {}
 
 /// A new office is sound, whole, where its settings and its day are good.

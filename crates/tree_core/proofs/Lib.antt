@@ -11,6 +11,7 @@ pub mod Members
 pub mod Moving
 pub mod LastPlaces
 pub mod MovedRows
+pub mod Pieces
 pub mod SpanBelow
 pub mod MarkWalks
 pub mod PlaceOrder
