@@ -98,6 +98,9 @@ E=[
 ('a box is open where something in it is',C+'Housing.antt','list_all (λ path. not','list_any (λ path. not'),
 ('a closure lasts to its day',C+'Units.antt','int_lt today until','Rattle.std.specs.Prelude.int_le today until'),
 # import
+('an import may bring a unit too many',O+'Intake.antt','nat_lt most_units (size c.forest)','nat_lt (most_units + 1) (size c.forest)'),
+('an import may give a number too many',O+'Intake.antt','nat_lt (most_unit_numbers + 1) c.next','nat_lt (most_unit_numbers + 2) c.next'),
+('an import may bring a container too many',O+'Intake.antt','nat_lt most_containers (length c.containers)','nat_lt (most_containers + 1) (length c.containers)'),
 ('an import keeps the next number',O+'Rules.antt','next_unit = intake.catalogue.next;','next_unit = s.next_unit;'),
 ('an import keeps the old containers',O+'Rules.antt','boxes = intake.catalogue.containers;','boxes = s.boxes;'),
 ('every known row is the same',O+'Intake.antt','some_and (λ unit. same_values unit.values row.values) (unit_of f source row)','some_and (λ unit. true) (unit_of f source row)'),
