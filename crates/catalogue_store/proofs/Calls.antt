@@ -12,7 +12,8 @@ use Rattle.sqlite.proofs.Callers.{IsPlain, command_of, statement_of, never_commi
 use Rattle.sqlite.proofs.StateLemmas.{survives_weaker, survives_then}
 use Rattle.catalogue_store.specs.Schema.{Version, schema}
 use Rattle.catalogue_store.specs.Step.{InTransaction, InOffice, GoesOn, IsBack, Continues, Goes, IsCut, Looks}
-use Rattle.catalogue_store.proofs.Errors.{IsStopped, stops, fails, keeps}
+use Rattle.catalogue_store.specs.Transactions.{IsStopped}
+use Rattle.catalogue_store.proofs.Errors.{stops, fails, keeps}
 
 pub early : (old new : State) (P : Trees → Type 0) → Survives old new P → HasCleanDisk new → HasCleanDisk old
 early old new P s clean = omega (arith, s.clean)
@@ -205,6 +206,11 @@ cut_looks (Err e) a b p = cut_after a b p.goes.on
 pub on_ok_both : {X E : Type 0} (r : Result X E) (P Q R : Type 0) → (P → Q → R) → OnOk r P → OnOk r Q → OnOk r R
 on_ok_both (Ok x) P Q R f p q = f p q
 on_ok_both (Err e) P Q R f p q = tt
+
+-- what is known of a call that succeeded
+pub on_ok_bind : {X E : Type 0} (r : Result X E) (P Q : Type 0) → (P → OnOk r Q) → OnOk r P → OnOk r Q
+on_ok_bind (Ok x) P Q f p = f p
+on_ok_bind (Err e) P Q f p = tt
 
 pub looks_nowhere : (a : State) → InOffice a → Looks a a
 looks_nowhere a inside = record { goes = goes_nowhere a inside; same = λ clean. refl }

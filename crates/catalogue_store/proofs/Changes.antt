@@ -34,7 +34,7 @@ use Rattle.catalogue_store.proofs.Queries.{plain_query, answers}
 use Rattle.catalogue_store.proofs.Updates.{deletes_rows, changes_rows}
 use Rattle.catalogue_store.proofs.ParentUpdates.{no_works_on_update, as_many, updates_freely as all_free}
 
-office_alone : (v : Version) → is_referred_to (schema v) 13 ≡ false
+pub office_alone : (v : Version) → is_referred_to (schema v) 13 ≡ false
 unfolding joined same_name
 office_alone Links = refl
 office_alone Spans = refl

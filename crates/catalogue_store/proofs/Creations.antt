@@ -1,5 +1,5 @@
 -- What the definitions of the tables make.
-use Rattle.std.proofs.Common.{◌≡◌, ℕ, List, [], ◌∷◌, codes, slice_get, ◌++◌, drop, false, cond, Some, None, Ok, refl, sym, ap, subst, ◌∙◌}
+use Rattle.std.proofs.Common.{◌≡◌, ℕ, List, [], ◌∷◌, codes, slice_get, ◌++◌, drop, length, false, cond, Some, None, Ok, refl, sym, ap, subst, ◌∙◌}
 use Rattle.std.specs.List.{AllByRecursion}
 use Rattle.sqlite.specs.Tree.{Trees}
 use Rattle.sqlite.specs.Table.{Table}
@@ -66,35 +66,35 @@ s6 = indexed s5 housing (record housing_by_container { tree = 0 })
 abbrev pub s7 : Schema
 s7 = created s6 (free link)
 
-pub office_defined : DefinesTable desk_schema office_text s1
+pub office_defined : DefinesTable desk_tables desk_schema office_text s1
 unfolding understood everything
 office_defined = record { table = free office; says = record { is = refl; plain = (refl, refl); whole = refl }; defined = refl; uncounted = refl; is = refl; more = []; first = refl; rest = refl; last = refl }
 
-pub unit_defined : DefinesTable s1 unit_text s2
+pub unit_defined : DefinesTable desk_tables s1 unit_text s2
 unfolding understood everything
 unit_defined = record { table = free unit; says = record { is = refl; plain = (refl, refl); whole = refl }; defined = refl; uncounted = refl; is = refl; more = office ∷ []; first = refl; rest = refl; last = refl }
 
-pub element_defined : DefinesTable s2 element_text s3
+pub element_defined : DefinesTable desk_tables s2 element_text s3
 unfolding understood everything
 element_defined = record { table = free element; says = record { is = refl; plain = (refl, refl); whole = refl }; defined = refl; uncounted = refl; is = refl; more = office ∷ unit ∷ []; first = refl; rest = refl; last = refl }
 
-pub container_defined : DefinesTable s3 container_text s4
+pub container_defined : DefinesTable desk_tables s3 container_text s4
 unfolding understood everything
 container_defined = record { table = free container; says = record { is = refl; plain = (refl, refl); whole = refl }; defined = refl; uncounted = refl; is = refl; more = office ∷ unit ∷ element ∷ []; first = refl; rest = refl; last = refl }
 
-pub housing_defined : DefinesTable s4 housing_text s5
+pub housing_defined : DefinesTable desk_tables s4 housing_text s5
 unfolding understood everything
 housing_defined = record { table = free housing; says = record { is = refl; plain = (refl, refl); whole = refl }; defined = refl; uncounted = refl; is = refl; more = office ∷ unit ∷ element ∷ container ∷ []; first = refl; rest = refl; last = refl }
 
-pub housing_indexed : DefinesIndex s5 housing_index_text s6
+pub housing_indexed : DefinesIndex desk_tables s5 housing_index_text s6
 unfolding understood everything
 housing_indexed = record { at = 11; table = housing; index = record housing_by_container { tree = 0 }; says = record { is = refl; plain = (refl, refl); whole = refl }; place = refl; defined = refl; is = refl; same = refl; more = office ∷ unit ∷ element ∷ container ∷ housing ∷ []; first = refl; rest = refl }
 
-pub link_defined : DefinesTable s6 link_text s7
+pub link_defined : DefinesTable desk_tables s6 link_text s7
 unfolding understood everything
 link_defined = record { table = free link; says = record { is = refl; plain = (refl, refl); whole = refl }; defined = refl; uncounted = refl; is = refl; more = office ∷ unit ∷ element ∷ container ∷ housing ∷ []; first = refl; rest = refl; last = refl }
 
-pub link_indexed : DefinesIndex s7 link_index_text (schema Links)
+pub link_indexed : DefinesIndex desk_tables s7 link_index_text (schema Links)
 unfolding understood everything
 link_indexed = record { at = 12; table = link; index = index (codes "link_by_parent") 0 link (2 ∷ 3 ∷ []); says = record { is = refl; plain = (refl, refl); whole = refl }; place = refl; defined = refl; is = refl; same = refl; more = office ∷ unit ∷ element ∷ container ∷ housing ∷ link ∷ []; first = refl; rest = refl }
 
@@ -113,8 +113,8 @@ one_more : (new : Trees) (more : List Table) (t : Table) → AllByRecursion (λ 
 one_more new [] t e h = (h, tt)
 one_more new (u ∷ more) t e h = (e.0, one_more new more t e.1 h)
 
-module _ (before after : Schema) (text : List ℕ) (start : Database) (old new : State) (count : ℕ) (made : HasMade before start old.now) (h : Executes text [] old new (Ok count)) where
-  pub creates : DefinesTable before text after → HasMade after start new.now × Shows old new new.now (cond old.in_transaction old.committed new.now) old.in_transaction
+module _ (there : List Table) (before after : Schema) (text : List ℕ) (start : Database) (old new : State) (count : ℕ) (made : HasMade there before start old.now) (h : Executes text [] old new (Ok count)) where
+  pub creates : DefinesTable there before text after → HasMade there after start new.now × Shows old new new.now (cond old.in_transaction old.committed new.now) old.in_transaction
   creates defines =
       let has = made.schema_is in
       let w = subst (λ t. Writes old new None CreateTable t [] count) defines.says.whole (runs_as text [] old new before has CreateTable defines.says.is defines.says.plain count h) in
@@ -130,20 +130,20 @@ module _ (before after : Schema) (text : List ℕ) (start : Database) (old new :
       let fresh : new.now.trees (next_tree before) ≡ [] = ap (λ (d : Trees). d (next_tree before)) trees ∙ subst (λ s. first.0.trees (next_tree s) ≡ []) has it.empty in
       let kept' = subst (λ ts. KeepsRows ts old.now.trees new.now.trees) defines.first kept in
       let empty' = subst (λ ts. AllByRecursion (λ t. old.now.trees t.tree ≡ []) ts) defines.rest made.empty in
-      let done : HasMade after start new.now = record {
+      let done : HasMade there after start new.now = record {
         schema_is = ap (λ (d : Database). d.schema) now ∙ is ∙ defines.is;
-        kept = kept_desk start.trees old.now.trees new.now.trees desk_tables defines.more made.kept kept';
+        kept = kept_desk start.trees old.now.trees new.now.trees there defines.more made.kept kept';
         empty = subst (λ ts. AllByRecursion (λ t. new.now.trees t.tree ≡ []) ts) (sym defines.last)
-            (one_more new.now.trees defines.more (record defines.table { tree = next_tree before }) (kept_more old.now.trees new.now.trees desk_tables defines.more empty' kept') fresh);
+            (one_more new.now.trees defines.more (record defines.table { tree = next_tree before }) (kept_more old.now.trees new.now.trees there defines.more empty' kept') fresh);
       } in
       (done, w.shown)
 
-  pub indexes : DefinesIndex before text after → HasMade after start new.now × Shows old new new.now (cond old.in_transaction old.committed new.now) old.in_transaction
+  pub indexes : DefinesIndex there before text after → HasMade there after start new.now × Shows old new new.now (cond old.in_transaction old.committed new.now) old.in_transaction
   indexes defines =
       let has = made.schema_is in
       let w = subst (λ t. Writes old new None (CreateIndex defines.at) t [] count) defines.says.whole (runs_as text [] old new before has (CreateIndex defines.at) defines.says.is defines.says.plain count h) in
-      let there : slice_get old.now.schema.tables defines.at ≡ Some defines.table = ap (λ (s : Schema). slice_get s.tables defines.at) has ∙ defines.place in
-      let all = went (rw there at w.changed) in
+      let placed : slice_get old.now.schema.tables defines.at ≡ Some defines.table = ap (λ (s : Schema). slice_get s.tables defines.at) has ∙ defines.place in
+      let all = went (rw placed at w.changed) in
       let it = all.1 in
       let both : Ok it.index ≡ Ok defines.index = sym it.defined ∙ defines.defined in
       let is : all.0.schema ≡ indexed before defines.table defines.index = it.is ∙ ap (λ s. indexed s defines.table it.index) has ∙ ap (indexed before defines.table) (same_value both) in
@@ -151,10 +151,10 @@ module _ (before after : Schema) (text : List ℕ) (start : Database) (old new :
       let kept = subst (λ (d : Database). KeepsRows before.tables old.now.trees d.trees) (sym now) (subst (λ (s : Schema). KeepsRows s.tables old.now.trees all.0.trees) has it.rows) in
       let kept' = subst (λ ts. KeepsRows ts old.now.trees new.now.trees) defines.first kept in
       let empty' = subst (λ ts. AllByRecursion (λ t. old.now.trees t.tree ≡ []) ts) defines.rest made.empty in
-      let done : HasMade after start new.now = record {
+      let done : HasMade there after start new.now = record {
         schema_is = ap (λ (d : Database). d.schema) now ∙ is ∙ defines.is;
-        kept = kept_desk start.trees old.now.trees new.now.trees desk_tables defines.more made.kept kept';
-        empty = subst (λ ts. AllByRecursion (λ t. new.now.trees t.tree ≡ []) ts) (sym (ap (drop 7) defines.same ∙ defines.rest))
-            (kept_more old.now.trees new.now.trees desk_tables defines.more empty' kept');
+        kept = kept_desk start.trees old.now.trees new.now.trees there defines.more made.kept kept';
+        empty = subst (λ ts. AllByRecursion (λ t. new.now.trees t.tree ≡ []) ts) (sym (ap (drop (length there)) defines.same ∙ defines.rest))
+            (kept_more old.now.trees new.now.trees there defines.more empty' kept');
       } in
       (done, w.shown)

@@ -9,11 +9,7 @@ use Rattle.sqlite.proofs.Callers.{IsPlain}
 use Rattle.sqlite_schema.specs.declared.command.Returning.{Returning}
 use Rattle.sqlite_resolve.specs.declared.compiled.Compiled.{Compiled}
 use Rattle.sqlite.specs.Clock.{timed}
-use Rattle.sqlite.specs.State.{IsRolledBack}
-
--- as it was, or rolled back
-abbrev pub IsStopped : State → State → Type 0
-IsStopped old new = IsUnchanged old new ⊎ IsRolledBack old new
+use Rattle.catalogue_store.specs.Transactions.{IsStopped}
 
 ran : (sql : List ℕ) (params : Row) (old new : State) (e : Error) (c : Compiled) → RunsCommand old new sql c params (Err e) → IsStopped old new
 ran sql params old new e c (inl refused) = inl refused.1

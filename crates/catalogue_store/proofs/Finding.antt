@@ -12,7 +12,7 @@ use Rattle.catalogue_store.specs.Units.{Unit, has_id}
 use Rattle.catalogue_store.specs.Finding.{Finds}
 use Rattle.catalogue_store.proofs.Rows.{had}
 
-itself : (n : ℕ) → nat_eq n n ≡ true
+pub itself : (n : ℕ) → nat_eq n n ≡ true
 itself n = grind (arith, nat_tests)
 
 pub finds_first : (is : Unit → Bool) (f : Forest Unit) (units ys : List Unit) → IsPermutation (nodes f) units → IsPermutation (filter is units) ys → Finds is f (slice_get (map (λ (u : Unit). u.id) ys) 0)

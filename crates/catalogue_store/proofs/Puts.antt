@@ -70,7 +70,7 @@ less_is false false h = absurd (cc)
 at_most : (a b : ℕ) → int_cmp (pos a) (pos b) ≡ Less → a ≤ b
 at_most a b h = let e : nat_lt a b ≡ true = less_is (nat_lt a b) (nat_lt b a) h in grind (arith, nat_tests, e)
 
-has_at : {A : Type 0} (xs : List A) (k : ℕ) (d : A) → k < length xs → Has xs (get_or xs k d)
+pub has_at : {A : Type 0} (xs : List A) (k : ℕ) (d : A) → k < length xs → Has xs (get_or xs k d)
 has_at [] k d low = absurd (omega (arith, low))
 has_at (x ∷ xs) zero d low = inl refl
 has_at (x ∷ xs) (suc k) d low = inr (has_at xs k d (omega (arith, low)))

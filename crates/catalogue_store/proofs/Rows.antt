@@ -32,7 +32,7 @@ map_has f (y ∷ xs) z (inr h) = let it = map_has f xs z h in (it.0, inr it.1, i
 pub had : {A : Type 0} (xs ys : List A) → IsPermutation xs ys → (z : A) → Has ys z → Has xs z
 had xs ys same z = all_has (Has xs) ys z (all-permutation (Has xs) xs ys same (all_from (Has xs) xs (λ x h. h)))
 
-filters : {A : Type 0} (p q : A → Bool) (xs : List A) → filter q (filter p xs) ≡ filter (λ x. p x && q x) xs
+pub filters : {A : Type 0} (p q : A → Bool) (xs : List A) → filter q (filter p xs) ≡ filter (λ x. p x && q x) xs
 filters p q [] = refl
 filters p q (x ∷ xs) = elim (p x) as (λ b. filter q (cond b (x ∷ filter p xs) (filter p xs)) ≡ cond (b && q x) (x ∷ filter (λ x. p x && q x) xs) (filter (λ x. p x && q x) xs)) [
   | true ↦ ap (λ l. cond (q x) (x ∷ l) l) (filters p q xs)

@@ -14,13 +14,13 @@ module _ {X : Type 0} (cmp : X → X → Ordering) (total : IsTotalOrder cmp) wh
   sorted_tail : (y : X) (ys : List X) → IsSorted cmp (y ∷ ys) → IsSorted cmp ys
   sorted_tail y ys up = λ k d low high. subst (λ n. is_lt (cmp (get_or (y ∷ ys) n d) (get_or ys k d)) ≡ false) {x = suc k + 1} {y = suc (k + 1)} (omega arith) (up (suc k) d (omega arith) (omega arith))
 
-  head_below : (y : X) (ys : List X) → IsSorted cmp (y ∷ ys) → AllByRecursion (λ z. is_lt (cmp z y) ≡ false) ys
+  pub head_below : (y : X) (ys : List X) → IsSorted cmp (y ∷ ys) → AllByRecursion (λ z. is_lt (cmp z y) ≡ false) ys
   head_below y [] up = tt
   head_below y (z ∷ zs) up =
       let first : is_lt (cmp z y) ≡ false = up 0 y (omega arith) (omega arith) in
       (first, all_weaker (λ w. is_lt (cmp w z) ≡ false) (λ w. is_lt (cmp w y) ≡ false) (λ w h. (ranks_by total (λ x. x)).chain w z y h first) zs (head_below z zs (sorted_tail y (z ∷ zs) up)))
 
-  once : (v : X) (xs : List X) → Rises cmp xs → length (filter (λ z. is_eq (cmp v z)) xs) ≤ 1
+  pub once : (v : X) (xs : List X) → Rises cmp xs → length (filter (λ z. is_eq (cmp v z)) xs) ≤ 1
   once v [] up = omega arith
   once v (x ∷ xs) up = elim (cmp v x) as (λ o. cmp v x ≡ o → length (cond (is_eq o) (x ∷ filter (λ z. is_eq (cmp v z)) xs) (filter (λ z. is_eq (cmp v z)) xs)) ≤ 1) [
     | Less ↦ λ _. once v xs up.1

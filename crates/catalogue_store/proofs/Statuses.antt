@@ -32,70 +32,71 @@ any_map : {A B : Type 0} (g : A → B) (p : B → Bool) (q : A → Bool) → ((x
 any_map g p q same [] = refl
 any_map g p q same (x ∷ xs) = ap₂ ◌||◌ (same x) (any_map g p q same xs)
 
-all_map : {A B : Type 0} (g : A → B) (P : B → Type 0) (Q : A → Type 0) → ((x : A) → Q x → P (g x)) → (xs : List A) → AllByRecursion Q xs → AllByRecursion P (map g xs)
+pub all_map : {A B : Type 0} (g : A → B) (P : B → Type 0) (Q : A → Type 0) → ((x : A) → Q x → P (g x)) → (xs : List A) → AllByRecursion Q xs → AllByRecursion P (map g xs)
 all_map g P Q f [] h = tt
 all_map g P Q f (x ∷ xs) h = (f x h.0, all_map g P Q f xs h.1)
 
-all_same : {A : Type 0} (P Q : A → Type 0) → ((x : A) → P x → Q x) → (xs : List A) → AllByRecursion P xs → AllByRecursion Q xs
+pub all_same : {A : Type 0} (P Q : A → Type 0) → ((x : A) → P x → Q x) → (xs : List A) → AllByRecursion P xs → AllByRecursion Q xs
 all_same P Q f [] h = tt
 all_same P Q f (x ∷ xs) h = (f x h.0, all_same P Q f xs h.1)
 
--- units that keep their numbers and their values
-module _ (g : Unit → Unit) (same_id : (u : Unit) → (g u).id ≡ u.id) (same_values : (u : Unit) → (g u).values ≡ u.values) where
-  still_there : (f : Forest Unit) (id : ℕ) → has (has_id id) (each g f) ≡ has (has_id id) f
+-- units that keep their numbers, and units that keep their values too
+module _ (g : Unit → Unit) (same_id : (u : Unit) → (g u).id ≡ u.id) where
+  pub still_there : (f : Forest Unit) (id : ℕ) → has (has_id id) (each g f) ≡ has (has_id id) f
   still_there f id = ap (list_any (has_id id)) (nodes_each g f) ∙ any_map g (has_id id) (has_id id) (λ u. ap (nat_eq id) (same_id u)) (nodes f)
 
-  rising : (units : List Unit) → Rises by_number units → Rises by_number (map g units)
+  pub rising : (units : List Unit) → Rises by_number units → Rises by_number (map g units)
   rising units up = ascending-map (λ a b. by_number a b ≡ Less) g units
       (ascending_weaker (λ a b. by_number a b ≡ Less) (λ a b. by_number (g a) (g b) ≡ Less) (λ a b h. ap₂ (λ m n. int_cmp (pos m) (pos n)) (same_id a) (same_id b) ∙ h) units up)
 
-  pub shows_changed : (v : Version) (shows : Trees → Forest ℕ → Type 0) → ((old new : Trees) (f : Forest ℕ) → new 24 ≡ old 24 → shows old f → shows new f)
-      → (old new : Database) (o : OfficeRow) (c : Catalogue) (it : Shows shows v old o c) → new.schema ≡ old.schema → HasRows 14 (map unit_row (map g it.catalogue.units.units)) old new
-      → Shows shows v new o (record c { forest = each g c.forest })
-  shows_changed v shows same old new o c it schema_is wrote =
-      let at = it.catalogue in
-      let kept = wrote.only in
-      let f = c.forest in
-      record {
-        catalogue = record {
-          schema_is = schema_is ∙ at.schema_is;
-          office = kept.1.1.1.1.1.1.1.0 refl ∙ at.office;
-          next = at.next;
-          units = record {
-            units = map g at.units.units;
-            rows = wrote.are;
-            rise = rising at.units.units at.units.rise;
-            are = subst (λ l. IsPermutation l (map g at.units.units)) (sym (nodes_each g f)) (IsPermutation-map g (nodes f) at.units.units at.units.are);
+  module _ (same_values : (u : Unit) → (g u).values ≡ u.values) where
+    pub shows_changed : (v : Version) (shows : Trees → Forest ℕ → Type 0) → ((old new : Trees) (f : Forest ℕ) → new 24 ≡ old 24 → shows old f → shows new f)
+        → (old new : Database) (o : OfficeRow) (c : Catalogue) (it : Shows shows v old o c) → new.schema ≡ old.schema → HasRows 14 (map unit_row (map g it.catalogue.units.units)) old new
+        → Shows shows v new o (record c { forest = each g c.forest })
+    shows_changed v shows same old new o c it schema_is wrote =
+        let at = it.catalogue in
+        let kept = wrote.only in
+        let f = c.forest in
+        record {
+          catalogue = record {
+            schema_is = schema_is ∙ at.schema_is;
+            office = kept.1.1.1.1.1.1.1.0 refl ∙ at.office;
+            next = at.next;
+            units = record {
+              units = map g at.units.units;
+              rows = wrote.are;
+              rise = rising at.units.units at.units.rise;
+              are = subst (λ l. IsPermutation l (map g at.units.units)) (sym (nodes_each g f)) (IsPermutation-map g (nodes f) at.units.units at.units.are);
+            };
+            elements = record {
+              elements = at.elements.elements;
+              rows = kept.1.1.1.1.1.1.1.1.1.0 refl ∙ at.elements.rows;
+              rise = at.elements.rise;
+              are = subst (AllByRecursion (λ (u : Unit). IsPermutation (element_cells u.values) (elements_of u.id at.elements.elements))) (sym (nodes_each g f))
+                  (all_map g (λ (u : Unit). IsPermutation (element_cells u.values) (elements_of u.id at.elements.elements)) (λ (u : Unit). IsPermutation (element_cells u.values) (elements_of u.id at.elements.elements))
+                  (λ u h. rw (same_id u, same_values u) h) (nodes f) at.elements.are);
+              others = all_same (λ (e : ElementRow). has (has_id e.unit) f ≡ true) (λ (e : ElementRow). has (has_id e.unit) (each g f) ≡ true) (λ e h. still_there f e.unit ∙ h) at.elements.elements at.elements.others;
+            };
+            containers = kept.1.1.1.1.1.1.1.1.1.1.0 refl ∙ at.containers;
+            housings = record {
+              housings = at.housings.housings;
+              rows = kept.1.1.1.1.1.1.1.1.1.1.1.0 refl ∙ at.housings.rows;
+              rise = at.housings.rise;
+              are = subst (AllByRecursion (λ (u : Unit). IsPermutation (housing_cells c.containers u.values) (housings_of u.id at.housings.housings))) (sym (nodes_each g f))
+                  (all_map g (λ (u : Unit). IsPermutation (housing_cells c.containers u.values) (housings_of u.id at.housings.housings)) (λ (u : Unit). IsPermutation (housing_cells c.containers u.values) (housings_of u.id at.housings.housings))
+                  (λ u h. rw (same_id u, same_values u) h) (nodes f) at.housings.are);
+              others = all_same (λ (h : HousingRow). has (has_id h.unit) f ≡ true) (λ (h : HousingRow). has (has_id h.unit) (each g f) ≡ true) (λ e h. still_there f e.unit ∙ h) at.housings.housings at.housings.others;
+            };
           };
-          elements = record {
-            elements = at.elements.elements;
-            rows = kept.1.1.1.1.1.1.1.1.1.0 refl ∙ at.elements.rows;
-            rise = at.elements.rise;
-            are = subst (AllByRecursion (λ (u : Unit). IsPermutation (element_cells u.values) (elements_of u.id at.elements.elements))) (sym (nodes_each g f))
-                (all_map g (λ (u : Unit). IsPermutation (element_cells u.values) (elements_of u.id at.elements.elements)) (λ (u : Unit). IsPermutation (element_cells u.values) (elements_of u.id at.elements.elements))
-                (λ u h. rw (same_id u, same_values u) h) (nodes f) at.elements.are);
-            others = all_same (λ (e : ElementRow). has (has_id e.unit) f ≡ true) (λ (e : ElementRow). has (has_id e.unit) (each g f) ≡ true) (λ e h. still_there f e.unit ∙ h) at.elements.elements at.elements.others;
-          };
-          containers = kept.1.1.1.1.1.1.1.1.1.1.0 refl ∙ at.containers;
-          housings = record {
-            housings = at.housings.housings;
-            rows = kept.1.1.1.1.1.1.1.1.1.1.1.0 refl ∙ at.housings.rows;
-            rise = at.housings.rise;
-            are = subst (AllByRecursion (λ (u : Unit). IsPermutation (housing_cells c.containers u.values) (housings_of u.id at.housings.housings))) (sym (nodes_each g f))
-                (all_map g (λ (u : Unit). IsPermutation (housing_cells c.containers u.values) (housings_of u.id at.housings.housings)) (λ (u : Unit). IsPermutation (housing_cells c.containers u.values) (housings_of u.id at.housings.housings))
-                (λ u h. rw (same_id u, same_values u) h) (nodes f) at.housings.are);
-            others = all_same (λ (h : HousingRow). has (has_id h.unit) f ≡ true) (λ (h : HousingRow). has (has_id h.unit) (each g f) ≡ true) (λ e h. still_there f e.unit ∙ h) at.housings.housings at.housings.others;
-          };
-        };
-        shown = same old.trees new.trees (each (λ (u : Unit). u.id) (each g f)) (kept.1.1.1.1.1.1.1.1.1.1.1.1.0 refl)
-            (subst (shows old.trees) (sym (each_each g (λ (u : Unit). u.id) (λ (u : Unit). u.id) same_id f)) it.shown);
-      }
+          shown = same old.trees new.trees (each (λ (u : Unit). u.id) (each g f)) (kept.1.1.1.1.1.1.1.1.1.1.1.1.0 refl)
+              (subst (shows old.trees) (sym (each_each g (λ (u : Unit). u.id) (λ (u : Unit). u.id) same_id f)) it.shown);
+        }
 
 pub kept_by : {A B : Type 0} (view : A → B) (b : Bool) (x y : A) → view x ≡ view y → view (cond b x y) ≡ view y
 kept_by view true x y same = same
 kept_by view false x y same = refl
 
-any_more : (p : ℕ → Bool) (xs : List ℕ) (x : ℕ) → list_any p (xs ++ x ∷ []) ≡ (list_any p xs || p x)
+pub any_more : (p : ℕ → Bool) (xs : List ℕ) (x : ℕ) → list_any p (xs ++ x ∷ []) ≡ (list_any p xs || p x)
 any_more p [] x = or_none (p x)
   where
     or_none : (b : Bool) → (b || false) ≡ b

@@ -1,9 +1,7 @@
 -- Texts that are added one after another.
-use Rattle.std.proofs.Common.{◌≡◌, ℕ, ◌+◌, ◌<◌, get_or, List, [], ◌∷◌, ◌++◌, length, map, Option, Some, None, take, refl, sym, ap, subst, ◌∙◌, arith}
-use Rattle.std.specs.List.{AllByRecursion}
-use Rattle.std.specs.List.Sorted.{IsPermutation}
-use Rattle.std.proofs.lemmas.List.{map-append, append_assoc, take_more, length-take-le}
-use Rattle.std.proofs.lemmas.List.Sorted.{IsPermutation-refl, IsPermutation-trans, IsPermutation-append_comm, IsPermutation-append_left, IsPermutation-append_right}
+use Rattle.std.proofs.Common.{◌≡◌, ℕ, ◌+◌, ◌<◌, get_or, List, [], ◌∷◌, ◌++◌, length, map, Option, Some, None, take, refl, sym, ap, ◌∙◌, arith}
+use Rattle.std.proofs.lemmas.List.{map-append, take_more, length-take-le}
+use Rattle.std.proofs.lemmas.List.Sorted.{IsPermutation-refl}
 use Rattle.sqlite.specs.Edit.{next_rowid, is_taken}
 use Rattle.sqlite.specs.Effect.{Database}
 use Rattle.sqlite.specs.Tree.{Trees, put_row}
@@ -14,9 +12,6 @@ use Rattle.catalogue_store.specs.Rows.{ElementRow, element_row}
 use Rattle.catalogue_store.specs.Shows.{texts_from, element_number}
 use Rattle.catalogue_store.specs.Step.{PutsRow}
 use Rattle.catalogue_store.proofs.Puts.{put_rows, put_rises, put_more, fresh_key}
-
-pub none_more : (unit : ℕ) (xs : List ElementRow) → WithTexts unit [] xs xs
-none_more unit xs = record { more = []; are = IsPermutation-refl xs; tell = IsPermutation-refl []; theirs = tt }
 
 abbrev new_row : Trees → ℕ → ℕ → Bytes → ElementRow
 new_row db unit k value = record { row = next_rowid (db 16); unit = unit; k = k; value = value }
@@ -35,25 +30,6 @@ one_element old new unit k value xs at puts =
     let free = fresh_key element_row key (λ _. refl) row xs (ap (λ rows. is_taken rows (element_row row)) (sym at.rows) ∙ puts.fresh) in
     let more : WithTexts unit ((k, value) ∷ []) xs ys = record { more = row ∷ []; are = put_more key row xs free; tell = IsPermutation-refl ((k, value) ∷ []); theirs = (refl, tt) } in
     (ys, there, more)
-
-all_of_both : {A : Type 0} (P : A → Type 0) (xs ys : List A) → AllByRecursion P xs → AllByRecursion P ys → AllByRecursion P (xs ++ ys)
-all_of_both P [] ys h k = k
-all_of_both P (x ∷ xs) ys h k = (h.0, all_of_both P xs ys h.1 k)
-
--- some texts, and then others
-pub texts_then : (unit : ℕ) (a b : List (ℕ × Bytes)) (xs ys zs : List ElementRow) → WithTexts unit a xs ys → WithTexts unit b ys zs → WithTexts unit (a ++ b) xs zs
-texts_then unit a b xs ys zs p q = record {
-  more = p.more ++ q.more;
-  are = IsPermutation-trans ((p.more ++ q.more) ++ xs) (q.more ++ ys) zs
-      (IsPermutation-trans ((p.more ++ q.more) ++ xs) (q.more ++ (p.more ++ xs)) (q.more ++ ys)
-      (subst (IsPermutation ((p.more ++ q.more) ++ xs)) (append_assoc q.more p.more xs) (IsPermutation-append_left xs (p.more ++ q.more) (q.more ++ p.more) (IsPermutation-append_comm p.more q.more)))
-      (IsPermutation-append_right q.more (p.more ++ xs) ys p.are))
-      q.are;
-  tell = subst (IsPermutation (a ++ b)) (sym (map-append cell_of p.more q.more))
-      (IsPermutation-trans (a ++ b) (map cell_of p.more ++ b) (map cell_of p.more ++ map cell_of q.more)
-      (IsPermutation-append_left b a (map cell_of p.more) p.tell) (IsPermutation-append_right (map cell_of p.more) b (map cell_of q.more) q.tell));
-  theirs = all_of_both (λ (e : ElementRow). e.unit ≡ unit) p.more q.more p.theirs q.theirs;
-}
 
 texts_more : (k : ℕ) (texts : List (Option Bytes)) (text : Option Bytes) → texts_from k (texts ++ text ∷ []) ≡ texts_from k texts ++ texts_from (k + length texts) (text ∷ [])
 texts_more k [] text = ap (λ n. texts_from n (text ∷ [])) (omega arith)

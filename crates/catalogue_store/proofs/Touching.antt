@@ -3,6 +3,7 @@ use Rattle.std.proofs.Common.{◌≡◌, ◌≢◌, ℕ, true, false, ◌||◌, 
 use Rattle.std.specs.List.{AllByRecursion, list_any}
 use Rattle.std.proofs.lemmas.Bool.Decides.{nat_tests}
 use Rattle.sqlite.specs.Table.{Table}
+use Rattle.sqlite_trees.proofs.ListLemmas.{all_of}
 use Rattle.sqlite.specs.Tree.{Trees}
 use Rattle.sqlite.specs.Effect.{Database}
 use Rattle.catalogue_store.specs.Schema.{Version, Links, Spans, schema}
@@ -45,3 +46,6 @@ each_again old mid new a (n ∷ ns) p q = (λ h. q.0 h ∙ p.0 h, each_again old
 
 pub touched_again : (a : List ℕ) (old mid new : Database) → OnlyTouches a old mid → OnlyTouches a mid new → OnlyTouches a old new
 touched_again a old mid new p q = each_again old.trees mid.trees new.trees a table_trees p q
+
+pub nothing_touched : (a : List ℕ) (db : Database) → OnlyTouches a db db
+nothing_touched a db = all_of (λ tree. list_any (nat_eq tree) a ≡ false → db.trees tree ≡ db.trees tree) (λ _ _. refl) table_trees

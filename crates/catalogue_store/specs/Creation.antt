@@ -1,5 +1,5 @@
 -- What a definition makes.
-use Rattle.std.specs.Prelude.{◌≡◌, ℕ, false, List, [], ◌∷◌, ◌++◌, Ok, Some, slice_get, drop, IsTrue}
+use Rattle.std.specs.Prelude.{◌≡◌, ℕ, false, List, [], ◌∷◌, ◌++◌, Ok, Some, slice_get, drop, length, IsTrue}
 use Rattle.std.specs.List.{AllByRecursion}
 use Rattle.sqlite.specs.Table.{Table}
 use Rattle.sqlite.specs.Schema.{Schema}
@@ -23,20 +23,20 @@ pub record Says (before : Schema) (text : List ℕ) (command : Command) : Type 0
   pub plain : IsPlain (understood before text)
   pub whole : statement_of text (understood before text) ≡ text
 
--- the text defines a table, the next after the desk's and some more
-pub record DefinesTable (before : Schema) (text : List ℕ) (after : Schema) : Type 0 where
+-- the text defines a table, the next after those that were there and some more
+pub record DefinesTable (there : List Table) (before : Schema) (text : List ℕ) (after : Schema) : Type 0 where
   pub table : Table
   pub says : Says before text CreateTable
   pub defined : table_defined_by text ≡ Ok table
   pub uncounted : lacks_sequence (created before table) ≡ false
   pub is : created before table ≡ after
   pub more : List Table
-  pub first : before.tables ≡ desk_tables ++ more
-  pub rest : drop 7 before.tables ≡ more
-  pub last : drop 7 after.tables ≡ more ++ record table { tree = next_tree before } ∷ []
+  pub first : before.tables ≡ there ++ more
+  pub rest : drop (length there) before.tables ≡ more
+  pub last : drop (length there) after.tables ≡ more ++ record table { tree = next_tree before } ∷ []
 
 -- the text defines an index on one of the tables
-pub record DefinesIndex (before : Schema) (text : List ℕ) (after : Schema) : Type 0 where
+pub record DefinesIndex (there : List Table) (before : Schema) (text : List ℕ) (after : Schema) : Type 0 where
   pub at : ℕ
   pub table : Table
   pub index : Index
@@ -46,18 +46,18 @@ pub record DefinesIndex (before : Schema) (text : List ℕ) (after : Schema) : T
   pub is : indexed before table index ≡ after
   pub same : after.tables ≡ before.tables
   pub more : List Table
-  pub first : before.tables ≡ desk_tables ++ more
-  pub rest : drop 7 before.tables ≡ more
+  pub first : before.tables ≡ there ++ more
+  pub rest : drop (length there) before.tables ≡ more
 
--- the desk's tables have the rows that they had, and each later one has none
-pub record HasMade (after : Schema) (old new : Database) : Type 0 where
+-- the tables that were there, the first ones, have the rows that they had, and each later one has none
+pub record HasMade (there : List Table) (after : Schema) (old new : Database) : Type 0 where
   pub schema_is : new.schema ≡ after
-  pub kept : KeepsRows desk_tables old.trees new.trees
-  pub empty : AllByRecursion (λ t. new.trees t.tree ≡ []) (drop 7 after.tables)
+  pub kept : KeepsRows there old.trees new.trees
+  pub empty : AllByRecursion (λ t. new.trees t.tree ≡ []) (drop (length there) after.tables)
 
--- while the disk is clean, these tables are made beside what the desk had, and a transaction is open
-abbrev pub IsMaking : Schema → Database → State → Type 0
-IsMaking after before s = HasCleanDisk s → HasMade after before s.now × IsTrue s.in_transaction
+-- while the disk is clean, these tables are made beside what was there, and a transaction is open
+abbrev pub IsMaking : List Table → Schema → Database → State → Type 0
+IsMaking there after before s = HasCleanDisk s → HasMade there after before s.now × IsTrue s.in_transaction
 
 -- the desk's tables and the catalogue's, but for that of the places
 abbrev pub catalogue_schema : Schema

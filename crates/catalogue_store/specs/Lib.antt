@@ -3,6 +3,9 @@ pub mod Merging
 pub mod Publishing
 pub mod Schema
 pub mod Step
+pub mod Faults
+pub mod Legible
+pub mod Transactions
 pub mod Rows
 pub mod Shows
 pub mod Added
@@ -10,7 +13,9 @@ pub mod Finding
 pub mod Put
 pub mod Counting
 pub mod Statuses
+pub mod Moves
 pub mod Adding
+pub mod Describing
 pub mod Creation
 pub mod Order
 pub mod Tests

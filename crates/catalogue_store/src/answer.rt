@@ -1,6 +1,8 @@
 //! Rows that a query answers, read one by one.
 
-ghost use Rattle.std.specs.Prelude.{◌≡◌, List, map, IfOk};
+ghost use Rattle.std.specs.Prelude.{◌≡◌, ℕ, pos, List, [], ◌∷◌, map, slice_index_or, IfOk, IfErr};
+ghost use Rattle.std.specs.List.{AllByRecursion};
+ghost use Rattle.sqlite.specs.declared.types.Value.TheVariants.{Int};
 
 use crate::fault::StoreFault;
 use crate::office::OfficeRow;
@@ -16,17 +18,23 @@ pub(crate) trait FromRow {
     /// The cells that stand for it.
     ghost cells: { Self → Row };
 
+    /// Its cells can be read.
+    ghost is_legible: { Self → Type 0 };
+
     fn read(row: &Row) -> Result<Self, StoreFault>
     where
         Self: Sized,
-        ensures { (x : Self) → row.now ≡ cells x → IfOk result (λ y. y ≡ x) };
+        ensures value { (x : Self) → row.now ≡ cells x → IfOk result (λ y. y ≡ x) }
+        ensures faults { (x : Self) → row.now ≡ cells x → is_legible x → IfErr result (λ e. e ≡ StoreFault.Memory) };
 }
 
 impl FromRow for u64 {
-    ghost use Rattle.std.specs.Prelude.{pos, [], ◌∷◌};
+    ghost use Rattle.std.specs.Prelude.{pos, [], ◌∷◌, ⊤};
     ghost use Rattle.sqlite.specs.declared.types.Value.TheVariants.{Int};
 
     ghost cells = { λ n. Int (pos n) ∷ [] };
+
+    ghost is_legible = { λ _. ⊤ };
 
     fn read(row: &Row) -> Result<u64, StoreFault> {
         Ok(row.get(0)?)
@@ -34,11 +42,13 @@ impl FromRow for u64 {
 }
 
 impl FromRow for Option<u64> {
-    ghost use Rattle.std.specs.Prelude.{pos, [], ◌∷◌, option_map};
+    ghost use Rattle.std.specs.Prelude.{pos, [], ◌∷◌, option_map, ⊤};
     ghost use Rattle.sqlite.specs.Values.{or_null};
     ghost use Rattle.sqlite.specs.declared.types.Value.TheVariants.{Int};
 
     ghost cells = { λ n. or_null Int (option_map pos n) ∷ [] };
+
+    ghost is_legible = { λ _. ⊤ };
 
     fn read(row: &Row) -> Result<Option<u64>, StoreFault> {
         Ok(row.get(0)?)
@@ -53,18 +63,35 @@ pub(crate) struct Status {
 }
 
 impl FromRow for Status {
-    ghost use Rattle.std.specs.Prelude.{[], ◌∷◌};
+    ghost use Rattle.std.specs.Prelude.{[], ◌∷◌, IfSome};
+    ghost use Rattle.std.specs.Int.{w32};
+    ghost use Rattle.std.proofs.Common.{SFits};
     ghost use Rattle.catalogue_store.specs.Rows.{flag};
     ghost use Rattle.sqlite.specs.Values.{or_null};
     ghost use Rattle.sqlite.specs.declared.types.Value.TheVariants.{Int};
 
     ghost cells = { λ s. Int (flag s.draft) ∷ or_null Int s.until ∷ [] };
 
+    ghost is_legible = { λ s. IfSome s.until (SFits w32) };
+
     fn read(row: &Row) -> Result<Status, StoreFault> {
         Ok(Status {
             draft: row.get(0)?,
             until: row.get(1)?,
         })
+    }
+}
+
+impl FromRow for Text {
+    ghost use Rattle.std.specs.Prelude.{[], ◌∷◌, IsUtf8};
+    ghost use Rattle.sqlite.specs.declared.types.Value.TheVariants.{Text as words_cell};
+
+    ghost cells = { λ t. words_cell t ∷ [] };
+
+    ghost is_legible = { λ t. IsUtf8 t };
+
+    fn read(row: &Row) -> Result<Text, StoreFault> {
+        Ok(Text(row.get(0)?))
     }
 }
 
@@ -76,10 +103,12 @@ pub(crate) struct Element {
 }
 
 impl FromRow for Element {
-    ghost use Rattle.std.specs.Prelude.{pos, [], ◌∷◌};
+    ghost use Rattle.std.specs.Prelude.{pos, [], ◌∷◌, IsUtf8};
     ghost use Rattle.sqlite.specs.declared.types.Value.TheVariants.{Int, Text as words_cell};
 
     ghost cells = { λ e. Int (pos e.k) ∷ words_cell e.value ∷ [] };
+
+    ghost is_legible = { λ e. IsUtf8 e.value };
 
     fn read(row: &Row) -> Result<Element, StoreFault> {
         Ok(Element {
@@ -97,10 +126,12 @@ pub(crate) struct Housing {
 }
 
 impl FromRow for Housing {
-    ghost use Rattle.std.specs.Prelude.{pos, [], ◌∷◌};
+    ghost use Rattle.std.specs.Prelude.{pos, [], ◌∷◌, ⊤};
     ghost use Rattle.sqlite.specs.declared.types.Value.TheVariants.{Int};
 
     ghost cells = { λ h. Int (pos h.ord) ∷ Int (pos h.container) ∷ [] };
+
+    ghost is_legible = { λ _. ⊤ };
 
     fn read(row: &Row) -> Result<Housing, StoreFault> {
         Ok(Housing {
@@ -112,9 +143,12 @@ impl FromRow for Housing {
 
 impl FromRow for BoxKey {
     ghost use Rattle.std.specs.Prelude.{[], ◌∷◌};
+    ghost use Rattle.catalogue_store.specs.Legible.{IsLegibleBox};
     ghost use Rattle.sqlite.specs.declared.types.Value.TheVariants.{Text as words_cell};
 
     ghost cells = { λ b. words_cell b.name ∷ words_cell b.location ∷ words_cell b.kind ∷ [] };
+
+    ghost is_legible = { IsLegibleBox };
 
     fn read(row: &Row) -> Result<BoxKey, StoreFault> {
         Ok(BoxKey {
@@ -126,11 +160,13 @@ impl FromRow for BoxKey {
 }
 
 impl FromRow for Link {
-    ghost use Rattle.std.specs.Prelude.{pos, [], ◌∷◌, option_map};
+    ghost use Rattle.std.specs.Prelude.{pos, [], ◌∷◌, option_map, ◌<◌, ◌^◌};
     ghost use Rattle.sqlite.specs.Values.{or_null};
     ghost use Rattle.sqlite.specs.declared.types.Value.TheVariants.{Int};
 
     ghost cells = { λ l. Int (pos l.id) ∷ or_null Int (option_map pos l.parent) ∷ Int (pos l.ord) ∷ [] };
+
+    ghost is_legible = { λ l. l.ord < 2 ^ 32 };
 
     fn read(row: &Row) -> Result<Link, StoreFault> {
         Ok(Link {
@@ -142,9 +178,12 @@ impl FromRow for Link {
 }
 
 impl FromRow for OfficeRow {
+    ghost use Rattle.catalogue_store.specs.Legible.{AreLegibleSettings};
     ghost use Rattle.catalogue_store.specs.Rows.{settings_cells};
 
     ghost cells = { settings_cells };
+
+    ghost is_legible = { AreLegibleSettings };
 
     fn read(row: &Row) -> Result<OfficeRow, StoreFault> {
         let number: i32 = row.get(6)?;
@@ -166,11 +205,22 @@ impl FromRow for OfficeRow {
 
 /// Reads all rows of an answer.
 pub(crate) fn read_all<T: FromRow + Drop>(alloc: Global, rows: &[Row]) -> Result<Vec<T>, StoreFault>
-    ensures { (xs : List T) → rows.now ≡ map T.cells xs → IfOk result (λ all. all.items ≡ xs) }
+    ensures value { (xs : List T) → rows.now ≡ map T.cells xs → IfOk result (λ all. all.items ≡ xs) }
+    ensures faults { (xs : List T) → rows.now ≡ map T.cells xs → AllByRecursion T.is_legible xs → IfErr result (λ e. e ≡ StoreFault.Memory) }
 {
     let mut all = Vec::new(alloc);
     for row in rows {
         all.push(T::read(row)?)?;
     }
     Ok(all)
+}
+
+/// The number in the first row, or 0 where there is none.
+pub(crate) fn first_or_zero(rows: &[Row]) -> Result<u32, StoreFault>
+    ensures { (xs : List ℕ) → rows.now ≡ map (λ n. Int (pos n) ∷ []) xs → IfOk result (λ n. n ≡ slice_index_or xs 0 0) }
+{
+    match rows.first() {
+        Some(row) => Ok(row.get(0)?),
+        None => Ok(0),
+    }
 }

@@ -29,10 +29,10 @@ pub fn create<P: Places, S: Alter>(
     row: &OfficeRow,
 ) -> Result<(), StoreFault>
     requires { row.now.next_unit < 2 ^ 63 }
-    ensures shows { (start : Database) → IsMaking desk_schema start (state S.Store conn.old) → HasCleanDisk (state S.Store conn.new) → OnOk result (Shows P.shows P.version (state S.Store conn.new).now row.now (record { forest = Empty; containers = []; next = row.now.next_unit })) }
-    ensures desk { (start : Database) → IsMaking desk_schema start (state S.Store conn.old) → HasCleanDisk (state S.Store conn.new) → OnOk result (KeepsRows desk_tables start.trees (state S.Store conn.new).now.trees) }
-    ensures goes { (start : Database) → IsMaking desk_schema start (state S.Store conn.old) → OnOk result (Continues (state S.Store conn.old) (state S.Store conn.new)) }
-    ensures cut { (start : Database) → IsMaking desk_schema start (state S.Store conn.old) → OnErr result (IsCut (state S.Store conn.old) (state S.Store conn.new)) }
+    ensures shows { (start : Database) → IsMaking desk_tables desk_schema start (state S.Store conn.old) → HasCleanDisk (state S.Store conn.new) → OnOk result (Shows P.shows P.version (state S.Store conn.new).now row.now (record { forest = Empty; containers = []; next = row.now.next_unit })) }
+    ensures desk { (start : Database) → IsMaking desk_tables desk_schema start (state S.Store conn.old) → HasCleanDisk (state S.Store conn.new) → OnOk result (KeepsRows desk_tables start.trees (state S.Store conn.new).now.trees) }
+    ensures goes { (start : Database) → IsMaking desk_tables desk_schema start (state S.Store conn.old) → OnOk result (Continues (state S.Store conn.old) (state S.Store conn.new)) }
+    ensures cut { (start : Database) → IsMaking desk_tables desk_schema start (state S.Store conn.old) → OnErr result (IsCut (state S.Store conn.old) (state S.Store conn.new)) }
 {
     create_units(conn)?;
     create_containers(conn)?;

@@ -16,18 +16,33 @@ pub enum StoreFault {
 }
 
 impl From<AllocError> for StoreFault {
+    ghost use Rattle.std.specs.Prelude.{◌≡◌};
+    ghost use Rattle.catalogue_store.specs.declared.fault.StoreFault.TheVariants as fault;
+
+    ghost from_gives = { λ _ f. f ≡ fault.Memory };
+
     fn from(_: AllocError) -> StoreFault {
         StoreFault::Memory
     }
 }
 
 impl<T: Drop> From<AllocFailed<T>> for StoreFault {
+    ghost use Rattle.std.specs.Prelude.{◌≡◌};
+    ghost use Rattle.catalogue_store.specs.declared.fault.StoreFault.TheVariants as fault;
+
+    ghost from_gives = { λ _ f. f ≡ fault.Memory };
+
     fn from(_: AllocFailed<T>) -> StoreFault {
         StoreFault::Memory
     }
 }
 
 impl From<Error> for StoreFault {
+    ghost use Rattle.std.specs.Prelude.{◌≡◌};
+    ghost use Rattle.catalogue_store.specs.Faults.{fault_of};
+
+    ghost from_gives = { λ e f. f ≡ fault_of e };
+
     fn from(error: Error) -> StoreFault {
         match error {
             Error::SqliteFailure(ErrorCode::OutOfMemory) => StoreFault::Memory,

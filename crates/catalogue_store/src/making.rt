@@ -1,29 +1,30 @@
 //! The tables are made.
 
-ghost use Rattle.std.specs.Prelude.{◌≡◌, OnOk, OnErr};
+ghost use Rattle.std.specs.Prelude.{◌≡◌, List, OnOk, OnErr};
 ghost use Rattle.sqlite.specs.Held.{state};
 ghost use Rattle.sqlite.specs.Schema.{Schema};
+ghost use Rattle.sqlite.specs.Table.{Table};
 ghost use Rattle.sqlite.specs.Effect.{Database};
 ghost use Rattle.catalogue_store.specs.Creation.{DefinesTable, DefinesIndex, IsMaking, catalogue_schema, unit_schema};
-ghost use Rattle.catalogue_store.specs.Schema.{desk_schema};
+ghost use Rattle.catalogue_store.specs.Schema.{desk_schema, desk_tables};
 ghost use Rattle.catalogue_store.specs.Step.{Continues, IsCut};
 
 use crate::fault::StoreFault;
 use sqlite::{Alter, Connection};
 
 /// Makes one table.
-pub(crate) fn create_table<S: Alter>(conn: &mut Connection<S>, text: &str) -> Result<(), StoreFault>
-    ensures made { (start : Database) (before after : Schema) → IsMaking before start (state S.Store conn.old) → DefinesTable before text.now after → OnOk result (Continues (state S.Store conn.old) (state S.Store conn.new) × IsMaking after start (state S.Store conn.new)) }
-    ensures cut { (start : Database) (before after : Schema) → IsMaking before start (state S.Store conn.old) → DefinesTable before text.now after → OnErr result (IsCut (state S.Store conn.old) (state S.Store conn.new)) }
+pub fn create_table<S: Alter>(conn: &mut Connection<S>, text: &str) -> Result<(), StoreFault>
+    ensures made { (there : List Table) (start : Database) (before after : Schema) → IsMaking there before start (state S.Store conn.old) → DefinesTable there before text.now after → OnOk result (Continues (state S.Store conn.old) (state S.Store conn.new) × IsMaking there after start (state S.Store conn.new)) }
+    ensures cut { (there : List Table) (start : Database) (before after : Schema) → IsMaking there before start (state S.Store conn.old) → DefinesTable there before text.now after → OnErr result (IsCut (state S.Store conn.old) (state S.Store conn.new)) }
 {
     conn.execute(text, &[])?;
     Ok(())
 }
 
 /// Makes one index.
-pub(crate) fn create_index<S: Alter>(conn: &mut Connection<S>, text: &str) -> Result<(), StoreFault>
-    ensures made { (start : Database) (before after : Schema) → IsMaking before start (state S.Store conn.old) → DefinesIndex before text.now after → OnOk result (Continues (state S.Store conn.old) (state S.Store conn.new) × IsMaking after start (state S.Store conn.new)) }
-    ensures cut { (start : Database) (before after : Schema) → IsMaking before start (state S.Store conn.old) → DefinesIndex before text.now after → OnErr result (IsCut (state S.Store conn.old) (state S.Store conn.new)) }
+pub fn create_index<S: Alter>(conn: &mut Connection<S>, text: &str) -> Result<(), StoreFault>
+    ensures made { (there : List Table) (start : Database) (before after : Schema) → IsMaking there before start (state S.Store conn.old) → DefinesIndex there before text.now after → OnOk result (Continues (state S.Store conn.old) (state S.Store conn.new) × IsMaking there after start (state S.Store conn.new)) }
+    ensures cut { (there : List Table) (start : Database) (before after : Schema) → IsMaking there before start (state S.Store conn.old) → DefinesIndex there before text.now after → OnErr result (IsCut (state S.Store conn.old) (state S.Store conn.new)) }
 {
     conn.execute(text, &[])?;
     Ok(())
@@ -31,8 +32,8 @@ pub(crate) fn create_index<S: Alter>(conn: &mut Connection<S>, text: &str) -> Re
 
 /// Makes the tables of the office, the units and their elements.
 pub(crate) fn create_units<S: Alter>(conn: &mut Connection<S>) -> Result<(), StoreFault>
-    ensures made { (start : Database) → IsMaking desk_schema start (state S.Store conn.old) → OnOk result (Continues (state S.Store conn.old) (state S.Store conn.new) × IsMaking unit_schema start (state S.Store conn.new)) }
-    ensures cut { (start : Database) → IsMaking desk_schema start (state S.Store conn.old) → OnErr result (IsCut (state S.Store conn.old) (state S.Store conn.new)) }
+    ensures made { (start : Database) → IsMaking desk_tables desk_schema start (state S.Store conn.old) → OnOk result (Continues (state S.Store conn.old) (state S.Store conn.new) × IsMaking desk_tables unit_schema start (state S.Store conn.new)) }
+    ensures cut { (start : Database) → IsMaking desk_tables desk_schema start (state S.Store conn.old) → OnErr result (IsCut (state S.Store conn.old) (state S.Store conn.new)) }
 {
     create_table(
         conn,
@@ -50,8 +51,8 @@ pub(crate) fn create_units<S: Alter>(conn: &mut Connection<S>) -> Result<(), Sto
 
 /// Makes the tables of the containers and of what they hold.
 pub(crate) fn create_containers<S: Alter>(conn: &mut Connection<S>) -> Result<(), StoreFault>
-    ensures made { (start : Database) → IsMaking unit_schema start (state S.Store conn.old) → OnOk result (Continues (state S.Store conn.old) (state S.Store conn.new) × IsMaking catalogue_schema start (state S.Store conn.new)) }
-    ensures cut { (start : Database) → IsMaking unit_schema start (state S.Store conn.old) → OnErr result (IsCut (state S.Store conn.old) (state S.Store conn.new)) }
+    ensures made { (start : Database) → IsMaking desk_tables unit_schema start (state S.Store conn.old) → OnOk result (Continues (state S.Store conn.old) (state S.Store conn.new) × IsMaking desk_tables catalogue_schema start (state S.Store conn.new)) }
+    ensures cut { (start : Database) → IsMaking desk_tables unit_schema start (state S.Store conn.old) → OnErr result (IsCut (state S.Store conn.old) (state S.Store conn.new)) }
 {
     create_table(
         conn,

@@ -1,10 +1,12 @@
 //! The row of the office: its settings, its day and its next unit number.
 
-ghost use Rattle.std.specs.Prelude.{◌≡◌, ◌<◌, ◌^◌, ℕ, List, [], ◌∷◌, map, length, OnOk, OnErr, IfOk};
+ghost use Rattle.std.specs.Prelude.{◌≡◌, ◌<◌, ◌^◌, ℕ, List, [], ◌∷◌, map, length, OnOk, OnErr, IfOk, IfErr};
+ghost use Rattle.catalogue_store.specs.Legible.{AreLegibleSettings};
 ghost use Rattle.sqlite.specs.Held.{state};
 ghost use Rattle.sqlite.specs.State.{HasCleanDisk};
 ghost use Rattle.isad_core.specs.declared.values.BoxKey.{BoxKey};
 ghost use Rattle.tree_core.specs.Forest.{size};
+ghost use Rattle.catalogue_store.specs.Faults.{IsUnlimited, HasCause};
 ghost use Rattle.catalogue_store.specs.Counting.{capped};
 ghost use Rattle.catalogue_store.specs.Merging.{Catalogue};
 ghost use Rattle.catalogue_store.specs.Rows.{container_row, office_row as row_of_office, unit_row};
@@ -12,7 +14,7 @@ ghost use Rattle.catalogue_store.specs.Schema.{Version};
 ghost use Rattle.catalogue_store.specs.Shows.{Shows, ShowsOffice};
 ghost use Rattle.catalogue_store.specs.Units.{«Unit» as Described};
 ghost use Rattle.catalogue_store.specs.declared.office.OfficeRow.{OfficeRow};
-ghost use Rattle.catalogue_store.specs.Step.{InOffice, InTransaction, Goes, Looks, IsCut, PutsRow};
+ghost use Rattle.catalogue_store.specs.Step.{InOffice, InTransaction, Goes, Looks, IsCut, PutsRow, HasRows};
 
 use crate::answer::read_all;
 use crate::fault::StoreFault;
@@ -71,6 +73,21 @@ pub(crate) fn insert_office<P: Places, S: Alter>(
     Ok(())
 }
 
+/// Writes the number of the next new unit.
+pub(crate) fn set_next_unit<S: Alter>(conn: &mut Connection<S>, next: u64) -> Result<(), StoreFault>
+    requires inside { InOffice (state S.Store conn.old) }
+    requires small { next < 2 ^ 63 }
+    ensures goes { OnOk result (Goes (state S.Store conn.old) (state S.Store conn.new)) }
+    ensures rows { HasCleanDisk (state S.Store conn.new) → (version : Version) (o : OfficeRow) → ShowsOffice version (state S.Store conn.old).now.trees o → OnOk result (HasRows 13 (row_of_office version (record o { next_unit = next }) ∷ []) (state S.Store conn.old).now (state S.Store conn.new).now) }
+    ensures cut { OnErr result (IsCut (state S.Store conn.old) (state S.Store conn.new)) }
+{
+    conn.execute(
+        "UPDATE office SET next_unit = ?1 WHERE one = 1",
+        &[number(next)],
+    )?;
+    Ok(())
+}
+
 /// The rows of the table: one.
 fn office_rows<S: Alter>(
     alloc: Global,
@@ -78,6 +95,7 @@ fn office_rows<S: Alter>(
 ) -> Result<Vec<OfficeRow>, StoreFault>
     requires inside { InOffice (state S.Store conn.old) }
     ensures rows { HasCleanDisk (state S.Store conn.new) → (version : Version) (o : OfficeRow) → ShowsOffice version (state S.Store conn.old).now.trees o → IfOk result (λ found. found.items ≡ o ∷ []) }
+    ensures faults { HasCleanDisk (state S.Store conn.new) → IsUnlimited (state S.Store conn.old) → (version : Version) (o : OfficeRow) → ShowsOffice version (state S.Store conn.old).now.trees o → AreLegibleSettings o → IfErr result (HasCause (state S.Store conn.old) (state S.Store conn.new)) }
     ensures looks { OnOk result (Looks (state S.Store conn.old) (state S.Store conn.new)) }
     ensures cut { OnErr result (IsCut (state S.Store conn.old) (state S.Store conn.new)) }
 {
@@ -92,6 +110,7 @@ fn office_rows<S: Alter>(
 fn count_units<S: Alter>(alloc: Global, conn: &mut Connection<S>) -> Result<Vec<u64>, StoreFault>
     requires inside { InOffice (state S.Store conn.old) }
     ensures rows { HasCleanDisk (state S.Store conn.new) → (xs : List Described) → (state S.Store conn.old).now.trees 14 ≡ map unit_row xs → IfOk result (λ found. found.items ≡ capped (length xs) ∷ []) }
+    ensures faults { HasCleanDisk (state S.Store conn.new) → IsUnlimited (state S.Store conn.old) → (xs : List Described) → (state S.Store conn.old).now.trees 14 ≡ map unit_row xs → IfErr result (HasCause (state S.Store conn.old) (state S.Store conn.new)) }
     ensures looks { OnOk result (Looks (state S.Store conn.old) (state S.Store conn.new)) }
     ensures cut { OnErr result (IsCut (state S.Store conn.old) (state S.Store conn.new)) }
 {
@@ -106,6 +125,7 @@ fn count_containers<S: Alter>(
 ) -> Result<Vec<u64>, StoreFault>
     requires inside { InOffice (state S.Store conn.old) }
     ensures rows { HasCleanDisk (state S.Store conn.new) → (xs : List (ℕ × BoxKey)) → (state S.Store conn.old).now.trees 18 ≡ map container_row xs → IfOk result (λ found. found.items ≡ capped (length xs) ∷ []) }
+    ensures faults { HasCleanDisk (state S.Store conn.new) → IsUnlimited (state S.Store conn.old) → (xs : List (ℕ × BoxKey)) → (state S.Store conn.old).now.trees 18 ≡ map container_row xs → IfErr result (HasCause (state S.Store conn.old) (state S.Store conn.new)) }
     ensures looks { OnOk result (Looks (state S.Store conn.old) (state S.Store conn.new)) }
     ensures cut { OnErr result (IsCut (state S.Store conn.old) (state S.Store conn.new)) }
 {

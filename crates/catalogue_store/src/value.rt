@@ -9,7 +9,7 @@ ghost use Rattle.catalogue_store.specs.Rows.{flag};
 use isad_core::{Day, Text};
 use sqlite::types::ValueRef;
 
-/// No unit has this number or a greater one.
+/// Nothing has this number or a greater one.
 pub(crate) const NO_NUMBER: u64 = 1 << 63;
 
 pub(crate) fn number<'a>(n: u64) -> ValueRef<'a>

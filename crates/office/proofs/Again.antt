@@ -30,6 +30,8 @@ use Rattle.office.specs.State.{State}
 use Rattle.office.specs.Intake.{Intake, Taken, take, take_rows, with_file, bad_file, too_much, is_full, same_values, unit_of, is_same, is_new, is_changed, remarks, told_of}
 use Rattle.office.specs.Rules.{Reply, catalogue, taken, imported, is_source, gate, decided, step}
 use Rattle.office.specs.Laws.{ImportsAgain}
+pub use Rattle.office.proofs.EachOf.{all_append, all_split, all_filtered}
+use Rattle.office.proofs.EachOf.{all_and, all_true, all_distinct, all_of_found}
 use Rattle.office.proofs.Steps.{step_at}
 use Rattle.office.proofs.FileRows.{AreApartRows, apart_rows}
 use Rattle.office.proofs.Imports.{new_rows, IsTaken, taken_is, same_box, boxes_grow, distinct_again}
@@ -37,13 +39,13 @@ use Rattle.office.proofs.Rooted.{has-each, has-join, nodes-join, grown_keeps, ne
 
 -- ---- texts and values that are the same
 
-same_text : (a : Bytes) → bytes_eq a a ≡ true
+pub same_text : (a : Bytes) → bytes_eq a a ≡ true
 same_text a = grind (arith, bytes_eq-Decides a a)
 
-one_text : (a b : Bytes) → bytes_eq a b ≡ true → a ≡ b
+pub one_text : (a b : Bytes) → bytes_eq a b ≡ true → a ≡ b
 one_text a b e = grind (arith, bytes_eq-Decides a b)
 
-other_way : (a b : Bytes) → bytes_eq a b ≡ false → bytes_eq b a ≡ false
+pub other_way : (a b : Bytes) → bytes_eq a b ≡ false → bytes_eq b a ≡ false
 other_way a b e = elim (cases_Bool (bytes_eq b a)) [ inl t ↦ absurd (false≢true (sym e ∙ (ap (λ x. bytes_eq x b) (sym (one_text b a t)) ∙ same_text b))) | inr f ↦ f ]
 
 pointwise_same : {X : Type 0} (eq : X → X → Bool) → ((x : X) → eq x x ≡ true) → (xs : List X) → pointwise eq xs xs ≡ true
@@ -54,7 +56,7 @@ same_option : (x : Option Bytes) → option_eq bytes_eq x x ≡ true
 same_option None = refl
 same_option (Some a) = same_text a
 
-box_itself : (b : BoxKey) → is_same_box b b ≡ true
+pub box_itself : (b : BoxKey) → is_same_box b b ≡ true
 box_itself b = and_from (bytes_eq b.name b.name) (bytes_eq b.location b.location && bytes_eq b.kind b.kind) (same_text b.name) (and_from (bytes_eq b.location b.location) (bytes_eq b.kind b.kind) (same_text b.location) (same_text b.kind))
 
 values_themselves : (v : Values) → same_values v v ≡ true
@@ -64,33 +66,9 @@ values_themselves v =
 
 -- ---- lists
 
-all_and : {X : Type 0} (P Q R : X → Type 0) → ((x : X) → P x → Q x → R x) → (xs : List X) → AllByRecursion P xs → AllByRecursion Q xs → AllByRecursion R xs
-all_and P Q R f [] p q = tt
-all_and P Q R f (x ∷ xs) p q = (f x p.0 q.0, all_and P Q R f xs p.1 q.1)
-
-all_true : {X : Type 0} (P : X → Type 0) → ((x : X) → P x) → (xs : List X) → AllByRecursion P xs
-all_true P f [] = tt
-all_true P f (x ∷ xs) = (f x, all_true P f xs)
-
-pub all_append : {X : Type 0} (P : X → Type 0) (xs ys : List X) → AllByRecursion P xs → AllByRecursion P ys → AllByRecursion P (xs ++ ys)
-all_append P [] ys h k = k
-all_append P (x ∷ xs) ys h k = (h.0, all_append P xs ys h.1 k)
-
-pub all_split : {X : Type 0} (P : X → Type 0) (xs ys : List X) → AllByRecursion P (xs ++ ys) → AllByRecursion P xs × AllByRecursion P ys
-all_split P [] ys h = (tt, h)
-all_split P (x ∷ xs) ys h = let r = all_split P xs ys h.1 in ((h.0, r.0), r.1)
-
 none_kept : {X : Type 0} (p : X → Bool) (xs : List X) → AllByRecursion (λ x. p x ≡ false) xs → filter p xs ≡ []
 none_kept p [] h = refl
 none_kept p (x ∷ xs) h = ap (λ b. cond b (x ∷ filter p xs) (filter p xs)) h.0 ∙ none_kept p xs h.1
-
-pub all_filtered : {X : Type 0} (P : X → Type 0) (p : X → Bool) (xs : List X) → AllByRecursion P xs → AllByRecursion P (filter p xs)
-all_filtered P p [] h = tt
-all_filtered P p (x ∷ xs) h = at (p x) (all_filtered P p xs h.1)
-  where
-    at : (b : Bool) → AllByRecursion P (filter p xs) → AllByRecursion P (cond b (x ∷ filter p xs) (filter p xs))
-    at true k = (h.0, k)
-    at false k = k
 
 -- what holds of those that are kept holds of each that passes
 all_unfiltered : {X : Type 0} (P : X → Type 0) (p : X → Bool) (xs : List X) → AllByRecursion P (filter p xs) → AllByRecursion (λ x. p x ≡ true → P x) xs
@@ -122,13 +100,13 @@ any_filtered q p f (x ∷ xs) = at (p x) refl (any_filtered q p f xs)
     at false e h = h ∙ sym (ap (λ b. b || list_any q xs) (f x e))
 
 -- one of the containers is b
-abbrev stands_box : BoxKey → List BoxKey → Bool
+abbrev pub stands_box : BoxKey → List BoxKey → Bool
 stands_box b xs = list_any (λ x. is_same_box x b) xs
 
 apart_from : (x y b : BoxKey) → is_same_box x b ≡ false → not (is_same_box x y) ≡ false → is_same_box y b ≡ false
 apart_from x y b h e = subst (λ z. is_same_box z b ≡ false) (same_box x y (not-false (is_same_box x y) e)) h
 
-still_stands : (b : BoxKey) (xs : List BoxKey) → stands_box b (distinct xs) ≡ stands_box b xs
+pub still_stands : (b : BoxKey) (xs : List BoxKey) → stands_box b (distinct xs) ≡ stands_box b xs
 still_stands b [] = refl
 still_stands b (x ∷ xs) = at (is_same_box x b) refl (still_stands b xs)
   where
@@ -139,10 +117,6 @@ still_stands b (x ∷ xs) = at (is_same_box x b) refl (still_stands b xs)
 each_stands : (zs xs : List BoxKey) → ((b : BoxKey) → stands_box b xs ≡ true → stands_box b zs ≡ true) → AllByRecursion (λ b. stands_box b zs ≡ true) xs
 each_stands zs [] f = tt
 each_stands zs (x ∷ xs) f = (f x (or_left (is_same_box x x) (stands_box x xs) (box_itself x)), each_stands zs xs (λ b h. f b (or_right (is_same_box x b) (stands_box b xs) h)))
-
-all_distinct : (P : BoxKey → Type 0) (xs : List BoxKey) → AllByRecursion P xs → AllByRecursion P (distinct xs)
-all_distinct P [] h = tt
-all_distinct P (x ∷ xs) h = (h.0, all_filtered P (λ later. not (is_same_box x later)) (distinct xs) (all_distinct P xs h.1))
 
 pub boxes_again : (boxes : List BoxKey) (rows : List Row) → merged_boxes rows (merged_boxes rows boxes) ≡ merged_boxes rows boxes
 boxes_again boxes rows =
@@ -197,7 +171,7 @@ revised_same source rows u t = at (bytes_eq u.source source) refl
     at false e = refl
 
 -- the rows that get units are rows of the file
-numbered_rows : (f : Forest Unit) (source : Bytes) (n : ℕ) (above news : List Row) (P : Row → Type 0) → AllByRecursion P news → AllByRecursion (λ x. P x.row) (numbered_from f source n above news)
+pub numbered_rows : (f : Forest Unit) (source : Bytes) (n : ℕ) (above news : List Row) (P : Row → Type 0) → AllByRecursion P news → AllByRecursion (λ x. P x.row) (numbered_from f source n above news)
 numbered_rows f source n above [] P h = tt
 numbered_rows f source n above (row ∷ news) P h = (h.0, numbered_rows f source (n + 1) (row ∷ above) news P h.1)
 
@@ -270,7 +244,7 @@ pub record HasTaken (source : Bytes) (rows : List Row) (f : Forest Unit) : Type 
 is_its : (source : Bytes) (x : New) → is_from source x.row.legacy (new_unit source x) ≡ true
 is_its source x = and_from (bytes_eq source source) (bytes_eq x.row.legacy x.row.legacy) (same_text source) (same_text x.row.legacy)
 
-is_from_revised : (source legacy : Bytes) (s : Bytes) (rows : List Row) (u : Unit) → is_from s legacy (revised source rows u) ≡ is_from s legacy u
+pub is_from_revised : (source legacy : Bytes) (s : Bytes) (rows : List Row) (u : Unit) → is_from s legacy (revised source rows u) ≡ is_from s legacy u
 is_from_revised source legacy s rows u = at (bytes_eq u.source source)
   where
     at : (b : Bool) → is_from s legacy (cond b (record u { values = unwrap_or (option_map (λ row. row.values) (find (has_legacy u.legacy) rows)) u.values }) u) ≡ is_from s legacy u
@@ -359,14 +333,6 @@ found_one f is r e h = go (nodes f) r e h
         at : (b : Bool) → is u ≡ b → cond b (Some u) (find is us) ≡ r → (b || list_any is us) ≡ true → (find is us ≡ r → list_any is us ≡ true → (v : Unit) × (r ≡ Some v) × (is v ≡ true)) → (v : Unit) × (r ≡ Some v) × (is v ≡ true)
         at true t k l g = (u, sym k, t)
         at false t k l g = g k l
-
-all_of_found : (P : Unit → Type 0) (is : Unit → Bool) (us : List Unit) (u : Unit) → find is us ≡ Some u → AllByRecursion P us → P u
-all_of_found P is [] u e h = absurd (cc)
-all_of_found P is (v ∷ us) u e h = at (is v) e (all_of_found P is us u)
-  where
-    at : (b : Bool) → cond b (Some v) (find is us) ≡ Some u → (find is us ≡ Some u → AllByRecursion P us → P u) → P u
-    at true k g = subst P (let s : v ≡ u = cc in s) h.0
-    at false k g = g k h.1
 
 -- each row leaves its unit as it was
 row_same : (source : Bytes) (rows : List Row) (f : Forest Unit) (row : Row) → AllByRecursion (Tells source rows) (nodes f) → is_known f source row ≡ true → find (has_legacy row.legacy) rows ≡ Some row → is_same f source row ≡ true

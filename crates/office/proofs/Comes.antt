@@ -19,6 +19,7 @@ use Rattle.office.specs.Laws.{ComesNew}
 use Rattle.office.proofs.Steps.{step_at}
 use Rattle.office.proofs.Imports.{new_rows, taken_is}
 use Rattle.office.proofs.Rooted.{or_each, has_node, has-each, has-join, revised_id}
+use Rattle.office.proofs.DistinctLists.{all_so}
 use Rattle.office.proofs.Again.{all_merged}
 
 -- what holds of the number of each unit holds of each number that a unit has
@@ -27,17 +28,13 @@ of_number P [] v h e = absurd (false≢true e)
 of_number P (u ∷ us) v h e =
     elim (or_cases (nat_eq v u.id) (list_any (has_id v) us) e) [ inl s ↦ subst P (sym (eqb-true v u.id s)) h.0 | inr r ↦ of_number P us v h.1 r ]
 
-each_there : (us all : List Unit) → ((v : ℕ) → list_any (has_id v) us ≡ true → list_any (has_id v) all ≡ true) → AllByRecursion (λ u. list_any (has_id u.id) all ≡ true) us
+pub each_there : (us all : List Unit) → ((v : ℕ) → list_any (has_id v) us ≡ true → list_any (has_id v) all ≡ true) → AllByRecursion (λ u. list_any (has_id u.id) all ≡ true) us
 each_there [] all f = tt
 each_there (u ∷ us) all f = (f u.id (or_left (nat_eq u.id u.id) (list_any (has_id u.id) us) (eq-eqb u.id u.id refl)), each_there us all (λ v h. f v (or_right (nat_eq v u.id) (list_any (has_id v) us) h)))
 
-all_with : {X : Type 0} (P Q : X → Type 0) → ((x : X) → P x → Q x) → (xs : List X) → AllByRecursion P xs → AllByRecursion Q xs
-all_with P Q f [] h = tt
-all_with P Q f (x ∷ xs) h = (f x h.0, all_with P Q f xs h.1)
-
 -- the numbers of new units
 
-length-numbered : (f : Forest Unit) (source : Bytes) (n : ℕ) (above news : List Row) → length (numbered_from f source n above news) ≡ length news
+pub length-numbered : (f : Forest Unit) (source : Bytes) (n : ℕ) (above news : List Row) → length (numbered_from f source n above news) ≡ length news
 length-numbered f source n above [] = refl
 length-numbered f source n above (row ∷ news) = ap Rattle.std.specs.Prelude.suc (length-numbered f source (n + 1) (row ∷ above) news)
 
@@ -46,7 +43,7 @@ ids_between f source n above [] = tt
 ids_between f source n above (row ∷ news) =
     let l : List New = numbered_from f source (n + 1) (row ∷ above) news in (
       (omega arith, omega arith),
-      all_with (λ x. (n + 1 ≤ x.id) × (x.id < n + 1 + length l)) (λ x. (n ≤ x.id) × (x.id < n + Rattle.std.specs.Prelude.suc (length l))) (λ x h. (let a = h.0 in omega (arith, a), let b = h.1 in omega (arith, b))) l (ids_between f source (n + 1) (row ∷ above) news),
+      all_so (λ x. (n + 1 ≤ x.id) × (x.id < n + 1 + length l)) (λ x. (n ≤ x.id) × (x.id < n + Rattle.std.specs.Prelude.suc (length l))) (λ x h. (let a = h.0 in omega (arith, a), let b = h.1 in omega (arith, b))) l (ids_between f source (n + 1) (row ∷ above) news),
     )
 
 -- the unit was there, or has one of these numbers
@@ -57,8 +54,8 @@ pub merged_units : (c : Catalogue) (source : Bytes) (rows : List Row) → let ne
 merged_units c source rows =
     let new : List New = numbered_from c.forest source c.next [] (new_rows c source rows) in
     all_merged (λ u. OldOrNew c.forest c.next (c.next + length new) u.id) source rows new c.forest
-    (all_with (λ x. (c.next ≤ x.id) × (x.id < c.next + length new)) (λ x. OldOrNew c.forest c.next (c.next + length new) x.id) (λ x h. inr h) new (ids_between c.forest source c.next [] (new_rows c source rows)))
-    (all_with (λ u. has_unit c.forest u.id ≡ true) (λ u. OldOrNew c.forest c.next (c.next + length new) (revised source rows u).id) (λ u h. inl (subst (λ n. has_unit c.forest n ≡ true) (sym (revised_id source rows u)) h)) (nodes c.forest) (each_there (nodes c.forest) (nodes c.forest) (λ v h. h)))
+    (all_so (λ x. (c.next ≤ x.id) × (x.id < c.next + length new)) (λ x. OldOrNew c.forest c.next (c.next + length new) x.id) (λ x h. inr h) new (ids_between c.forest source c.next [] (new_rows c source rows)))
+    (all_so (λ u. has_unit c.forest u.id ≡ true) (λ u. OldOrNew c.forest c.next (c.next + length new) (revised source rows u).id) (λ u h. inl (subst (λ n. has_unit c.forest n ≡ true) (sym (revised_id source rows u)) h)) (nodes c.forest) (each_there (nodes c.forest) (nodes c.forest) (λ v h. h)))
 
 imported_units : (s : State) (source file : Bytes) (t : Taken) → taken s source file ≡ t → ComesNew s (imported s t)
 imported_units s source file (Err fault) e u h = inl h

@@ -13,6 +13,7 @@ use Rattle.atom_csv.specs.declared.cause.Cause.{Cause}
 use Rattle.atom_csv.specs.declared.cause.Cause.TheVariants as cause
 use Rattle.atom_csv.specs.declared.file.File.{File}
 use Rattle.atom_csv.specs.declared.file.Row.{Row}
+use Rattle.office.proofs.EachOf.{none_found}
 
 -- no two rows have one legacyId
 abbrev pub AreApartRows : List Row → Type 0
@@ -93,14 +94,6 @@ tells header line row f e = tells_at header line row (is_blank line.fields) (is_
 
 -- nobody above has its legacyId
 
-none_found : (p : Fields → Bool) (xs : List Fields) → find p xs ≡ None → list_any p xs ≡ false
-none_found p [] e = refl
-none_found p (x ∷ xs) e = at (p x) e (none_found p xs)
-  where
-    at : (b : Bool) → cond b (Some x) (find p xs) ≡ None → (find p xs ≡ None → list_any p xs ≡ false) → (b || list_any p xs) ≡ false
-    at true h k = absurd (cc)
-    at false h k = k h
-
 none_mapped : {X Y : Type 0} (g : X → Y) (x : Option X) → option_map g x ≡ None → x ≡ None
 none_mapped g None e = refl
 none_mapped g (Some x) e = absurd (cc)
@@ -120,10 +113,10 @@ stood_nowhere header line row t =
 
 -- the rows of lines without a fault
 
-abbrev line_at : List Fields → Fields → Line
+abbrev pub line_at : List Fields → Fields → Line
 line_at above fields = record { above = above; fields = fields }
 
-no_fault_cons : (header : Fields) (above : List Fields) (fields : Fields) (rest : List Fields) → filter_map (fault_of header) (lines_below above (fields ∷ rest)) ≡ [] → (fault_of header (line_at above fields) ≡ None) × (filter_map (fault_of header) (lines_below (above ++ fields ∷ []) rest) ≡ [])
+pub no_fault_cons : (header : Fields) (above : List Fields) (fields : Fields) (rest : List Fields) → filter_map (fault_of header) (lines_below above (fields ∷ rest)) ≡ [] → (fault_of header (line_at above fields) ≡ None) × (filter_map (fault_of header) (lines_below (above ++ fields ∷ []) rest) ≡ [])
 no_fault_cons header above fields rest e = at (fault_of header (line_at above fields)) e
   where
     at : (x : Option (ℕ × ℕ)) → cons_option x (filter_map (fault_of header) (lines_below (above ++ fields ∷ []) rest)) ≡ [] → (x ≡ None) × (filter_map (fault_of header) (lines_below (above ++ fields ∷ []) rest) ≡ [])

@@ -15,6 +15,8 @@ use Rattle.office.specs.Intake.{Taken}
 use Rattle.office.specs.Sound.{IsAscending}
 use Rattle.office.specs.State.{container_of}
 use Rattle.office.specs.Laws.{Kind, Tickets, Orders, Runs, Containers, Units, numbers_from, ticket_given, order_given, run_given, given, all_given}
+use Rattle.office.proofs.EachOf.{all_append}
+use Rattle.office.proofs.DistinctLists.{all_so}
 use Rattle.office.proofs.Steps.{step_at}
 use Rattle.office.proofs.Imports.{new_boxes, boxes_after, next_after}
 use Rattle.office.proofs.Boxes.{step_apart}
@@ -40,28 +42,20 @@ nothing low high h = record { ascend = tt; above = tt; within = tt; no_lower = h
 next_one : (n : ℕ) → AreBetween n (suc n) (n ∷ [])
 next_one n = record { ascend = (tt, tt); above = (omega arith, tt); within = (omega arith, tt); no_lower = omega arith }
 
-all_weaker : (P Q : ℕ → Type 0) → ((n : ℕ) → P n → Q n) → (ns : List ℕ) → AllByRecursion P ns → AllByRecursion Q ns
-all_weaker P Q f [] h = tt
-all_weaker P Q f (n ∷ ns) h = (f n h.0, all_weaker P Q f ns h.1)
-
-all-append : (P : ℕ → Type 0) (ms ns : List ℕ) → AllByRecursion P ms → AllByRecursion P ns → AllByRecursion P (ms ++ ns)
-all-append P [] ns h k = k
-all-append P (m ∷ ms) ns h k = (h.0, all-append P ms ns h.1 k)
-
 ascending-append : (ms ns : List ℕ) (mid : ℕ) → IsAscending ms → IsAscending ns → AllByRecursion (λ m. m < mid) ms → AllByRecursion (λ n. mid ≤ n) ns → IsAscending (ms ++ ns)
 ascending-append [] ns mid a b h k = b
 ascending-append (m ∷ ms) ns mid a b h k =
     let l = h.0 in
-    (all-append (λ n. m < n) ms ns a.0 (all_weaker (λ n. mid ≤ n) (λ n. m < n) (λ n i. omega (arith, i, l)) ns k), ascending-append ms ns mid a.1 b h.1 k)
+    (all_append (λ n. m < n) ms ns a.0 (all_so (λ n. mid ≤ n) (λ n. m < n) (λ n i. omega (arith, i, l)) ns k), ascending-append ms ns mid a.1 b h.1 k)
 
 from_between : (m n : ℕ) → AreBetween m (m + n) (numbers_from m n)
 from_between m zero = nothing m (m + zero) (omega arith)
 from_between m (suc n) =
     let r = from_between (suc m) n in
     record {
-      ascend = (all_weaker (λ k. suc m ≤ k) (λ k. m < k) (λ k h. h) (numbers_from (suc m) n) r.above, r.ascend);
-      above = (omega arith, all_weaker (λ k. suc m ≤ k) (λ k. m ≤ k) (λ k h. omega (arith, h)) (numbers_from (suc m) n) r.above);
-      within = (omega arith, all_weaker (λ k. k < suc m + n) (λ k. k < m + suc n) (λ k h. omega (arith, h)) (numbers_from (suc m) n) r.within);
+      ascend = (all_so (λ k. suc m ≤ k) (λ k. m < k) (λ k h. h) (numbers_from (suc m) n) r.above, r.ascend);
+      above = (omega arith, all_so (λ k. suc m ≤ k) (λ k. m ≤ k) (λ k h. omega (arith, h)) (numbers_from (suc m) n) r.above);
+      within = (omega arith, all_so (λ k. k < suc m + n) (λ k. k < m + suc n) (λ k h. omega (arith, h)) (numbers_from (suc m) n) r.within);
       no_lower = omega arith;
     }
 
@@ -243,8 +237,8 @@ given_above kind s [] low b h = tt
 given_above kind s (asked ∷ later) low b h =
     let x = step_between kind s asked b in
     let up = x.no_lower in
-    all-append (λ n. low ≤ n) (given kind s asked) (all_given kind (step s asked).0 later)
-    (all_weaker (λ n. next kind s ≤ n) (λ n. low ≤ n) (λ n i. omega (arith, i, h)) (given kind s asked) x.above)
+    all_append (λ n. low ≤ n) (given kind s asked) (all_given kind (step s asked).0 later)
+    (all_so (λ n. next kind s ≤ n) (λ n. low ≤ n) (λ n i. omega (arith, i, h)) (given kind s asked) x.above)
     (given_above kind (step s asked).0 later low (step_apart s asked b) (omega (arith, up, h)))
 
 pub given_once : (kind : Kind) (s : State) (later : List Command) → distinct s.boxes ≡ s.boxes → IsAscending (all_given kind s later)

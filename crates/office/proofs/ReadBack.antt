@@ -10,7 +10,8 @@ use Rattle.std.proofs.lemmas.Bool.{cases_eq, cases_Bool, false≢true, eq-eqb}
 use Rattle.office.specs.Words.{numbered, numbers_to, stands}
 use Rattle.office.specs.State.{Line, Run, Permit, State}
 use Rattle.office.specs.Tables.{rows_from, SeatRow, seat_rows_from, run_row, RunLineRow, run_line_row, lines_from, PermitRow, permit_row, permit_rows}
-use Rattle.office.specs.Reading.{seats_said, line_from, run_from, permits_said, container_row, box_from, Version, SaysAllButUnits}
+use Rattle.catalogue_store.specs.Schema.{Version}
+use Rattle.office.specs.Reading.{seats_said, line_from, run_from, permits_said, container_row, box_from, SaysAllButUnits}
 use Rattle.office.proofs.TableLaws.{rows_back, reads_back}
 use Rattle.office.specs.Sound.{AreGoodPermits, IsSoundDesk}
 use Rattle.office.proofs.Words.{same_number, other_number, stands-push, numbered_within}

@@ -68,7 +68,7 @@ renew_readers s t until g =
 
 -- permits
 
-all_granted : (P : ℕ → Type 0) (u : ℕ) (day : ℤ) (ps : List Permit) → P u → AllByRecursion (λ p. P p.unit) ps → AllByRecursion (λ p. P p.unit) (granted u day ps)
+pub all_granted : (P : ℕ → Type 0) (u : ℕ) (day : ℤ) (ps : List Permit) → P u → AllByRecursion (λ p. P p.unit) ps → AllByRecursion (λ p. P p.unit) (granted u day ps)
 all_granted P u day [] x h = (x, tt)
 all_granted P u day (p ∷ ps) x h = at (nat_eq p.unit u) (nat_lt u p.unit) (all_granted P u day ps x h.1)
   where
@@ -144,7 +144,7 @@ passing_at : (test : Permit → Bool) (p : Permit) (ps : List Permit) (b : Bool)
 passing_at test p ps true e h = (e, h)
 passing_at test p ps false e h = h
 
-all_passing : (test : Permit → Bool) (ps : List Permit) → AllByRecursion (λ q. test q ≡ true) (filter test ps)
+pub all_passing : (test : Permit → Bool) (ps : List Permit) → AllByRecursion (λ q. test q ≡ true) (filter test ps)
 all_passing test [] = tt
 all_passing test (p ∷ ps) = passing_at test p (filter test ps) (test p) refl (all_passing test ps)
 

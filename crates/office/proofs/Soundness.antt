@@ -34,7 +34,7 @@ desk_after s asked g ok =
 pub always_sound_desk : (s : State) (later : List Command) → IsSoundDesk s → IsSoundDesk (state_after s later)
 always_sound_desk = run_keeps IsSoundDesk desk_after
 
-no_value : {X : Type 0} (n : ℕ) (x : X) → numbered {X = X} [] n ≡ Some x → ⊥
+pub no_value : {X : Type 0} (n : ℕ) (x : X) → numbered {X = X} [] n ≡ Some x → ⊥
 no_value zero x e = cc
 no_value (suc n) x e = cc
 

@@ -4,7 +4,6 @@ use Rattle.std.specs.Prelude.{nat_eq, nat_lt, map, filter, filter_map, find, opt
 use Rattle.std.proofs.Math.Path.{fun_ext}
 use Rattle.std.specs.Str.{bytes_eq}
 use Rattle.std.proofs.lemmas.Slice.Eq.{bytes_eq-Decides}
-use Rattle.std.proofs.lemmas.List.{map-append}
 use Rattle.std.proofs.lemmas.List.Sorted.{IsPermutation-refl}
 use Rattle.std.specs.List.{list_all, flat_map, list_any, AllByRecursion, IsDistinct, cons_option}
 use Rattle.std.proofs.lemmas.Bool.{cases_Bool, cases_lt, lt-ltb, le-ltb, false≢true, or_cases, and_parts}
@@ -12,6 +11,7 @@ use Rattle.std.proofs.lemmas.List.Concat.{flat_map-cons}
 use Rattle.isad_core.specs.Texts.{Bytes}
 use Rattle.isad_core.specs.declared.values.BoxKey.{BoxKey}
 use Rattle.atom_csv.specs.Values.{is_same as is_same_box}
+use Rattle.tree_core.proofs.EachLemmas.{nodes-each}
 use Rattle.catalogue_store.specs.Units.{Unit}
 use Rattle.catalogue_store.specs.Merging.{box_number, number_in}
 use Rattle.tree_core.specs.Forest.{Forest, Empty, Node, nodes, each}
@@ -21,7 +21,8 @@ use Rattle.office.specs.Soundness.{IsGoodUnit}
 use Rattle.office.specs.Words.{numbered}
 use Rattle.office.specs.Laws.{numbers_from}
 use Rattle.office.specs.Tables.{rows_from}
-use Rattle.office.specs.Reading.{UnitRow, unit_row, number_of, ElementRow, after_level, element_rows_from, HousingRow, housing_row, box_at, boxes_from, boxes_said, text_said, Rows, Version, Links, Spans, tables, container_row, box_from, values_said, unit_from, unit_said, places_said, place_rows, SaysUnits}
+use Rattle.catalogue_store.specs.Schema.{Version, Links, Spans}
+use Rattle.office.specs.Reading.{UnitRow, unit_row, number_of, ElementRow, after_level, element_rows_from, HousingRow, housing_row, box_at, boxes_from, boxes_said, text_said, Rows, tables, container_row, box_from, values_said, unit_from, unit_said, places_said, place_rows, SaysUnits}
 use Rattle.office.proofs.TableLaws.{rows_back}
 use Rattle.office.proofs.Nested.{spans_say}
 use Rattle.office.proofs.Linked.{links_say}
@@ -100,7 +101,7 @@ module _ {R : Type 0} (key : R → ℕ) (rows : Unit → List R) (own : (u : Uni
 
 -- ---- the texts of a unit
 
-found_kept : {R : Type 0} (a b : R → Bool) (rs : List R) → find (λ r. a r && b r) rs ≡ find b (filter a rs)
+pub found_kept : {R : Type 0} (a b : R → Bool) (rs : List R) → find (λ r. a r && b r) rs ≡ find b (filter a rs)
 found_kept a b [] = refl
 found_kept a b (r ∷ rs) = at (a r) (found_kept a b rs)
   where
@@ -108,7 +109,7 @@ found_kept a b (r ∷ rs) = at (a r) (found_kept a b rs)
     at true e = ap (λ x. cond (b r) (Some r) x) e
     at false e = e
 
-after_less : (a b : ℕ) → a < b → after_level a < after_level b
+pub after_less : (a b : ℕ) → a < b → after_level a < after_level b
 after_less a b h = at (nat_lt a 4) (nat_lt b 4) refl refl
   where
     at : (x y : Bool) → nat_lt a 4 ≡ x → nat_lt b 4 ≡ y → cond x a (a + 1) < cond y b (b + 1)
@@ -150,7 +151,7 @@ texts_back u k (Some text ∷ texts) =
 
 -- ---- the containers of a unit
 
-box_itself : (b : BoxKey) → is_same_box b b ≡ true
+pub box_itself : (b : BoxKey) → is_same_box b b ≡ true
 box_itself b = both (bytes_eq b.name b.name) (bytes_eq b.location b.location && bytes_eq b.kind b.kind) (same_text b.name) (both (bytes_eq b.location b.location) (bytes_eq b.kind b.kind) (same_text b.location) (same_text b.kind))
   where
     same_text : (a : Bytes) → bytes_eq a a ≡ true
@@ -160,7 +161,7 @@ box_itself b = both (bytes_eq b.name b.name) (bytes_eq b.location b.location && 
     both true y e f = f
     both false y e f = absurd (false≢true e)
 
-number_there : (boxes : List BoxKey) (b : BoxKey) → list_any (is_same_box b) boxes ≡ true → (n : ℕ) × (number_in boxes b ≡ Some (suc n)) × (slice_get boxes n ≡ Some b)
+pub number_there : (boxes : List BoxKey) (b : BoxKey) → list_any (is_same_box b) boxes ≡ true → (n : ℕ) × (number_in boxes b ≡ Some (suc n)) × (slice_get boxes n ≡ Some b)
 number_there [] b h = absurd (false≢true h)
 number_there (c ∷ boxes) b h = at (is_same_box c b) refl (number_there boxes b)
   where
@@ -173,7 +174,7 @@ number_there (c ∷ boxes) b h = at (is_same_box c b) refl (number_there boxes b
         ]) in
         (suc r.0, ap (option_map suc) r.1, r.2)
 
-number_back : (boxes : List BoxKey) (b : BoxKey) → list_any (is_same_box b) boxes ≡ true → numbered boxes (box_number boxes b) ≡ Some b
+pub number_back : (boxes : List BoxKey) (b : BoxKey) → list_any (is_same_box b) boxes ≡ true → numbered boxes (box_number boxes b) ≡ Some b
 number_back boxes b h = let r = number_there boxes b h in ap (λ n. numbered boxes (unwrap_or n 0)) r.1 ∙ r.2
 
 abbrev box_of : List BoxKey → List HousingRow → ℕ → Option BoxKey
@@ -201,12 +202,12 @@ length-rows boxes u n (b ∷ bs) = ap suc (length-rows boxes u (suc n) bs)
 
 -- ---- one unit
 
-elements_own : (u k : ℕ) (texts : List (Option Bytes)) → AllByRecursion (λ (r : ElementRow). r.unit ≡ u) (element_rows_from u k texts)
+pub elements_own : (u k : ℕ) (texts : List (Option Bytes)) → AllByRecursion (λ (r : ElementRow). r.unit ≡ u) (element_rows_from u k texts)
 elements_own u k [] = tt
 elements_own u k (None ∷ texts) = elements_own u (suc k) texts
 elements_own u k (Some text ∷ texts) = (refl, elements_own u (suc k) texts)
 
-housings_own : (boxes : List BoxKey) (u n : ℕ) (bs : List BoxKey) → AllByRecursion (λ (r : HousingRow). r.unit ≡ u) (rows_from (housing_row boxes u) n bs)
+pub housings_own : (boxes : List BoxKey) (u n : ℕ) (bs : List BoxKey) → AllByRecursion (λ (r : HousingRow). r.unit ≡ u) (rows_from (housing_row boxes u) n bs)
 housings_own boxes u n [] = tt
 housings_own boxes u n (b ∷ bs) = (refl, housings_own boxes u (suc n) bs)
 
@@ -260,12 +261,8 @@ each_same g (Node u c o) h =
     let r = split (λ u. g u ≡ u) (nodes c) (nodes o) h.1 in
     ap (λ v. Node v (each g c) (each g o)) h.0 ∙ (ap (λ k. Node u k (each g o)) (each_same g c r.0) ∙ ap (λ k. Node u c k) (each_same g o r.1))
 
-nodes-each : (f : Forest Unit) → nodes (each number_of f) ≡ map number_of (nodes f)
-nodes-each Empty = refl
-nodes-each (Node u c o) = ap (λ l. u.id ∷ l) (ap (λ l. l ++ nodes (each number_of o)) (nodes-each c) ∙ (ap (λ l. map number_of (nodes c) ++ l) (nodes-each o) ∙ sym (map-append number_of (nodes c) (nodes o))))
-
 places_back : (version : Version) (f : Forest Unit) → IsDistinct nat_eq (map number_of (nodes f)) → places_said (place_rows version (each number_of f)) ≡ each number_of f
-places_back Links f d = links_say (each number_of f) (siblings (each number_of f)) (record { distinct = subst (IsDistinct nat_eq) (sym (nodes-each f)) d; rows = IsPermutation-refl (siblings (each number_of f)) })
+places_back Links f d = links_say (each number_of f) (siblings (each number_of f)) (record { distinct = subst (IsDistinct nat_eq) (sym (nodes-each number_of f)) d; rows = IsPermutation-refl (siblings (each number_of f)) })
 places_back Spans f d = spans_say (each number_of f)
 
 pub units_back : (version : Version) (s : State) → IsDistinct nat_eq (map number_of (nodes s.forest)) → AllByRecursion (IsGoodUnit s.boxes) (nodes s.forest) → SaysUnits version s

@@ -1,7 +1,8 @@
 -- The rows of a sound state say that state.
 use Rattle.std.proofs.Common.{◌≡◌, ap, ◌∙◌}
 use Rattle.office.specs.State.{State}
-use Rattle.office.specs.Reading.{Version, tables, state_of}
+use Rattle.catalogue_store.specs.Schema.{Version}
+use Rattle.office.specs.Reading.{tables, state_of}
 use Rattle.office.specs.Soundness.{IsSound}
 use Rattle.office.proofs.ReadBack.{says_all_but_units}
 use Rattle.office.proofs.UnitRows.{units_back}

@@ -21,4 +21,12 @@ pub mod Secrecy
 pub mod Soundness
 pub mod Tables
 pub mod Reading
+pub mod DeskCauses
+pub mod DeskCausesRows
+pub mod DeskJudged
 pub mod ReadingRows
+pub mod Imported
+pub mod CatalogueCauses
+pub mod CatalogueCausesRows
+pub mod Causes
+pub mod Judged

@@ -10,6 +10,8 @@ use Rattle.tree_core.specs.Spans.{number}
 use Rattle.tree_core.specs.Steps.{is_at}
 use Rattle.tree_core.specs.declared.rows.Link.{Link}
 use Rattle.tree_core.specs.declared.rows.Span.{Span}
+use Rattle.catalogue_store.specs.Rows.{version_number}
+use Rattle.catalogue_store.specs.Schema.{Version, Links, Spans}
 use Rattle.catalogue_store.specs.Units.{Unit}
 use Rattle.catalogue_store.specs.Merging.{box_number}
 use Rattle.office.specs.Words.{numbered}
@@ -83,14 +85,6 @@ housing_row containers u n box = record { unit = u; ord = n; container = box_num
 pub data PlaceRows : Type 0 where
   LinkRows : List Link → PlaceRows
   SpanRows : List Span → PlaceRows
-
-pub data Version : Type 0 where
-  Links : Version
-  Spans : Version
-
-abbrev pub version_number : Version → ℕ
-version_number Links = 1
-version_number Spans = 2
 
 abbrev pub place_rows : Version → Forest ℕ → PlaceRows
 place_rows Links f = LinkRows (siblings f)

@@ -5,7 +5,8 @@ use Rattle.tree_core.specs.Forest.{Empty, Node}
 use Rattle.tree_core.specs.Worked.{link, span}
 use Rattle.catalogue_store.specs.Units.{Unit}
 use Rattle.office.specs.State.{State}
-use Rattle.office.specs.Reading.{Version, Links, Spans, LinkRows, SpanRows, tables, state_of}
+use Rattle.catalogue_store.specs.Schema.{Version, Links, Spans}
+use Rattle.office.specs.Reading.{LinkRows, SpanRows, tables, state_of}
 use Rattle.office.specs.Worked.{office, march_1, march_2, year_end}
 
 abbrev pub box : ℕ → BoxKey

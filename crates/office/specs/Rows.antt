@@ -4,13 +4,14 @@ use Rattle.tree_core.specs.Forest.{each}
 use Rattle.tree_core.specs.Spans.{number}
 use Rattle.tree_core.specs.Links.{siblings}
 use Rattle.tree_core.specs.Worked.{span, link}
-use Rattle.desk_core.specs.declared.refusal.Refusal.TheVariants.{UnknownUnit, UnknownTicket, UnknownContainer, TicketExpired, NotAvailable, AlreadyOrdered, DailyLimit, NoSeatFree, AlreadySeated, NotSeated, HoldsContainers, UnknownOrder, OrderNotWaiting, NotAtDesk, NotFirst, HandsFull, NotIssued, DayNotLater, StillIssued, IntoItself, WithReader, BadFile, NothingToMove, TooDeep, BadName, NoPermit}
+use Rattle.desk_core.specs.declared.refusal.Refusal.TheVariants.{UnknownUnit, UnknownTicket, UnknownContainer, TicketExpired, NotAvailable, AlreadyOrdered, DailyLimit, NoSeatFree, AlreadySeated, NotSeated, HoldsContainers, UnknownOrder, OrderNotWaiting, NotAtDesk, NotFirst, HandsFull, NotIssued, DayNotLater, StillIssued, IntoItself, WithReader, BadFile, Full, NothingToMove, TooDeep, BadName, NoPermit}
 use Rattle.office.specs.declared.command.Command.TheVariants.{OpenDay, Import, SetStatus, SetClosure, Move, Remove, Register, Renew, TakeSeat, LeaveSeat, Order, Cancel, Run, Reshelve, Issue, Return, Permit, Revoke}
 use Rattle.office.specs.declared.done.Done.TheVariants as done
 use Rattle.office.specs.declared.done.Remark.TheVariants.{LevelTooHigh, LacksEssential}
 use Rattle.catalogue_store.specs.Units.{Unit}
-use Rattle.office.specs.Rules.{Reply, state_after}
-use Rattle.office.specs.Worked.{Answers, office, import, draft, close, ann, bob, order, issued, refused, rows, february_1, march_1, march_2, march_31, april_1, year_end, year_2030, docks, boxes, boxes_with_9, boxes_with_draft, lock_gates, lock_gates_apart, parent_later, translated, told_twice, upside_down, chain, harbour}
+use Rattle.office.specs.Rules.{Reply, replies, state_after}
+use Rattle.office.specs.Soundness.{IsSound}
+use Rattle.office.specs.Worked.{Answers, office, import, draft, close, ann, bob, order, issued, refused, rows, february_1, march_1, march_2, march_31, april_1, year_end, year_2030, docks, boxes, boxes_with_9, boxes_with_draft, lock_gates, lock_gates_apart, parent_later, translated, told_twice, upside_down, chain, harbour, hundred_permits}
 
 -- what is told of the import of four boxes: none has all six essential elements
 abbrev pub four_new : Reply
@@ -204,6 +205,12 @@ Depths =
     Answers
     (import (chain 65) ∷ import (chain 64) ∷ Import (codes "b") docks ∷ Move 1 (Some 65) ∷ Move 2 (Some 65) ∷ Move 3 (Some 66) ∷ Move 65 (Some 62) ∷ Move 65 (Some 61) ∷ [])
     (refused (BadFile 66 12) ∷ rows 0 64 0 0 (LacksEssential 2 ∷ []) ∷ rows 0 2 0 0 (LacksEssential 2 ∷ []) ∷ refused TooDeep ∷ Ok (done.Move 2) ∷ Ok (done.Move 3) ∷ refused IntoItself ∷ refused IntoItself ∷ [])
+
+-- a ticket has permits for a hundred units and no more, and a later day for one of them is granted all the same
+pub record MostPermits : Type 0 where
+  pub office_sound : IsSound hundred_permits
+  pub told : replies hundred_permits (Permit 1 101 april_1 ∷ Permit 1 100 april_1 ∷ Permit 1 1 april_1 ∷ Permit 1 1 march_31 ∷ Revoke 1 50 ∷ Permit 1 101 april_1 ∷ Permit 1 50 april_1 ∷ [])
+      ≡ refused Full ∷ Ok (done.Permit 1 100 april_1) ∷ Ok (done.Permit 1 1 april_1) ∷ Ok (done.Permit 1 1 april_1) ∷ Ok (done.Revoke 50) ∷ Ok (done.Permit 1 101 april_1) ∷ refused Full ∷ []
 
 -- the rows of the places: moves renumber, and what is removed leaves no gap
 pub record Placed : Type 0 where

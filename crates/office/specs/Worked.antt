@@ -1,12 +1,15 @@
 -- A small office, worked by hand: two seats, three orders a day, one container in hand, runs of two.
-use Rattle.std.specs.Prelude.{◌≡◌, ◌++◌, ℕ, zero, suc, ℤ, pos, true, false, List, [], ◌∷◌, Some, Ok, Err, codes, decimal}
+use Rattle.std.specs.Prelude.{◌≡◌, ◌++◌, ℕ, zero, suc, ℤ, pos, true, false, List, [], ◌∷◌, Some, None, Ok, Err, codes, decimal, replicate}
 use Rattle.isad_core.specs.Texts.{Bytes}
+use Rattle.tree_core.specs.Forest.{Forest, Empty, Node}
 use Rattle.desk_core.specs.declared.refusal.Refusal.{Refusal}
+use Rattle.catalogue_store.specs.Units.{Unit}
 use Rattle.office.specs.declared.command.Command.{Command}
 use Rattle.office.specs.declared.command.Command.TheVariants as command
 use Rattle.office.specs.declared.done.Done.TheVariants as done
 use Rattle.office.specs.declared.done.Remark.{Remark}
-use Rattle.office.specs.State.{State, start}
+use Rattle.office.specs.Words.{put}
+use Rattle.office.specs.State.{State, Permit, start}
 use Rattle.office.specs.Rules.{Reply, replies}
 
 -- ---- days
@@ -144,3 +147,36 @@ chain n = codes "legacyId,parentId\n" ++ chain_lines n
 abbrev pub harbour : Bytes
 harbour =
     codes "legacyId,parentId,identifier,title,levelOfDescription,publicationStatus,scopeAndContent,accessConditions\n1,,HUL,Docks,Series,Published,Ships,Open\n2,1,1,Minutes,Series,Published,,\n"
+
+-- ---- an office with 101 units, where Ann has permits for the first hundred
+
+-- a published unit with a title
+abbrev pub titled : ℕ → Unit
+titled n =
+    record {
+      id = n;
+      source = codes "a";
+      legacy = decimal n;
+      values = record { level = codes "Fonds"; texts = None ∷ Some (codes "Minutes") ∷ replicate 23 None; boxes = [] };
+      draft = false;
+      until = None;
+    }
+
+-- n units side by side, numbered from `first`
+abbrev pub units_from : (first n : ℕ) → Forest Unit
+units_from first zero = Empty
+units_from first (suc n) = Node (titled first) Empty (units_from (suc first) n)
+
+-- permits for n units, numbered from `first`
+abbrev pub permits_from : (first n : ℕ) → List Permit
+permits_from first zero = []
+permits_from first (suc n) = record { unit = first; until = march_31 } ∷ permits_from (suc first) n
+
+abbrev pub hundred_permits : State
+hundred_permits =
+    record office {
+      next_unit = 102;
+      forest = units_from 1 101;
+      readers = record { name = codes "Ann"; until = year_end } ∷ [];
+      permits = put office.permits 1 (permits_from 1 100);
+    }

@@ -13,8 +13,11 @@ ghost use Rattle.tree_core.specs.Forest.{Forest};
 ghost use Rattle.tree_core.specs.Spans.{number};
 ghost use Rattle.tree_core.specs.Links.{HoldsLinks};
 ghost use Rattle.tree_core.specs.declared.rows.Link.{Link};
-ghost use Rattle.office.specs.Reading.{LinkRows, SaysAllButUnits, SpanRows, Version, places_said, state_of, tables};
+ghost use Rattle.catalogue_store.specs.Schema.{Version};
+ghost use Rattle.office.specs.Judged.{HasNoCatalogueCause, HasNoCause, SaysASoundState, SaysTheCatalogue};
+ghost use Rattle.office.specs.Reading.{LinkRows, Rows, SaysAllButUnits, SpanRows, places_said, state_of, tables};
 ghost use Rattle.office.specs.Soundness.{AreGoodDays, AreGoodSettings, IsSound, NamesDays};
+ghost use Rattle.office.specs.Imported.{ImportsBringTheNew, ImportsKeepTheCatalogue};
 ghost use Rattle.office.specs.Secrecy.{SamePublic, AnswersAlike, ShowsOnlyPublished};
 ghost use Rattle.office.specs.Laws.{OutApart, GoesOn, IssuesTheFirst, OpenToHolders, ImportsAgain, Kind, all_given, ComesNew};
 
@@ -106,7 +109,43 @@ pub fn tables_say_the_state()
     ensures { (version : Version) (s : State) → IsSound s → state_of (tables version s) ≡ s }
 {}
 
+/// Rows of the catalogue's tables with their keys and without one of the causes 1 to 5 say a sound catalogue, and are
+/// its rows, table by table, up to their order.
+pub fn rows_say_the_catalogue()
+    ensures { (version : Version) (t : Rows) → SaysTheCatalogue version t }
+{}
+
+/// The rows of a sound catalogue have their keys, and none of the causes 1 to 5.
+pub fn catalogue_has_no_cause()
+    ensures { (version : Version) (s : State) → HasNoCatalogueCause version s }
+{}
+
+/// The rows of a sound state have their keys, and none of the causes 1 to 10.
+pub fn tables_have_no_cause()
+    ensures { (version : Version) (s : State) → HasNoCause version s }
+{}
+
+/// Rows with their keys and without a cause say a sound state, and are the rows of that state.
+pub fn rows_without_a_cause()
+    ensures { (version : Version) (t : Rows) → SaysASoundState version t }
+{}
+
 /// A new office is sound, whole, where its settings and its day are good.
 pub fn starts_sound()
     ensures { (settings : Settings) (day : ℤ) → AreGoodSettings settings → IsDayNumber day → IsSound (start settings day) }
+{}
+
+/// An import leaves the units, the containers and the permits of a sound state sound, whatever the file says.
+pub fn imports_keep_the_catalogue()
+    ensures { (s : State) → IsSound s → ImportsKeepTheCatalogue s }
+{}
+
+/// An accepted import takes no unit away and brings as many as its reply counts as new.
+pub fn imports_bring_the_new()
+    ensures { (s : State) → IsSound s → ImportsBringTheNew s }
+{}
+
+/// A sound office stays sound, whole, over every list of commands that name days.
+pub fn stays_sound()
+    ensures { (s : State) (commands : List Command) → AllByRecursion NamesDays commands → IsSound s → IsSound (state_after s commands) }
 {}

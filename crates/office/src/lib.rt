@@ -2,6 +2,7 @@
 #![tactic(auto)]
 
 mod command;
+pub mod desk_judged;
 mod done;
 pub mod laws;
 mod previews;

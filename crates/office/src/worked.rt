@@ -1,5 +1,6 @@
 //! The rules at work in small offices, worked by hand.
 
+ghost use Rattle.office.specs.CatalogueCausesRows as causes;
 ghost use Rattle.office.specs.ReadingRows as tables;
 ghost use Rattle.office.specs.Rows as row;
 ghost use Rattle.office.specs.AnswerRows as answers;
@@ -33,6 +34,7 @@ pub fn worked_rows()
     ensures names_of_readers { row.NamesOfReaders }
     ensures at_the_counter { row.AtTheCounter }
     ensures depths { row.Depths }
+    ensures most_permits { row.MostPermits }
     ensures placed { row.Placed }
 {}
 
@@ -48,4 +50,9 @@ pub fn worked_answers()
 /// The rows of small offices say the states that they show, in both versions.
 pub fn worked_tables()
     ensures { tables.ReadAgain }
+{}
+
+/// Each of the causes 1 to 5 is told of a small office with one row changed, and of the office as it was none is.
+pub fn worked_catalogue_causes()
+    ensures { causes.Told }
 {}

@@ -9,6 +9,9 @@ pub mod OneForest
 pub mod Cutting
 pub mod Members
 pub mod Moving
+pub mod LastPlaces
+pub mod MovedRows
+pub mod Pieces
 pub mod SpanBelow
 pub mod MarkWalks
 pub mod PlaceOrder

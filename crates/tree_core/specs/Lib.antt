@@ -1,5 +1,6 @@
 pub mod Forest
 pub mod Links
+pub mod LastPlace
 pub mod Spans
 pub mod Shifts
 pub mod Withheld

@@ -1,4 +1,4 @@
-use Rattle.std.proofs.Common.{rules, ℕ, List, take, get_or, sym, subst, arith}
+use Rattle.std.proofs.Common.{rules, ℕ, List, [], ◌∷◌, take, get_or, sym, subst, arith}
 use Rattle.std.proofs.lemmas.List.{take_more, take_all}
 use Rattle.sqlite.specs.Held.{state}
 use Rattle.catalogue_store.specs.Merging.{Catalogue}
@@ -7,12 +7,13 @@ use Rattle.catalogue_store.specs.Statuses.{with_status}
 use Rattle.catalogue_store.specs.Step.{IsCut}
 use Rattle.catalogue_store.proofs.Calls.{early, goes_nowhere, goes_then, cut_then, office_of}
 use Rattle.catalogue_store.proofs.Statuses.{draft_step, status_of_none}
+use Rattle.catalogue_store.proofs.Touching.{nothing_touched, touched_again}
 use Rattle.catalogue_store.proofs.closing.set_drafts.Goals as goal
 
 pub loop-unit-init : goal.loop-unit-init
 loop-unit-init g c =
     let a = state g.S.Store c.args.conn.now in
-    (c.requires, (goes_nowhere a (office_of g.P.Places.version a c.requires), λ clean o k it. subst (λ (k : Catalogue). Shows g.P.Places.shows g.P.Places.version a.now o k) (sym (status_of_none c.args.draft k)) it))
+    (c.requires, (goes_nowhere a (office_of g.P.Places.version a c.requires), λ clean o k it. (subst (λ (k : Catalogue). Shows g.P.Places.shows g.P.Places.version a.now o k) (sym (status_of_none c.args.draft k)) it, nothing_touched (14 ∷ []) a.now)))
 
 pub returns-in_err-set_draft-clause-cut : goal.returns-in_err-set_draft-clause-cut
 returns-in_err-set_draft-clause-cut g c =
@@ -35,10 +36,13 @@ loop-unit-preserved g c =
       (
         goes_then a b d invariant.1.0 last,
         λ clean o k it.
-            let before = invariant.1.1 (early b d _ last.on.crash clean) o k it in
-            subst (λ (ids : List ℕ). Shows g.P.Places.shows g.P.Places.version d.now o (with_status ids c.args.draft k)) (sym (take_more units i 0 c.loop-unit-test.true))
-            (draft_step g.P.Places.version g.P.Places.shows g.met.P.Places.shows_same b.now d.now o k c.args.draft (take i units) (get_or units i 0) before (last.schema clean)
-            (c.in_ok-set_draft.ensures.rows clean before.catalogue.units.units before.catalogue.units.rows before.catalogue.units.rise)),
+            let so_far = invariant.1.1 (early b d _ last.on.crash clean) o k it in
+            let before = so_far.0 in
+            let wrote = c.in_ok-set_draft.ensures.rows clean before.catalogue.units.units before.catalogue.units.rows before.catalogue.units.rise in (
+              subst (λ (ids : List ℕ). Shows g.P.Places.shows g.P.Places.version d.now o (with_status ids c.args.draft k)) (sym (take_more units i 0 c.loop-unit-test.true))
+                  (draft_step g.P.Places.version g.P.Places.shows g.met.P.Places.shows_same b.now d.now o k c.args.draft (take i units) (get_or units i 0) before (last.schema clean) wrote),
+              touched_again (14 ∷ []) a.now b.now d.now so_far.1 wrote.only,
+            ),
       ),
     )
 
@@ -46,4 +50,7 @@ pub returns-clause-shows : goal.returns-clause-shows
 returns-clause-shows g c clean o k it =
     let b = state g.S.Store c.loop-unit.conn in
     subst (λ (ids : List ℕ). Shows g.P.Places.shows g.P.Places.version b.now o (with_status ids c.args.draft k)) (take_all c.loop-unit.unit-index c.args.units.now (omega (arith, c.loop-unit-test.false)))
-    (c.loop-unit.invariant.1.1 clean o k it)
+    (c.loop-unit.invariant.1.1 clean o k it).0
+
+pub returns-clause-only : goal.returns-clause-only
+returns-clause-only g c clean o k it = (c.loop-unit.invariant.1.1 clean o k it).1

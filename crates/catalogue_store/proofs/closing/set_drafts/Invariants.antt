@@ -1,10 +1,10 @@
-use Rattle.std.proofs.Common.{take}
+use Rattle.std.proofs.Common.{take, [], ◌∷◌}
 use Rattle.sqlite.specs.Held.{state}
 use Rattle.sqlite.specs.State.{HasCleanDisk}
 use Rattle.catalogue_store.specs.Merging.{Catalogue}
 use Rattle.catalogue_store.specs.Shows.{Shows}
 use Rattle.catalogue_store.specs.Statuses.{with_status}
-use Rattle.catalogue_store.specs.Step.{InTransaction, Goes}
+use Rattle.catalogue_store.specs.Step.{InTransaction, Goes, OnlyTouches}
 use Rattle.catalogue_store.specs.declared.office.OfficeRow.{OfficeRow}
 use Rattle.catalogue_store.proofs.closing.set_drafts.Given as goal
 
@@ -13,4 +13,5 @@ invariant-loop-unit g l =
     InTransaction g.P.Places.version (state g.S.Store l.initial.conn)
     × (Goes (state g.S.Store l.initial.conn) (state g.S.Store l.conn)
     × (HasCleanDisk (state g.S.Store l.conn) → (o : OfficeRow) (c : Catalogue) → Shows g.P.Places.shows g.P.Places.version (state g.S.Store l.initial.conn).now o c
-    → Shows g.P.Places.shows g.P.Places.version (state g.S.Store l.conn).now o (with_status (take l.unit-index l.units) l.draft c)))
+    → Shows g.P.Places.shows g.P.Places.version (state g.S.Store l.conn).now o (with_status (take l.unit-index l.units) l.draft c)
+    × OnlyTouches (14 ∷ []) (state g.S.Store l.initial.conn).now (state g.S.Store l.conn).now))

@@ -5,9 +5,12 @@ use Rattle.sqlite.specs.State.{HasCleanDisk}
 use Rattle.catalogue_store.specs.Rows.{HousingRow, by_housing}
 use Rattle.catalogue_store.specs.Order.{IsOrdered}
 use Rattle.catalogue_store.specs.Step.{IsCut, Looks}
-use Rattle.sqlite_trees.proofs.ListLemmas.{map-map}
+use Rattle.sqlite_trees.proofs.ListLemmas.{map-map, all_of}
 use Rattle.catalogue_store.proofs.Calls.{early, in_office, read_cut, read_looks, cut_looks, on_ok_from}
 use Rattle.catalogue_store.proofs.Selects.{housed_text, housed_command, housed_is, housed_plain, housed_rows}
+use Rattle.catalogue_store.proofs.Causes.{memory_only}
+use Rattle.catalogue_store.proofs.ReadCauses.{housed_cause}
+use Rattle.std.specs.Bool.{⊤}
 use Rattle.catalogue_store.proofs.containers.housed_in.Goals as goal
 
 pub returns-in_err-rows-clause-cut : goal.returns-in_err-rows-clause-cut
@@ -37,4 +40,22 @@ returns-clause-rows g c clean xs stored =
     let at = λ (clean : HasCleanDisk new). c.requires.inside (early old new _ c.query_all.ensures.survives clean) in
     let got = housed_rows old new c.args.container xs _ (at clean).0 (at clean).1 stored shown in
     IfOk-weaker c.read_all.result (λ all. all.items ≡ map (λ (h : HousingRow). h.unit) got.0) (λ all. (ys : List HousingRow) × IsOrdered by_housing (filter (λ (h : HousingRow). nat_eq c.args.container h.container) xs) ys × (all.items ≡ map (λ (h : HousingRow). h.unit) ys)) (λ all same. (got.0, (got.1, got.2), same))
-    (c.read_all.ensures (map (λ (h : HousingRow). h.unit) got.0) (c.deref.ensures.value ∙ got.3 ∙ sym (map-map _ (λ (h : HousingRow). h.unit) got.0)))
+    (c.read_all.ensures.value (map (λ (h : HousingRow). h.unit) got.0) (c.deref.ensures.value ∙ got.3 ∙ sym (map-map _ (λ (h : HousingRow). h.unit) got.0)))
+
+pub returns-in_err-rows-clause-faults : goal.returns-in_err-rows-clause-faults
+returns-in_err-rows-clause-faults g c clean free xs stored =
+    let old = state g.S.Store c.args.conn.now in
+    let new = state g.S.Store c.query_all.new.self in
+    let at = c.requires.inside (early old new _ c.query_all.ensures.survives clean) in
+    let why = housed_cause old new c.args.container at.0 at.1 free c.in_err-rows.field-0.0 (rw (c.number.ensures) at (c.in_err-rows.ensures.err clean)) in
+    search (rules, why)
+
+pub returns-clause-faults : goal.returns-clause-faults
+returns-clause-faults g c clean free xs stored =
+    let old = state g.S.Store c.args.conn.now in
+    let new = state g.S.Store c.query_all.new.self in
+    let at = c.requires.inside (early old new _ c.query_all.ensures.survives clean) in
+    let got = housed_rows old new c.args.container xs _ at.0 at.1 stored (rw (c.number.ensures) at (c.in_ok-rows.ensures.ok clean)) in
+    let show = λ (x : HousingRow). x.unit in
+    let all = map show got.0 in
+    memory_only old new c.read_all.result (c.read_all.ensures.faults all (c.deref.ensures.value ∙ got.3 ∙ sym (map-map _ show got.0)) (all_of (λ _. ⊤) (λ _. tt) all))

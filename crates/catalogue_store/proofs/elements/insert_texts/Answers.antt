@@ -1,10 +1,12 @@
 use Rattle.std.proofs.Common.{Option, length, get_or, ◌≡◌, ◌<◌, ◌+◌, ◌∙◌, List, [], ◌∷◌, ◌++◌, ap, sym, subst, option_copied}
 use Rattle.sqlite.specs.Held.{state}
 use Rattle.isad_core.specs.Texts.{Bytes}
-use Rattle.catalogue_store.specs.Adding.{WithTexts, text_cells}
+use Rattle.catalogue_store.specs.Adding.{WithTexts, cell_of, text_cells}
+use Rattle.catalogue_store.specs.Rows.{ElementRow}
 use Rattle.catalogue_store.proofs.Calls.{early, goes_then}
 use Rattle.catalogue_store.proofs.Touching.{touched_again}
-use Rattle.catalogue_store.proofs.TextLemmas.{first_cells, texts_then, cells_step}
+use Rattle.catalogue_store.proofs.Parts.{cells_then}
+use Rattle.catalogue_store.proofs.TextLemmas.{first_cells, cells_step}
 use Rattle.catalogue_store.proofs.elements.insert_texts.Goals as goal
 
 pub loop-text-preserved : goal.loop-text-preserved
@@ -31,7 +33,7 @@ loop-text-preserved g c =
             λ clean xs at.
                 let before = invariant.1.1.1.1 (early b d _ last.on.crash clean) xs at in
                 let one = c.in_ok-insert_text.ensures.adds clean before.0 before.1 in
-                (one.0, one.1, subst (λ cells. WithTexts unit cells xs one.0) cells (texts_then unit (first_cells i texts) (text_cells c.loop-text.place text) xs before.0 one.0 before.2 one.2)),
+                (one.0, one.1, subst (λ cells. WithTexts unit cells xs one.0) cells (cells_then (λ (e : ElementRow). e.unit) cell_of unit (first_cells i texts) (text_cells c.loop-text.place text) xs before.0 one.0 before.2 one.2)),
           ),
         ),
       ),

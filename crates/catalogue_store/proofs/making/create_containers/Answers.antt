@@ -2,6 +2,7 @@ use Rattle.std.proofs.Common.{rules}
 use Rattle.sqlite.specs.Held.{state}
 use Rattle.catalogue_store.specs.Step.{Continues, IsCut}
 use Rattle.catalogue_store.specs.Creation.{IsMaking}
+use Rattle.catalogue_store.specs.Schema.{desk_tables}
 use Rattle.catalogue_store.proofs.Creations.{s3, s4, s5, s6, container_defined, housing_defined, housing_indexed}
 use Rattle.catalogue_store.proofs.Calls.{cut_then, continues_then, on_ok_then, on_err_then}
 use Rattle.catalogue_store.proofs.making.create_containers.Goals as goal
@@ -10,17 +11,17 @@ pub returns-in_err-create_table-clause-cut : goal.returns-in_err-create_table-cl
 returns-in_err-create_table-clause-cut g c start making =
     let a0 = state g.S.Store c.args.conn.now in
     let a1 = state g.S.Store c.create_table.new.conn in
-    let one : IsCut a0 a1 = c.in_err-create_table.ensures.cut start s3 s4 making container_defined in
+    let one : IsCut a0 a1 = c.in_err-create_table.ensures.cut desk_tables start s3 s4 making container_defined in
     search (rules, one)
 
 pub returns-in_err-create_table-2-clause-cut : goal.returns-in_err-create_table-2-clause-cut
 returns-in_err-create_table-2-clause-cut g c start making =
     let a0 = state g.S.Store c.args.conn.now in
     let a1 = state g.S.Store c.create_table.new.conn in
-    let step1 = c.in_ok-create_table.ensures.made start s3 s4 making container_defined in
+    let step1 = c.in_ok-create_table.ensures.made desk_tables start s3 s4 making container_defined in
     let on1 = step1.0 in
     let a2 = state g.S.Store c.create_table-2.new.conn in
-    let one : IsCut a1 a2 = c.in_err-create_table-2.ensures.cut start s4 s5 step1.1 housing_defined in
+    let one : IsCut a1 a2 = c.in_err-create_table-2.ensures.cut desk_tables start s4 s5 step1.1 housing_defined in
     let all : IsCut a0 a2 = cut_then a0 a1 a2 on1 one in
     search (rules, all)
 
@@ -29,22 +30,22 @@ returns-clause-made g c start making =
     let a0 = state g.S.Store c.args.conn.now in
     let a1 = state g.S.Store c.create_table.new.conn in
     let a2 = state g.S.Store c.create_table-2.new.conn in
-    let step1 = c.in_ok-create_table.ensures.made start s3 s4 making container_defined in
+    let step1 = c.in_ok-create_table.ensures.made desk_tables start s3 s4 making container_defined in
     let on1 = step1.0 in
-    let step2 = c.in_ok-create_table-2.ensures.made start s4 s5 step1.1 housing_defined in
+    let step2 = c.in_ok-create_table-2.ensures.made desk_tables start s4 s5 step1.1 housing_defined in
     let on2 = continues_then a0 a1 a2 on1 step2.0 in
     let a3 = state g.S.Store c.create_index.new.conn in
-    on_ok_then c.create_index.result (Continues a2 a3 × IsMaking s6 start a3) (Continues a0 a3 × IsMaking s6 start a3) (λ last. (continues_then a0 a2 a3 on2 last.0, last.1))
-    (c.create_index.ensures.made start s5 s6 step2.1 housing_indexed)
+    on_ok_then c.create_index.result (Continues a2 a3 × IsMaking desk_tables s6 start a3) (Continues a0 a3 × IsMaking desk_tables s6 start a3) (λ last. (continues_then a0 a2 a3 on2 last.0, last.1))
+    (c.create_index.ensures.made desk_tables start s5 s6 step2.1 housing_indexed)
 
 pub returns-clause-cut : goal.returns-clause-cut
 returns-clause-cut g c start making =
     let a0 = state g.S.Store c.args.conn.now in
     let a1 = state g.S.Store c.create_table.new.conn in
     let a2 = state g.S.Store c.create_table-2.new.conn in
-    let step1 = c.in_ok-create_table.ensures.made start s3 s4 making container_defined in
+    let step1 = c.in_ok-create_table.ensures.made desk_tables start s3 s4 making container_defined in
     let on1 = step1.0 in
-    let step2 = c.in_ok-create_table-2.ensures.made start s4 s5 step1.1 housing_defined in
+    let step2 = c.in_ok-create_table-2.ensures.made desk_tables start s4 s5 step1.1 housing_defined in
     let on2 = continues_then a0 a1 a2 on1 step2.0 in
     let a3 = state g.S.Store c.create_index.new.conn in
-    on_err_then c.create_index.result (IsCut a2 a3) (IsCut a0 a3) (λ last. cut_then a0 a2 a3 on2 last) (c.create_index.ensures.cut start s5 s6 step2.1 housing_indexed)
+    on_err_then c.create_index.result (IsCut a2 a3) (IsCut a0 a3) (λ last. cut_then a0 a2 a3 on2 last) (c.create_index.ensures.cut desk_tables start s5 s6 step2.1 housing_indexed)

@@ -7,7 +7,7 @@ use Rattle.catalogue_store.proofs.Creations.{creates}
 use Rattle.catalogue_store.proofs.making.create_table.Goals as goal
 
 pub returns-in_err-execute-clause-cut : goal.returns-in_err-execute-clause-cut
-returns-in_err-execute-clause-cut g c start before after making defines =
+returns-in_err-execute-clause-cut g c there start before after making defines =
     let old = state g.S.Store c.args.conn.now in
     let new = state g.S.Store c.execute.new.self in
     let cut : IsCut old new = write_cut c.args.text.now _ old new CreateTable refl (λ clean. known_in before c.args.text.now CreateTable old (making clean).0.schema_is (making clean).1 defines.says.is defines.says.plain)
@@ -15,9 +15,9 @@ returns-in_err-execute-clause-cut g c start before after making defines =
     search (rules, cut)
 
 pub returns-clause-made : goal.returns-clause-made
-returns-clause-made g c start before after making defines =
+returns-clause-made g c there start before after making defines =
     let old = state g.S.Store c.args.conn.now in
     let new = state g.S.Store c.execute.new.self in
     let on = write_continues c.args.text.now _ old new CreateTable refl (λ clean. known_in before c.args.text.now CreateTable old (making clean).0.schema_is (making clean).1 defines.says.is defines.says.plain)
-    (λ clean. (creates before after c.args.text.now start old new c.in_ok-execute.field-0 (making (early old new _ c.execute.ensures.survives clean)).0 (c.in_ok-execute.ensures.runs clean) defines).1) c.execute.ensures.survives in
-    (on, λ clean. ((creates before after c.args.text.now start old new c.in_ok-execute.field-0 (making (early old new _ on.crash clean)).0 (c.in_ok-execute.ensures.runs clean) defines).0, (on.within clean).is_inside))
+    (λ clean. (creates there before after c.args.text.now start old new c.in_ok-execute.field-0 (making (early old new _ c.execute.ensures.survives clean)).0 (c.in_ok-execute.ensures.runs clean) defines).1) c.execute.ensures.survives in
+    (on, λ clean. ((creates there before after c.args.text.now start old new c.in_ok-execute.field-0 (making (early old new _ on.crash clean)).0 (c.in_ok-execute.ensures.runs clean) defines).0, (on.within clean).is_inside))

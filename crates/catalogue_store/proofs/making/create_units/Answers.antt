@@ -2,7 +2,7 @@ use Rattle.std.proofs.Common.{rules}
 use Rattle.sqlite.specs.Held.{state}
 use Rattle.catalogue_store.specs.Step.{Continues, IsCut}
 use Rattle.catalogue_store.specs.Creation.{IsMaking}
-use Rattle.catalogue_store.specs.Schema.{desk_schema}
+use Rattle.catalogue_store.specs.Schema.{desk_schema, desk_tables}
 use Rattle.catalogue_store.proofs.Creations.{s1, s2, s3, office_defined, unit_defined, element_defined}
 use Rattle.catalogue_store.proofs.Calls.{cut_then, continues_then, on_ok_then, on_err_then}
 use Rattle.catalogue_store.proofs.making.create_units.Goals as goal
@@ -11,17 +11,17 @@ pub returns-in_err-create_table-clause-cut : goal.returns-in_err-create_table-cl
 returns-in_err-create_table-clause-cut g c start making =
     let a0 = state g.S.Store c.args.conn.now in
     let a1 = state g.S.Store c.create_table.new.conn in
-    let one : IsCut a0 a1 = c.in_err-create_table.ensures.cut start desk_schema s1 making office_defined in
+    let one : IsCut a0 a1 = c.in_err-create_table.ensures.cut desk_tables start desk_schema s1 making office_defined in
     search (rules, one)
 
 pub returns-in_err-create_table-2-clause-cut : goal.returns-in_err-create_table-2-clause-cut
 returns-in_err-create_table-2-clause-cut g c start making =
     let a0 = state g.S.Store c.args.conn.now in
     let a1 = state g.S.Store c.create_table.new.conn in
-    let step1 = c.in_ok-create_table.ensures.made start desk_schema s1 making office_defined in
+    let step1 = c.in_ok-create_table.ensures.made desk_tables start desk_schema s1 making office_defined in
     let on1 = step1.0 in
     let a2 = state g.S.Store c.create_table-2.new.conn in
-    let one : IsCut a1 a2 = c.in_err-create_table-2.ensures.cut start s1 s2 step1.1 unit_defined in
+    let one : IsCut a1 a2 = c.in_err-create_table-2.ensures.cut desk_tables start s1 s2 step1.1 unit_defined in
     let all : IsCut a0 a2 = cut_then a0 a1 a2 on1 one in
     search (rules, all)
 
@@ -30,22 +30,22 @@ returns-clause-made g c start making =
     let a0 = state g.S.Store c.args.conn.now in
     let a1 = state g.S.Store c.create_table.new.conn in
     let a2 = state g.S.Store c.create_table-2.new.conn in
-    let step1 = c.in_ok-create_table.ensures.made start desk_schema s1 making office_defined in
+    let step1 = c.in_ok-create_table.ensures.made desk_tables start desk_schema s1 making office_defined in
     let on1 = step1.0 in
-    let step2 = c.in_ok-create_table-2.ensures.made start s1 s2 step1.1 unit_defined in
+    let step2 = c.in_ok-create_table-2.ensures.made desk_tables start s1 s2 step1.1 unit_defined in
     let on2 = continues_then a0 a1 a2 on1 step2.0 in
     let a3 = state g.S.Store c.create_table-3.new.conn in
-    on_ok_then c.create_table-3.result (Continues a2 a3 × IsMaking s3 start a3) (Continues a0 a3 × IsMaking s3 start a3) (λ last. (continues_then a0 a2 a3 on2 last.0, last.1))
-    (c.create_table-3.ensures.made start s2 s3 step2.1 element_defined)
+    on_ok_then c.create_table-3.result (Continues a2 a3 × IsMaking desk_tables s3 start a3) (Continues a0 a3 × IsMaking desk_tables s3 start a3) (λ last. (continues_then a0 a2 a3 on2 last.0, last.1))
+    (c.create_table-3.ensures.made desk_tables start s2 s3 step2.1 element_defined)
 
 pub returns-clause-cut : goal.returns-clause-cut
 returns-clause-cut g c start making =
     let a0 = state g.S.Store c.args.conn.now in
     let a1 = state g.S.Store c.create_table.new.conn in
     let a2 = state g.S.Store c.create_table-2.new.conn in
-    let step1 = c.in_ok-create_table.ensures.made start desk_schema s1 making office_defined in
+    let step1 = c.in_ok-create_table.ensures.made desk_tables start desk_schema s1 making office_defined in
     let on1 = step1.0 in
-    let step2 = c.in_ok-create_table-2.ensures.made start s1 s2 step1.1 unit_defined in
+    let step2 = c.in_ok-create_table-2.ensures.made desk_tables start s1 s2 step1.1 unit_defined in
     let on2 = continues_then a0 a1 a2 on1 step2.0 in
     let a3 = state g.S.Store c.create_table-3.new.conn in
-    on_err_then c.create_table-3.result (IsCut a2 a3) (IsCut a0 a3) (λ last. cut_then a0 a2 a3 on2 last) (c.create_table-3.ensures.cut start s2 s3 step2.1 element_defined)
+    on_err_then c.create_table-3.result (IsCut a2 a3) (IsCut a0 a3) (λ last. cut_then a0 a2 a3 on2 last) (c.create_table-3.ensures.cut desk_tables start s2 s3 step2.1 element_defined)

@@ -4,6 +4,8 @@ use Rattle.catalogue_store.specs.Step.{IsCut, Looks}
 use Rattle.catalogue_store.proofs.Calls.{early, in_office, read_cut, read_looks, cut_looks, on_ok_from}
 use Rattle.catalogue_store.specs.Counting.{capped}
 use Rattle.catalogue_store.proofs.Selects.{count_units_text, count_units_command, count_units_is, count_units_plain, count_units_rows}
+use Rattle.catalogue_store.proofs.Causes.{memory_only}
+use Rattle.catalogue_store.proofs.ReadCauses.{count_units_cause}
 use Rattle.catalogue_store.proofs.office.count_units.Goals as goal
 
 pub returns-in_err-rows-clause-cut : goal.returns-in_err-rows-clause-cut
@@ -30,4 +32,19 @@ returns-clause-rows g c clean xs stored =
     let old = state g.S.Store c.args.conn.now in
     let new = state g.S.Store c.query_all.new.self in
     let at = c.requires.inside (early old new _ c.query_all.ensures.survives clean) in
-    c.read_all.ensures (capped (length xs) ∷ []) (c.deref.ensures.value ∙ count_units_rows old new xs _ at.0 at.1 stored (c.in_ok-rows.ensures.ok clean))
+    c.read_all.ensures.value (capped (length xs) ∷ []) (c.deref.ensures.value ∙ count_units_rows old new xs _ at.0 at.1 stored (c.in_ok-rows.ensures.ok clean))
+
+pub returns-in_err-rows-clause-faults : goal.returns-in_err-rows-clause-faults
+returns-in_err-rows-clause-faults g c clean free xs stored =
+    let old = state g.S.Store c.args.conn.now in
+    let new = state g.S.Store c.query_all.new.self in
+    let at = c.requires.inside (early old new _ c.query_all.ensures.survives clean) in
+    let why = count_units_cause old new at.0 at.1 free c.in_err-rows.field-0.0 (c.in_err-rows.ensures.err clean) in
+    search (rules, why)
+
+pub returns-clause-faults : goal.returns-clause-faults
+returns-clause-faults g c clean free xs stored =
+    let old = state g.S.Store c.args.conn.now in
+    let new = state g.S.Store c.query_all.new.self in
+    let at = c.requires.inside (early old new _ c.query_all.ensures.survives clean) in
+    memory_only old new c.read_all.result (c.read_all.ensures.faults (capped (length xs) ∷ []) (c.deref.ensures.value ∙ count_units_rows old new xs _ at.0 at.1 stored (c.in_ok-rows.ensures.ok clean)) (tt, tt))

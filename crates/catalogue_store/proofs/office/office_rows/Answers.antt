@@ -7,6 +7,8 @@ use Rattle.catalogue_store.proofs.Calls.{early, in_office, read_cut, read_looks,
 use Rattle.sqlite.proofs.Callers.{one_permutation}
 use Rattle.catalogue_store.specs.Rows.{settings_cells}
 use Rattle.catalogue_store.proofs.Selects.{office_is_text, office_is_command, office_is_is, office_is_plain, office_is_rows}
+use Rattle.catalogue_store.proofs.Causes.{memory_only}
+use Rattle.catalogue_store.proofs.ReadCauses.{office_is_cause}
 use Rattle.catalogue_store.proofs.office.office_rows.Goals as goal
 
 pub returns-in_err-rows-clause-cut : goal.returns-in_err-rows-clause-cut
@@ -35,4 +37,22 @@ returns-clause-rows g c clean version o stored =
     let at = c.requires.inside (early old new _ c.query_all.ensures.survives clean) in
     let one = λ (v : Version). (let x : Version × OfficeRow = (v, o) in x) in
     let got = office_is_rows old new (one version ∷ []) _ at.0 at.1 stored (c.in_ok-rows.ensures.ok clean) in
-    c.read_all.ensures (o ∷ []) (c.deref.ensures.value ∙ got.3 ∙ ap (map (λ (x : Version × OfficeRow). settings_cells x.1)) (one_permutation (one version) got.0 got.1))
+    c.read_all.ensures.value (o ∷ []) (c.deref.ensures.value ∙ got.3 ∙ ap (map (λ (x : Version × OfficeRow). settings_cells x.1)) (one_permutation (one version) got.0 got.1))
+
+pub returns-in_err-rows-clause-faults : goal.returns-in_err-rows-clause-faults
+returns-in_err-rows-clause-faults g c clean free version o stored legible =
+    let old = state g.S.Store c.args.conn.now in
+    let new = state g.S.Store c.query_all.new.self in
+    let at = c.requires.inside (early old new _ c.query_all.ensures.survives clean) in
+    let why = office_is_cause old new at.0 at.1 free c.in_err-rows.field-0.0 (c.in_err-rows.ensures.err clean) in
+    search (rules, why)
+
+pub returns-clause-faults : goal.returns-clause-faults
+returns-clause-faults g c clean free version o stored legible =
+    let old = state g.S.Store c.args.conn.now in
+    let new = state g.S.Store c.query_all.new.self in
+    let at = c.requires.inside (early old new _ c.query_all.ensures.survives clean) in
+    let one = λ (v : Version). (let x : Version × OfficeRow = (v, o) in x) in
+    let got = office_is_rows old new (one version ∷ []) _ at.0 at.1 stored (c.in_ok-rows.ensures.ok clean) in
+    let cells = got.3 ∙ ap (map (λ (x : Version × OfficeRow). settings_cells x.1)) (one_permutation (one version) got.0 got.1) in
+    memory_only old new c.read_all.result (c.read_all.ensures.faults (o ∷ []) (c.deref.ensures.value ∙ cells) (legible, tt))

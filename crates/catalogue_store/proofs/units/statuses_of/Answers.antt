@@ -35,4 +35,4 @@ returns-clause-rows g c clean xs stored up =
     let at = c.requires.inside (early old new _ c.query_all.ensures.survives clean) in
     let found = filter (λ (u : Unit). nat_eq c.args.id u.id) xs in
     let told = λ (u : Unit). (let x : Status = record { draft = u.draft; until = u.until } in x) in
-    c.read_all.ensures (map told found) (c.deref.ensures.value ∙ statuses_rows old new c.args.id xs _ at.0 at.1 stored up shown ∙ sym (map-map _ told found))
+    c.read_all.ensures.value (map told found) (c.deref.ensures.value ∙ statuses_rows old new c.args.id xs _ at.0 at.1 stored up shown ∙ sym (map-map _ told found))

@@ -1,0 +1,42 @@
+use Rattle.std.proofs.Common.{◌≡◌, ℕ, List, map, take, rules, sym, ap, ◌∙◌}
+use Rattle.std.proofs.lemmas.List.{take-map}
+use Rattle.std.proofs.lemmas.Result.{IfOk-weaker}
+use Rattle.sqlite.specs.Held.{state}
+use Rattle.sqlite.specs.State.{HasCleanDisk}
+use Rattle.isad_core.specs.declared.values.BoxKey.{BoxKey}
+use Rattle.catalogue_store.specs.Rows.{by_container}
+use Rattle.catalogue_store.specs.Order.{IsOrdered}
+use Rattle.catalogue_store.specs.Step.{IsCut, Looks}
+use Rattle.sqlite_trees.proofs.ListLemmas.{map-map}
+use Rattle.catalogue_store.proofs.Calls.{early, in_office, read_cut, read_looks, cut_looks, on_ok_from}
+use Rattle.catalogue_store.proofs.UnitReads.{last_container_text, last_container_command, last_container_is, last_container_plain, last_container_rows}
+use Rattle.catalogue_store.proofs.containers.last_container.Goals as goal
+
+pub returns-in_err-rows-clause-cut : goal.returns-in_err-rows-clause-cut
+returns-in_err-rows-clause-cut g c =
+    let old = state g.S.Store c.args.conn.now in
+    let new = state g.S.Store c.query_all.new.self in
+    let cut : IsCut old new = read_cut last_container_text _ old new last_container_command (in_office last_container_text last_container_command old (c.requires.inside) last_container_is last_container_plain) c.in_err-rows.field-0.0 c.in_err-rows.ensures.err c.query_all.ensures.survives in
+    search (rules, cut)
+
+pub returns-clause-looks : goal.returns-clause-looks
+returns-clause-looks g c =
+    let old = state g.S.Store c.args.conn.now in
+    let new = state g.S.Store c.query_all.new.self in
+    on_ok_from c.read_all.result (Looks old new) (read_looks last_container_text _ old new last_container_command (in_office last_container_text last_container_command old (c.requires.inside) last_container_is last_container_plain) _ c.in_ok-rows.ensures.ok c.query_all.ensures.survives)
+
+pub returns-clause-cut : goal.returns-clause-cut
+returns-clause-cut g c =
+    let old = state g.S.Store c.args.conn.now in
+    let new = state g.S.Store c.query_all.new.self in
+    cut_looks c.read_all.result old new (read_looks last_container_text _ old new last_container_command (in_office last_container_text last_container_command old (c.requires.inside) last_container_is last_container_plain) _ c.in_ok-rows.ensures.ok c.query_all.ensures.survives)
+
+pub returns-clause-rows : goal.returns-clause-rows
+returns-clause-rows g c clean xs stored =
+    let old = state g.S.Store c.args.conn.now in
+    let new = state g.S.Store c.query_all.new.self in
+    let at = c.requires.inside (early old new _ c.query_all.ensures.survives clean) in
+    let got = last_container_rows old new xs _ at.0 at.1 stored (c.in_ok-rows.ensures.ok clean) in
+    let numbers = map (λ (c : ℕ × BoxKey). c.0) got.0 in
+    IfOk-weaker c.read_all.result (λ all. all.items ≡ take 1 numbers) (λ all. (ys : List (ℕ × BoxKey)) × IsOrdered (λ a b. by_container b a) xs ys × (all.items ≡ take 1 (map (λ (c : ℕ × BoxKey). c.0) ys))) (λ all same. (got.0, (got.1, got.2), same))
+    (c.read_all.ensures.value (take 1 numbers) (c.deref.ensures.value ∙ got.3 ∙ ap (take 1) (sym (map-map _ (λ (c : ℕ × BoxKey). c.0) got.0)) ∙ take-map _ 1 numbers))

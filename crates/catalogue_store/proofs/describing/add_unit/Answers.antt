@@ -1,0 +1,120 @@
+use Rattle.std.proofs.Common.{rules, [], ◌∷◌, ◌+◌, refl, ◌∙◌, nat_eq}
+use Rattle.sqlite.specs.Held.{state}
+use Rattle.tree_core.specs.Forest.{add, each}
+use Rattle.tree_core.proofs.EachLemmas.{has_place-each, has-each}
+use Rattle.catalogue_store.specs.Added.{unit_of}
+use Rattle.catalogue_store.specs.Describing.{with_unit}
+use Rattle.catalogue_store.specs.Rows.{office_row}
+use Rattle.catalogue_store.specs.Shows.{Shows}
+use Rattle.catalogue_store.specs.Step.{Goes, HasRows, IsCut, OnlyTouches}
+use Rattle.catalogue_store.specs.Units.{Unit}
+use Rattle.catalogue_store.proofs.Calls.{cut_then, early, goes_then, office_of, on_err_then, on_ok_then, still_office}
+use Rattle.catalogue_store.proofs.NewUnits.{no_unit, shows_added}
+use Rattle.catalogue_store.proofs.Outcomes.{on_ok_by}
+use Rattle.catalogue_store.proofs.Telling.{elements_shown, housed_shown, same_described, same_elements, same_housed}
+use Rattle.catalogue_store.proofs.Touching.{touched_then}
+use Rattle.catalogue_store.proofs.describing.add_unit.Goals as goal
+
+pub insert_unit-requires-clause-inside : goal.insert_unit-requires-clause-inside
+insert_unit-requires-clause-inside g c = office_of g.P.Places.version (state g.S.Store c.args.conn.now) c.requires.inside
+
+pub describe-requires-clause-inside : goal.describe-requires-clause-inside
+describe-requires-clause-inside g c =
+    let a = state g.S.Store c.args.conn.now in
+    let b = state g.S.Store c.insert_unit.new.conn in
+    let d = state g.S.Store c.add.new.conn in
+    still_office a d (office_of g.P.Places.version a c.requires.inside) (goes_then a b d c.in_ok-insert_unit.ensures.goes c.in_ok-add.ensures.goes)
+
+pub set_next_unit-requires-clause-inside : goal.set_next_unit-requires-clause-inside
+set_next_unit-requires-clause-inside g c =
+    let a = state g.S.Store c.args.conn.now in
+    let b = state g.S.Store c.insert_unit.new.conn in
+    let d = state g.S.Store c.add.new.conn in
+    let e = state g.S.Store c.describe.new.conn in
+    still_office a e (office_of g.P.Places.version a c.requires.inside) (goes_then a d e (goes_then a b d c.in_ok-insert_unit.ensures.goes c.in_ok-add.ensures.goes) c.in_ok-describe.ensures.goes)
+
+pub returns-in_err-describe-clause-cut : goal.returns-in_err-describe-clause-cut
+returns-in_err-describe-clause-cut g c =
+    let a = state g.S.Store c.args.conn.now in
+    let b = state g.S.Store c.insert_unit.new.conn in
+    let d = state g.S.Store c.add.new.conn in
+    let e = state g.S.Store c.describe.new.conn in
+    let all : IsCut a e = cut_then a d e (goes_then a b d c.in_ok-insert_unit.ensures.goes c.in_ok-add.ensures.goes).on c.in_err-describe.ensures.cut in
+    search (rules, all)
+
+pub returns-clause-cut : goal.returns-clause-cut
+returns-clause-cut g c =
+    let a = state g.S.Store c.args.conn.now in
+    let b = state g.S.Store c.insert_unit.new.conn in
+    let d = state g.S.Store c.add.new.conn in
+    let e = state g.S.Store c.describe.new.conn in
+    let h = state g.S.Store c.set_next_unit.new.conn in
+    let so_far = goes_then a d e (goes_then a b d c.in_ok-insert_unit.ensures.goes c.in_ok-add.ensures.goes) c.in_ok-describe.ensures.goes in
+    on_err_then c.set_next_unit.result (IsCut e h) (IsCut a h) (λ last. cut_then a e h so_far.on last) c.set_next_unit.ensures.cut
+
+pub returns-clause-only : goal.returns-clause-only
+returns-clause-only g c clean o k it =
+    let a = state g.S.Store c.args.conn.now in
+    let b = state g.S.Store c.insert_unit.new.conn in
+    let d = state g.S.Store c.add.new.conn in
+    let e = state g.S.Store c.describe.new.conn in
+    let h = state g.S.Store c.set_next_unit.new.conn in
+    let result = OnlyTouches (13 ∷ 14 ∷ 16 ∷ 18 ∷ 20 ∷ 24 ∷ []) a.now h.now in
+    on_ok_by c.set_next_unit.result (Goes e h) result
+    (λ last.
+    let before_e = early e h _ last.on.crash clean in
+    let before_d = early d e _ c.in_ok-describe.ensures.goes.on.crash before_e in
+    let before_b = early b d _ c.in_ok-add.ensures.goes.on.crash before_d in
+    let kept = (c.in_ok-insert_unit.ensures.puts before_b).only in
+    let aside = c.in_ok-add.ensures.only before_d in
+    let told = c.in_ok-describe.ensures.only before_e in
+    let office = told.1.1.1.1.1.1.1.0 refl ∙ aside.1.1.1.1.1.1.1.0 refl ∙ kept.1.1.1.1.1.1.1.0 refl ∙ it.catalogue.office in
+    on_ok_then c.set_next_unit.result (HasRows 13 (office_row g.P.Places.version (record o { next_unit = c.args.unit.now.id + 1 }) ∷ []) e.now h.now) result
+    (λ wrote. touched_then (14 ∷ 24 ∷ 16 ∷ 18 ∷ 20 ∷ []) (13 ∷ []) a.now e.now h.now (touched_then (14 ∷ 24 ∷ []) (16 ∷ 18 ∷ 20 ∷ []) a.now d.now e.now (touched_then (14 ∷ []) (24 ∷ []) a.now b.now d.now kept aside) told) wrote.only)
+    (c.set_next_unit.ensures.rows clean g.P.Places.version o office))
+    c.set_next_unit.ensures.goes
+
+pub returns-clause-shows : goal.returns-clause-shows
+returns-clause-shows g c clean o k it knows next there =
+    let a = state g.S.Store c.args.conn.now in
+    let b = state g.S.Store c.insert_unit.new.conn in
+    let d = state g.S.Store c.add.new.conn in
+    let e = state g.S.Store c.describe.new.conn in
+    let h = state g.S.Store c.set_next_unit.new.conn in
+    let v = g.P.Places.version in
+    let shows = g.P.Places.shows in
+    let same = g.met.P.Places.shows_same in
+    let u = unit_of c.args.unit.now in
+    let parent = c.args.parent in
+    let at = it.catalogue in
+    let xs = at.elements.elements in
+    let hs = at.housings.housings in
+    let ids = each (λ (x : Unit). x.id) k.forest in
+    let result = Shows shows v h.now (record o { next_unit = k.next + 1 }) (with_unit parent u k) in
+    on_ok_by c.set_next_unit.result (Goes e h) result
+    (λ last.
+    let before_e = early e h _ last.on.crash clean in
+    let before_d = early d e _ c.in_ok-describe.ensures.goes.on.crash before_e in
+    let before_b = early b d _ c.in_ok-add.ensures.goes.on.crash before_d in
+    let put = c.in_ok-insert_unit.ensures.puts before_b in
+    let kept = put.only in
+    let new_id = no_unit a.now.trees k.forest at.units u put.fresh in
+    let placed = c.in_ok-add.ensures.shows before_d ids (same a.now.trees b.now.trees ids (kept.1.1.1.1.1.1.1.1.1.1.1.1.0 refl) it.shown)
+    (has_place-each nat_eq (λ (x : Unit). x.id) parent k.forest ∙ there) (has-each (nat_eq u.id) (λ (x : Unit). x.id) k.forest ∙ new_id) in
+    let aside = c.in_ok-add.ensures.only before_d in
+    let texts = same_elements a.now.trees d.now.trees xs (aside.1.1.1.1.1.1.1.1.1.0 refl ∙ kept.1.1.1.1.1.1.1.1.1.0 refl) (elements_shown v a.now o k at) in
+    let housed = same_housed a.now.trees d.now.trees k.containers hs (aside.1.1.1.1.1.1.1.1.1.1.0 refl ∙ kept.1.1.1.1.1.1.1.1.1.1.0 refl) (aside.1.1.1.1.1.1.1.1.1.1.1.0 refl ∙ kept.1.1.1.1.1.1.1.1.1.1.1.0 refl) (housed_shown v a.now o k at knows) in
+    let made = c.in_ok-describe.ensures.tells before_e k.containers xs hs texts housed in
+    let told = c.in_ok-describe.ensures.only before_e in
+    let office = told.1.1.1.1.1.1.1.0 refl ∙ aside.1.1.1.1.1.1.1.0 refl ∙ kept.1.1.1.1.1.1.1.0 refl ∙ at.office in
+    on_ok_then c.set_next_unit.result (HasRows 13 (office_row v (record o { next_unit = u.id + 1 }) ∷ []) e.now h.now) result
+    (λ wrote. shows_added v shows a.now h.now o k parent u it next there knows (record {
+      schema = (goes_then a e h (goes_then a d e (goes_then a b d c.in_ok-insert_unit.ensures.goes c.in_ok-add.ensures.goes) c.in_ok-describe.ensures.goes) last).schema clean;
+      office = wrote.are;
+      units = wrote.only.1.1.1.1.1.1.1.1.0 refl ∙ told.1.1.1.1.1.1.1.1.0 refl ∙ aside.1.1.1.1.1.1.1.1.0 refl ∙ put.rows;
+      fresh = put.fresh;
+      described = same_described e.now.trees h.now.trees u.id u.values k.containers xs hs (wrote.only.1.1.1.1.1.1.1.1.1.0 refl) (wrote.only.1.1.1.1.1.1.1.1.1.1.0 refl) (wrote.only.1.1.1.1.1.1.1.1.1.1.1.0 refl) made;
+      shown = same e.now.trees h.now.trees (add nat_eq parent u.id ids) (wrote.only.1.1.1.1.1.1.1.1.1.1.1.1.0 refl) (same d.now.trees e.now.trees (add nat_eq parent u.id ids) (told.1.1.1.1.1.1.1.1.1.1.1.1.0 refl) placed);
+    }))
+    (c.set_next_unit.ensures.rows clean v o office))
+    c.set_next_unit.ensures.goes

@@ -1,0 +1,31 @@
+use Rattle.std.proofs.Common.{map, filter, not, nat_eq, refl, ◌∙◌}
+use Rattle.sqlite.specs.Held.{state}
+use Rattle.catalogue_store.specs.Adding.{AreElements, AreHoused}
+use Rattle.catalogue_store.specs.Rows.{ElementRow, HousingRow, housing_row}
+use Rattle.catalogue_store.specs.Step.{Goes, HasRows}
+use Rattle.catalogue_store.proofs.Calls.{early, on_ok_then}
+use Rattle.catalogue_store.proofs.Outcomes.{on_ok_by}
+use Rattle.catalogue_store.proofs.Telling.{same_elements, same_housed, elements_rise, housings_rise}
+use Rattle.catalogue_store.proofs.describing.clear.Goals as goal
+
+pub returns-clause-clears : goal.returns-clause-clears
+returns-clause-clears g c clean boxes xs hs texts housed =
+    let a = state g.S.Store c.args.conn.now in
+    let b = state g.S.Store c.clear_elements.new.conn in
+    let d = state g.S.Store c.clear_housings.new.conn in
+    let unit = c.args.unit in
+    let elements = filter (λ (x : ElementRow). not (nat_eq unit x.unit)) xs in
+    let housings = filter (λ (x : HousingRow). not (nat_eq unit x.unit)) hs in
+    on_ok_by c.clear_housings.result (Goes b d) (AreElements d.now.trees elements × AreHoused d.now.trees boxes housings)
+    (λ last.
+    let first = c.in_ok-clear_elements.ensures.rows (early b d _ last.on.crash clean) xs texts.rows texts.rise in
+    let kept = first.only in
+    let here = same_housed a.now.trees b.now.trees boxes hs (kept.1.1.1.1.1.1.1.1.1.1.0 refl) (kept.1.1.1.1.1.1.1.1.1.1.1.0 refl) housed in
+    let there : AreElements b.now.trees elements = record { rows = first.are; rise = elements_rise unit xs texts.rise } in
+    on_ok_then c.clear_housings.result (HasRows 20 (map housing_row housings) b.now d.now) (AreElements d.now.trees elements × AreHoused d.now.trees boxes housings)
+    (λ then. (
+      same_elements b.now.trees d.now.trees elements (then.only.1.1.1.1.1.1.1.1.1.0 refl) there,
+      record { containers = then.only.1.1.1.1.1.1.1.1.1.1.0 refl ∙ here.containers; apart = here.apart; rows = then.are; rise = housings_rise unit hs here.rise },
+    ))
+    (c.clear_housings.ensures.rows clean hs here.rows here.rise))
+    c.clear_housings.ensures.goes

@@ -1,0 +1,36 @@
+use Rattle.std.proofs.Common.{List, refl, [], ◌∷◌}
+use Rattle.sqlite.specs.Held.{state}
+use Rattle.catalogue_store.specs.Adding.{AreHoused, IsDescribed, WithHousings, with_boxes}
+use Rattle.catalogue_store.specs.Rows.{HousingRow}
+use Rattle.catalogue_store.specs.Shows.{housing_cells}
+use Rattle.catalogue_store.specs.Step.{Goes, OnlyTouches}
+use Rattle.catalogue_store.proofs.Calls.{early, on_ok_both}
+use Rattle.catalogue_store.proofs.Outcomes.{on_ok_by}
+use Rattle.catalogue_store.proofs.Telling.{same_elements, same_housed}
+use Rattle.catalogue_store.proofs.describing.describe.Goals as goal
+
+pub returns-clause-tells : goal.returns-clause-tells
+returns-clause-tells g c clean boxes xs hs texts housed =
+    let a = state g.S.Store c.args.conn.now in
+    let b = state g.S.Store c.insert_texts.new.conn in
+    let d = state g.S.Store c.insert_housings.new.conn in
+    let unit = c.args.unit in
+    let values = c.args.values.now in
+    let all = with_boxes boxes values.boxes in
+    on_ok_by c.insert_housings.result (Goes b d) (IsDescribed unit values boxes xs hs d.now.trees)
+    (λ last.
+    let before = early b d _ last.on.crash clean in
+    let kept = c.in_ok-insert_texts.ensures.only before in
+    let told = c.in_ok-insert_texts.ensures.adds before xs texts in
+    let here = same_housed a.now.trees b.now.trees boxes hs (kept.1.1.1.1.1.1.1.1.1.1.0 refl) (kept.1.1.1.1.1.1.1.1.1.1.1.0 refl) housed in
+    on_ok_both c.insert_housings.result ((ys : List HousingRow) × AreHoused d.now.trees all ys × WithHousings unit (housing_cells all values) hs ys) (OnlyTouches (18 ∷ 20 ∷ []) b.now d.now) (IsDescribed unit values boxes xs hs d.now.trees)
+    (λ added still. record {
+      elements = told.0;
+      texts = same_elements b.now.trees d.now.trees told.0 (still.1.1.1.1.1.1.1.1.1.0 refl) told.1;
+      texts_more = told.2;
+      housings = added.0;
+      housed = added.1;
+      housed_more = added.2;
+    })
+    (c.insert_housings.ensures.adds clean boxes hs here) (c.insert_housings.ensures.only clean))
+    c.insert_housings.ensures.goes

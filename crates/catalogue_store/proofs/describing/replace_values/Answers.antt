@@ -1,0 +1,67 @@
+use Rattle.std.proofs.Common.{[], ◌∷◌, map, filter, not, nat_eq, if◌then◌else◌, refl, ◌∙◌}
+use Rattle.sqlite.specs.Held.{state}
+use Rattle.catalogue_store.specs.Adding.{IsDescribed}
+use Rattle.catalogue_store.specs.Describing.{with_values}
+use Rattle.catalogue_store.specs.Rows.{ElementRow, HousingRow}
+use Rattle.catalogue_store.specs.Shows.{Shows}
+use Rattle.catalogue_store.specs.Step.{Goes, OnlyTouches}
+use Rattle.catalogue_store.proofs.Calls.{early, goes_then, office_of, on_ok_both, still_office}
+use Rattle.catalogue_store.proofs.Outcomes.{on_ok_by}
+use Rattle.catalogue_store.proofs.Telling.{elements_shown, housed_shown, same_elements, same_housed}
+use Rattle.catalogue_store.proofs.Touching.{touched_then}
+use Rattle.catalogue_store.proofs.Valued.{shows_valued}
+use Rattle.catalogue_store.proofs.describing.replace_values.Goals as goal
+
+pub set_level-requires-clause-inside : goal.set_level-requires-clause-inside
+set_level-requires-clause-inside g c = office_of g.P.Places.version (state g.S.Store c.args.conn.now) c.requires.inside
+
+pub clear-requires-clause-inside : goal.clear-requires-clause-inside
+clear-requires-clause-inside g c =
+    let a = state g.S.Store c.args.conn.now in
+    let b = state g.S.Store c.set_level.new.conn in
+    still_office a b (office_of g.P.Places.version a c.requires.inside) c.in_ok-set_level.ensures.goes
+
+pub describe-requires-clause-inside : goal.describe-requires-clause-inside
+describe-requires-clause-inside g c =
+    let a = state g.S.Store c.args.conn.now in
+    let b = state g.S.Store c.set_level.new.conn in
+    let d = state g.S.Store c.clear.new.conn in
+    still_office a d (office_of g.P.Places.version a c.requires.inside) (goes_then a b d c.in_ok-set_level.ensures.goes c.in_ok-clear.ensures.goes)
+
+pub returns-clause-shows : goal.returns-clause-shows
+returns-clause-shows g c clean o k it knows there =
+    let a = state g.S.Store c.args.conn.now in
+    let b = state g.S.Store c.set_level.new.conn in
+    let d = state g.S.Store c.clear.new.conn in
+    let e = state g.S.Store c.describe.new.conn in
+    let v = g.P.Places.version in
+    let unit = c.args.unit in
+    let values = c.args.values.now in
+    let at = it.catalogue in
+    let xs = at.elements.elements in
+    let hs = at.housings.housings in
+    let elements = filter (λ (x : ElementRow). not (nat_eq unit x.unit)) xs in
+    let housings = filter (λ (x : HousingRow). not (nat_eq unit x.unit)) hs in
+    let result = Shows g.P.Places.shows v e.now o (with_values unit values k) in
+    on_ok_by c.describe.result (Goes d e) result
+    (λ last.
+    let before_d = early d e _ last.on.crash clean in
+    let before_b = early b d _ c.in_ok-clear.ensures.goes.on.crash before_d in
+    let level = c.in_ok-set_level.ensures.rows before_b at.units.units at.units.rows at.units.rise in
+    let kept = level.only in
+    let texts = same_elements a.now.trees b.now.trees xs (kept.1.1.1.1.1.1.1.1.1.0 refl) (elements_shown v a.now o k at) in
+    let housed = same_housed a.now.trees b.now.trees k.containers hs (kept.1.1.1.1.1.1.1.1.1.1.0 refl) (kept.1.1.1.1.1.1.1.1.1.1.1.0 refl) (housed_shown v a.now o k at knows) in
+    let cleared = c.in_ok-clear.ensures.clears before_d k.containers xs hs texts housed in
+    let still = c.in_ok-clear.ensures.only before_d xs hs texts.rows texts.rise housed.rows housed.rise in
+    on_ok_both c.describe.result (IsDescribed unit values k.containers elements housings e.now.trees) (OnlyTouches (16 ∷ 18 ∷ 20 ∷ []) d.now e.now) result
+    (λ made only.
+    let all : OnlyTouches (14 ∷ 16 ∷ 20 ∷ 16 ∷ 18 ∷ 20 ∷ []) a.now e.now = touched_then (14 ∷ 16 ∷ 20 ∷ []) (16 ∷ 18 ∷ 20 ∷ []) a.now d.now e.now (touched_then (14 ∷ []) (16 ∷ 20 ∷ []) a.now b.now d.now kept still) only in
+    shows_valued unit values v g.P.Places.shows g.met.P.Places.shows_same a.now e.now o k it knows there (record {
+      schema = (goes_then a d e (goes_then a b d c.in_ok-set_level.ensures.goes c.in_ok-clear.ensures.goes) last).schema clean;
+      office = all.1.1.1.1.1.1.1.0 refl;
+      places = all.1.1.1.1.1.1.1.1.1.1.1.1.0 refl;
+      units_are = only.1.1.1.1.1.1.1.1.0 refl ∙ still.1.1.1.1.1.1.1.1.0 refl ∙ level.are;
+      described = made;
+    }))
+    (c.describe.ensures.tells clean k.containers elements housings cleared.0 cleared.1) (c.describe.ensures.only clean))
+    c.describe.ensures.goes

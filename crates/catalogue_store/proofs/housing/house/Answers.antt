@@ -1,0 +1,25 @@
+use Rattle.std.proofs.Common.{◌≡◌, List, [], ◌∷◌}
+use Rattle.sqlite.specs.Held.{state}
+use Rattle.sqlite.specs.Edit.{next_rowid}
+use Rattle.catalogue_store.specs.Adding.{AreHoused, WithHousings, with_boxes}
+use Rattle.catalogue_store.specs.Merging.{box_number}
+use Rattle.catalogue_store.specs.Rows.{HousingRow, housing_row}
+use Rattle.catalogue_store.specs.Step.{Goes, PutsRow}
+use Rattle.catalogue_store.proofs.Calls.{early, on_ok_both}
+use Rattle.catalogue_store.proofs.HousingLemmas.{housed}
+use Rattle.catalogue_store.proofs.housing.house.Goals as goal
+
+pub returns-clause-adds : goal.returns-clause-adds
+returns-clause-adds g c clean boxes xs at =
+    let a = state g.S.Store c.args.conn.now in
+    let b = state g.S.Store c.number_of.new.conn in
+    let d = state g.S.Store c.insert_housing.new.conn in
+    let key = c.args.key.now in
+    let all = with_boxes boxes (key ∷ []) in
+    let row : HousingRow = record { row = next_rowid (b.now.trees 20); unit = c.args.unit; ord = c.args.place; container = c.in_ok-number.number } in
+    on_ok_both c.insert_housing.result (Goes b d) (PutsRow 20 (housing_row row) b.now d.now)
+    ((ys : List HousingRow) × AreHoused d.now.trees all ys × WithHousings c.args.unit ((c.args.place, box_number all key) ∷ []) xs ys)
+    (λ last puts.
+    let before = early b d _ last.on.crash clean in
+    housed a.now b.now d.now c.args.unit c.args.place c.in_ok-number.number key boxes xs at (c.in_ok-number.ensures.numbers before boxes at.containers at.apart) (c.in_ok-number.ensures.only before) puts)
+    c.insert_housing.ensures.goes (c.insert_housing.ensures.puts clean)

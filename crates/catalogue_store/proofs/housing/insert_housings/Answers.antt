@@ -1,0 +1,49 @@
+use Rattle.std.proofs.Common.{◌≡◌, ◌<◌, ◌+◌, ◌∙◌, ℕ, List, [], ◌∷◌, ◌++◌, length, get_or, take, ap, sym, subst, arith}
+use Rattle.std.proofs.lemmas.List.{take_more, length-take-le}
+use Rattle.sqlite.specs.Held.{state}
+use Rattle.isad_core.specs.declared.values.BoxKey.{BoxKey}
+use Rattle.catalogue_store.specs.Adding.{AreHoused, WithHousings, housing_cell, with_boxes}
+use Rattle.catalogue_store.specs.Merging.{box_number}
+use Rattle.catalogue_store.specs.Rows.{HousingRow}
+use Rattle.catalogue_store.proofs.Calls.{early, goes_then}
+use Rattle.catalogue_store.proofs.Touching.{touched_again}
+use Rattle.catalogue_store.proofs.Parts.{cells_then}
+use Rattle.catalogue_store.proofs.HousingLemmas.{boxes_more, cells_in, housing_more}
+use Rattle.catalogue_store.proofs.housing.insert_housings.Goals as goal
+
+pub loop-key-preserved : goal.loop-key-preserved
+loop-key-preserved g c =
+    let a = state g.S.Store c.args.conn.now in
+    let b = state g.S.Store c.loop-key.conn in
+    let d = state g.S.Store c.house.new.conn in
+    let unit = c.args.unit in
+    let told = c.args.values.now.boxes in
+    let i = c.loop-key.key-index in
+    let key = c.key-item.result in
+    let seen = take i told in
+    let invariant = c.loop-key.invariant in
+    let last = c.in_ok-house.ensures.goes in
+    let low : i < length told = subst (λ (l : List BoxKey). i < length l) c.as_slice-key-items.ensures c.loop-key-test.true in
+    let taken : take (i + 1) told ≡ seen ++ key ∷ [] =
+    take_more told i key low ∙ ap (λ b. seen ++ b ∷ []) (sym (c.key-item.is ∙ ap (λ (l : List BoxKey). get_or l i key) c.as_slice-key-items.ensures)) in
+    let place : c.loop-key.place ≡ length seen = invariant.0 ∙ sym (length-take-le i told (omega (arith, low))) in (
+      ap (λ n. n + 1) invariant.0,
+      (
+        invariant.1.0,
+        (
+          goes_then a b d invariant.1.1.0 last,
+          (
+            λ clean. touched_again (18 ∷ 20 ∷ []) a.now b.now d.now (invariant.1.1.1.0 (early b d _ last.on.crash clean)) (c.in_ok-house.ensures.only clean),
+            λ clean boxes xs at.
+                let before = invariant.1.1.1.1 (early b d _ last.on.crash clean) boxes xs at in
+                let now = with_boxes boxes seen in
+                let one = c.in_ok-house.ensures.adds clean now before.0 before.1 in
+                let ys = one.0 in
+                let cells = cells_in now seen ++ (c.loop-key.place + 1, box_number (with_boxes now (key ∷ [])) key) ∷ [] in
+                let more : WithHousings unit cells xs ys = cells_then (λ (h : HousingRow). h.unit) housing_cell unit (cells_in now seen) ((c.loop-key.place + 1, box_number (with_boxes now (key ∷ [])) key) ∷ []) xs before.0 ys before.2 one.2 in
+                subst (λ l. (ys : List HousingRow) × AreHoused d.now.trees (with_boxes boxes l) ys × WithHousings unit (cells_in (with_boxes boxes l) l) xs ys) (sym taken)
+                (ys, subst (λ cs. AreHoused d.now.trees cs ys) (boxes_more boxes seen key at.apart) one.1, subst (λ l. WithHousings unit l xs ys) (housing_more boxes seen key c.loop-key.place at.apart place) more),
+          ),
+        ),
+      ),
+    )

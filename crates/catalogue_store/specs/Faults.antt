@@ -1,0 +1,29 @@
+-- Why a call that is accepted fails.
+use Rattle.std.specs.Prelude.{◌≡◌, ◌⊎◌, false, ⊤, None}
+use Rattle.sqlite_disk.specs.Disk.{MoreFaults}
+use Rattle.sqlite.specs.State.{State}
+use Rattle.sqlite.specs.declared.error.Error.{Error}
+use Rattle.sqlite.specs.declared.error.Error.TheVariants.{SqliteFailure}
+use Rattle.sqlite.specs.declared.error.ErrorCode.TheVariants as code
+use Rattle.catalogue_store.specs.declared.fault.StoreFault.{StoreFault}
+use Rattle.catalogue_store.specs.declared.fault.StoreFault.TheVariants as fault
+
+-- A growth was refused, the disk failed or was shut by an earlier failure, or else the statement is none for these tables.
+abbrev pub fault_of : Error → StoreFault
+fault_of (SqliteFailure code.OutOfMemory) = fault.Memory
+fault_of (SqliteFailure code.SystemIoFailure) = fault.Disk
+fault_of (SqliteFailure code.DatabaseCorrupt) = fault.Disk
+fault_of (SqliteFailure code.DiskFull) = fault.Disk
+fault_of (SqliteFailure code.Closed) = fault.Disk
+fault_of _ = fault.Schema
+
+-- the connection sets no limit on the steps of a statement
+abbrev pub IsUnlimited : State → Type 0
+IsUnlimited s = s.step_limit ≡ None
+
+-- The cause of a fault: the disk failed in the call, or an earlier failure had shut it. Want of memory may come at any
+-- time, and the tables are never blamed.
+abbrev pub HasCause : State → State → StoreFault → Type 0
+HasCause old new fault.Memory = ⊤
+HasCause old new fault.Disk = MoreFaults old.faults new.faults ⊎ (old.is_open ≡ false)
+HasCause old new fault.Schema = ⊥

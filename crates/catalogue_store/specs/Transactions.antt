@@ -1,0 +1,15 @@
+-- How a transaction begins and ends.
+use Rattle.std.specs.Prelude.{◌≡◌, ◌⊎◌, false, IsTrue}
+use Rattle.sqlite.specs.State.{State, IsUnchanged, IsRolledBack}
+
+-- nothing was done, or all since the last commit was taken back
+abbrev pub IsStopped : State → State → Type 0
+IsStopped old new = IsUnchanged old new ⊎ IsRolledBack old new
+
+-- what was seen is committed, and no transaction is open
+pub record Committed (old new : State) : Type 0 where
+  pub was_open : IsTrue old.is_open
+  pub is_open : IsTrue new.is_open
+  pub now : new.now ≡ old.now
+  pub committed : new.committed ≡ old.now
+  pub ended : new.in_transaction ≡ false

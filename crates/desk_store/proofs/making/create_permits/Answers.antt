@@ -1,0 +1,34 @@
+use Rattle.std.proofs.Common.{rules, []}
+use Rattle.sqlite.specs.Held.{state}
+use Rattle.catalogue_store.specs.Step.{Continues, IsCut}
+use Rattle.catalogue_store.specs.Creation.{IsMaking}
+use Rattle.catalogue_store.specs.Schema.{desk_schema}
+use Rattle.desk_store.proofs.Creations.{permit_by_unit_indexed, permit_defined, s8, s9}
+use Rattle.catalogue_store.proofs.Calls.{cut_then, continues_then, on_ok_then, on_err_then}
+use Rattle.desk_store.proofs.making.create_permits.Goals as goal
+
+pub returns-in_err-create_table-clause-cut : goal.returns-in_err-create_table-clause-cut
+returns-in_err-create_table-clause-cut g c start making =
+    let a0 = state g.S.Store c.args.conn.now in
+    let a1 = state g.S.Store c.create_table.new.conn in
+    let one : IsCut a0 a1 = c.in_err-create_table.ensures.cut [] start s8 s9 making permit_defined in
+    search (rules, one)
+
+pub returns-clause-made : goal.returns-clause-made
+returns-clause-made g c start making =
+    let a0 = state g.S.Store c.args.conn.now in
+    let a1 = state g.S.Store c.create_table.new.conn in
+    let step1 = c.in_ok-create_table.ensures.made [] start s8 s9 making permit_defined in
+    let on1 = step1.0 in
+    let a2 = state g.S.Store c.create_index.new.conn in
+    on_ok_then c.create_index.result (Continues a1 a2 × IsMaking [] desk_schema start a2) (Continues a0 a2 × IsMaking [] desk_schema start a2) (λ last. (continues_then a0 a1 a2 on1 last.0, last.1))
+    (c.create_index.ensures.made [] start s9 desk_schema step1.1 permit_by_unit_indexed)
+
+pub returns-clause-cut : goal.returns-clause-cut
+returns-clause-cut g c start making =
+    let a0 = state g.S.Store c.args.conn.now in
+    let a1 = state g.S.Store c.create_table.new.conn in
+    let step1 = c.in_ok-create_table.ensures.made [] start s8 s9 making permit_defined in
+    let on1 = step1.0 in
+    let a2 = state g.S.Store c.create_index.new.conn in
+    on_err_then c.create_index.result (IsCut a1 a2) (IsCut a0 a2) (λ last. cut_then a0 a1 a2 on1 last) (c.create_index.ensures.cut [] start s9 desk_schema step1.1 permit_by_unit_indexed)

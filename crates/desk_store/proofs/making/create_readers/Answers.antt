@@ -1,0 +1,34 @@
+use Rattle.std.proofs.Common.{rules, []}
+use Rattle.sqlite.specs.Held.{state}
+use Rattle.catalogue_store.specs.Step.{Continues, IsCut}
+use Rattle.catalogue_store.specs.Creation.{IsMaking}
+use Rattle.catalogue_store.specs.Schema.{no_schema}
+use Rattle.desk_store.proofs.Creations.{reader_defined, s1, s2, seat_defined}
+use Rattle.catalogue_store.proofs.Calls.{cut_then, continues_then, on_ok_then, on_err_then}
+use Rattle.desk_store.proofs.making.create_readers.Goals as goal
+
+pub returns-in_err-create_table-clause-cut : goal.returns-in_err-create_table-clause-cut
+returns-in_err-create_table-clause-cut g c start making =
+    let a0 = state g.S.Store c.args.conn.now in
+    let a1 = state g.S.Store c.create_table.new.conn in
+    let one : IsCut a0 a1 = c.in_err-create_table.ensures.cut [] start no_schema s1 making reader_defined in
+    search (rules, one)
+
+pub returns-clause-made : goal.returns-clause-made
+returns-clause-made g c start making =
+    let a0 = state g.S.Store c.args.conn.now in
+    let a1 = state g.S.Store c.create_table.new.conn in
+    let step1 = c.in_ok-create_table.ensures.made [] start no_schema s1 making reader_defined in
+    let on1 = step1.0 in
+    let a2 = state g.S.Store c.create_table-2.new.conn in
+    on_ok_then c.create_table-2.result (Continues a1 a2 × IsMaking [] s2 start a2) (Continues a0 a2 × IsMaking [] s2 start a2) (λ last. (continues_then a0 a1 a2 on1 last.0, last.1))
+    (c.create_table-2.ensures.made [] start s1 s2 step1.1 seat_defined)
+
+pub returns-clause-cut : goal.returns-clause-cut
+returns-clause-cut g c start making =
+    let a0 = state g.S.Store c.args.conn.now in
+    let a1 = state g.S.Store c.create_table.new.conn in
+    let step1 = c.in_ok-create_table.ensures.made [] start no_schema s1 making reader_defined in
+    let on1 = step1.0 in
+    let a2 = state g.S.Store c.create_table-2.new.conn in
+    on_err_then c.create_table-2.result (IsCut a1 a2) (IsCut a0 a2) (λ last. cut_then a0 a1 a2 on1 last) (c.create_table-2.ensures.cut [] start s1 s2 step1.1 seat_defined)

@@ -1,0 +1,22 @@
+-- The desk's tables on the way: those of the readers, then those of the orders, then those of the runs. The permits come last.
+use Rattle.std.specs.Prelude.{[], ◌∷◌}
+use Rattle.sqlite.specs.Schema.{Schema}
+use Rattle.sqlite_catalog.specs.Listing.{automatic}
+use Rattle.catalogue_store.specs.Schema.{reader, seat, orders, holding, run, run_line, orders_by_container, orders_by_ticket}
+
+abbrev pub reader_schema : Schema
+reader_schema = record { tables = reader ∷ seat ∷ []; indexes = automatic seat 0 (2 ∷ []) 2 ∷ []; views = [] }
+
+abbrev pub order_schema : Schema
+order_schema = record {
+  tables = reader ∷ seat ∷ orders ∷ [];
+  indexes = automatic seat 0 (2 ∷ []) 2 ∷ orders_by_container ∷ orders_by_ticket ∷ [];
+  views = [];
+}
+
+abbrev pub run_schema : Schema
+run_schema = record {
+  tables = reader ∷ seat ∷ orders ∷ holding ∷ run ∷ run_line ∷ [];
+  indexes = automatic seat 0 (2 ∷ []) 2 ∷ orders_by_container ∷ orders_by_ticket ∷ automatic run_line 0 (1 ∷ 2 ∷ []) 9 ∷ [];
+  views = [];
+}
