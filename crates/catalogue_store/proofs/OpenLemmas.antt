@@ -9,7 +9,7 @@ use Rattle.sqlite_rules.proofs.ListLemmas.{some_from, has_filtered}
 use Rattle.isad_core.specs.declared.values.BoxKey.{BoxKey}
 use Rattle.atom_csv.specs.Values.{is_same as is_same_box}
 use Rattle.tree_core.specs.Forest.{Forest, Empty, Node, nodes, each, has, path, tree, HasDistinctIds}
-use Rattle.tree_core.specs.Marks.{is_closed as is_mark_closed, withholds, contents_paths}
+use Rattle.tree_core.specs.Marks.{is_closed as is_mark_closed, withholds, contents_paths, IsNumbered}
 use Rattle.tree_core.specs.Withheld.{sharing_paths}
 use Rattle.tree_core.specs.declared.marks.Mark.{Mark}
 use Rattle.tree_core.proofs.EachLemmas.{has-each}
@@ -18,8 +18,9 @@ use Rattle.tree_core.proofs.Lists.{list_any-map, any_agree}
 use Rattle.tree_core.proofs.MarkWalks.{list_all-append}
 use Rattle.tree_core.proofs.Sharing.{open_by_paths}
 use Rattle.catalogue_store.specs.Housing.{own_or, housed_below, housed, paths_below, is_withheld_from, is_some_there, is_open}
-use Rattle.catalogue_store.specs.Marking.{mark_of, unnumbered}
-use Rattle.catalogue_store.specs.OpenMarks.{is_clean, OpenByMarks, NumbersTellNothing}
+use Rattle.catalogue_store.specs.Marking.{mark_of, unnumbered, AreMarks, AreWalkMarks}
+use Rattle.std.proofs.lemmas.List.Folds.{list_any-append}
+use Rattle.catalogue_store.specs.OpenMarks.{is_clean, OpenByMarks, NumbersTellNothing, MarksSayClean}
 use Rattle.catalogue_store.specs.Units.{Unit, has_id, is_closed}
 
 -- ---- lists
@@ -322,3 +323,31 @@ numbers_tell_nothing today path (Node unit below others) =
     (all_agree (λ way. not (withholds today false way)) (λ way. not (withholds today false (map unnumbered way))) ways (λ way h. bare_way today way)
     ∙ sym (all_map (λ way. not (withholds today false way)) (map unnumbered) ways)
     ∙ ap (list_all (λ way. not (withholds today false way))) (ap (λ l. (unnumbered unit ∷ []) ∷ l) (sym (bare_sharing (unit ∷ []) below))))
+
+-- ---- the marks that are read
+
+tree_alone : (is : Unit → Bool) (f : Forest Unit) → has is f ≡ true → (u : Unit) × (c : Forest Unit) × (tree is f ≡ Node u c Empty)
+tree_alone is Empty h = absurd (false≢true h)
+tree_alone is (Node u c o) h = elim (cases_Bool (is u)) [
+  | inl t ↦ (u, c, rw t refl)
+  | inr n ↦ elim (cases_Bool (has is c)) [
+    | inl y ↦ let it = tree_alone is c y in (it.0, it.1, rw (n, y) it.2)
+    | inr m ↦ let it = tree_alone is o (rw (n, list_any-append is (nodes c) (nodes o), m) at h) in (it.0, it.1, rw (n, m) it.2)
+  ]
+]
+
+alone : (g : Forest Mark) (u : Mark) (c : Forest Mark) → each unnumbered g ≡ Node u c Empty → (m : Mark) × (b : Forest Mark) × (g ≡ Node m b Empty)
+alone Empty u c e = absurd (cc)
+alone (Node m b Empty) u c e = (m, b, refl)
+alone (Node m b (Node x y z)) u c e = absurd (let k : Node (unnumbered x) (each unnumbered y) (each unnumbered z) ≡ Empty = cc in cc)
+
+pub marks_say_clean : MarksSayClean
+marks_say_clean f unit today marks branch path_clean contents_clean there way walk says_path says_contents =
+    let shape = tree_alone (has_id unit) f there in
+    let only = alone walk.forest (mark_of shape.0) (each mark_of shape.1) (walk.theirs ∙ ap (each mark_of) shape.2) in
+    let says = says_contents walk.first only.0 only.1 (subst (IsNumbered walk.first) only.2 walk.numbered) (walk.walked ∙ ap nodes only.2) in
+    ap₂ ◌&&◌ says_path says
+    ∙ ap (is_clean today marks) (sym only.2)
+    ∙ numbers_tell_nothing today marks walk.forest
+    ∙ ap (λ l. is_clean today l (each unnumbered walk.forest)) way
+    ∙ ap (is_clean today (map mark_of (path (has_id unit) f))) walk.theirs
