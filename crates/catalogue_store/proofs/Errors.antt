@@ -1,5 +1,5 @@
 -- What an error leaves, whatever the statement is.
-use Rattle.std.proofs.Common.{◌⊎◌, inl, inr, ℕ, List, false, Err, Option, Some, None, subst}
+use Rattle.std.proofs.Common.{inl, inr, ℕ, List, false, Err, Option, Some, None, subst}
 use Rattle.std.proofs.lemmas.Bool.{cases_Bool}
 use Rattle.sqlite.specs.Order.{Row}
 use Rattle.sqlite.specs.declared.error.Error.{Error}

@@ -18,7 +18,7 @@ use Rattle.tree_core.proofs.Lists.{list_any-map, any_agree}
 use Rattle.tree_core.proofs.MarkWalks.{list_all-append}
 use Rattle.tree_core.proofs.Sharing.{open_by_paths}
 use Rattle.catalogue_store.specs.Housing.{own_or, housed_below, housed, paths_below, is_withheld_from, is_some_there, is_open}
-use Rattle.catalogue_store.specs.Marking.{mark_of, unnumbered, AreMarks, AreWalkMarks}
+use Rattle.catalogue_store.specs.Marking.{mark_of, unnumbered}
 use Rattle.std.proofs.lemmas.List.Folds.{list_any-append}
 use Rattle.catalogue_store.specs.OpenMarks.{is_clean, OpenByMarks, NumbersTellNothing, MarksSayClean}
 use Rattle.catalogue_store.specs.Units.{Unit, has_id, is_closed}

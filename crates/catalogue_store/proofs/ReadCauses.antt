@@ -1,11 +1,10 @@
 -- Why the queries fail: their texts are whole, their values type, and none sums.
-use Rattle.std.proofs.Common.{◌≡◌, ℕ, pos, [], ◌∷◌, length, true, false, Option, Some, None, option_map, refl}
+use Rattle.std.proofs.Common.{◌≡◌, ℕ, pos, [], ◌∷◌, length, true, false, refl}
 use Rattle.std.proofs.Math.Nat.{le_refl}
 use Rattle.isad_core.specs.Texts.{Bytes}
 use Rattle.isad_core.specs.declared.values.BoxKey.{BoxKey}
-use Rattle.sqlite.specs.declared.types.Value.TheVariants.{Null, Int, Text}
+use Rattle.sqlite.specs.declared.types.Value.TheVariants.{Int, Text}
 use Rattle.sqlite.specs.declared.error.Error.{Error}
-use Rattle.sqlite.specs.Values.{or_null}
 use Rattle.sqlite.specs.Listing.{understood}
 use Rattle.sqlite.specs.State.{State, FailsToQuery}
 use Rattle.sqlite_tied.specs.Compute.{everything}

@@ -1,14 +1,13 @@
 -- What BEGIN, COMMIT and ROLLBACK do, as text.
 use Rattle.std.proofs.Common.{◌≡◌, inl, inr, ℕ, List, [], codes, true, false, None, Ok, Err, Result, OnOk, IsTrue, lit≤, refl, sym, ap, subst, subst₂, ◌∙◌, append-nil}
 use Rattle.sqlite.specs.Schema.{Schema}
-use Rattle.sqlite.specs.Order.{Row}
 use Rattle.sqlite.specs.Tree.{Trees}
 use Rattle.sqlite.specs.Command.{Command}
 use Rattle.sqlite.specs.Command.TheVariants.{Begin, Commit, Rollback}
 use Rattle.sqlite_tied.specs.Compute.{everything}
 use Rattle.sqlite.specs.declared.error.Error.{Error}
 use Rattle.sqlite.specs.Listing.{understood}
-use Rattle.sqlite.specs.State.{State, Executes, Shows, IsUnchanged, IsRolledBack, CommitsBy, MayCommit}
+use Rattle.sqlite.specs.State.{State, Executes, Shows, IsRolledBack, CommitsBy, MayCommit}
 use Rattle.sqlite.proofs.Callers.{IsPlain, command_of, statement_of, runs_as}
 use Rattle.sqlite.specs.State.{IsMisplaced}
 use Rattle.catalogue_store.specs.Transactions.{Committed, IsStopped}

@@ -15,7 +15,7 @@ use Rattle.sqlite.specs.Listing.{understood}
 use Rattle.sqlite.specs.State.{State, HasCleanDisk}
 use Rattle.catalogue_store.specs.Text.{command_of, statement_of}
 use Rattle.sqlite_catalog.specs.Listing.{automatic}
-use Rattle.catalogue_store.specs.Schema.{desk_tables, reader, seat, orders, holding, run, run_line, permit, office, unit, element, container, housing, orders_by_container, orders_by_ticket, permit_by_unit, housing_by_container}
+use Rattle.catalogue_store.specs.Schema.{reader, seat, orders, holding, run, run_line, permit, office, unit, element, container, housing, orders_by_container, orders_by_ticket, permit_by_unit, housing_by_container}
 
 -- the text is understood as one whole command
 pub record Says (before : Schema) (text : List ℕ) (command : Command) : Type 0 where

@@ -1,4 +1,4 @@
-use Rattle.std.proofs.Common.{rules, ◌≤◌, ◌≡◌, ℕ, List, [], ◌∷◌, sym, subst, ◌∙◌}
+use Rattle.std.proofs.Common.{◌≡◌, ℕ, List, [], ◌∷◌, sym, subst, ◌∙◌}
 use Rattle.sqlite.specs.Effect.{Database}
 use Rattle.sqlite.specs.Held.{state}
 use Rattle.tree_core.specs.Forest.{each}
@@ -7,9 +7,6 @@ use Rattle.catalogue_store.specs.Shows.{Shows}
 use Rattle.catalogue_store.specs.Statuses.{with_status}
 use Rattle.catalogue_store.specs.Step.{OnlyTouches}
 use Rattle.catalogue_store.proofs.Calls.{early}
-use Rattle.catalogue_store.proofs.WriteCauses.{disk_then, disk_of}
-use Rattle.catalogue_store.specs.Faults.{FitsOffice}
-use Rattle.tree_core.proofs.EachLemmas.{size-each}
 use Rattle.catalogue_store.proofs.closing.set_status.Goals as goal
 
 pub returns-clause-shows : goal.returns-clause-shows

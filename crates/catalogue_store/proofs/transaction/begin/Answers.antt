@@ -1,4 +1,4 @@
-use Rattle.std.proofs.Common.{rules, Ok, ◌≡◌}
+use Rattle.std.proofs.Common.{rules, Ok}
 use Rattle.sqlite.specs.Held.{state}
 use Rattle.sqlite.proofs.StateLemmas.{survives_weaker}
 use Rattle.catalogue_store.proofs.Errors.{stops}
