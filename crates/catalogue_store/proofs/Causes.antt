@@ -25,17 +25,17 @@ use Rattle.catalogue_store.proofs.Failures.{IsWhole, no_statement}
 -- ---- causes
 
 module _ (old new : State) where
-  by_cause : (cause : StoreError) → state.HasCause old new ⊥ cause → HasCause old new (fault_of (store_error cause))
-  by_cause OutOfMemory why = tt
-  by_cause Io why = inl why
-  by_cause Corrupt why = inl why
-  by_cause Full why = inl why
-  by_cause Broken why = inr why
-  by_cause Unstorable why = absurd why
+  by_cause : (too_big : Type 0) (cause : StoreError) → state.HasCause old new too_big cause → HasCause old new (fault_of (store_error cause))
+  by_cause too_big OutOfMemory why = tt
+  by_cause too_big Io why = inl why
+  by_cause too_big Corrupt why = inl why
+  by_cause too_big Full why = inl why
+  by_cause too_big Broken why = inr why
+  by_cause too_big Unstorable why = tt
 
-  -- a failure of the store has its cause, where each row can be stored
-  pub failed_cause : (e : Error) → Fails old new ⊥ e → HasCause old new (fault_of e)
-  failed_cause e failed = subst (λ e. HasCause old new (fault_of e)) (sym failed.1) (by_cause failed.0 failed.2)
+  -- a failure of the store has its cause
+  pub failed_cause : {too_big : Type 0} (e : Error) → Fails old new too_big e → HasCause old new (fault_of e)
+  failed_cause {too_big} e failed = subst (λ e. HasCause old new (fault_of e)) (sym failed.1) (by_cause too_big failed.0 failed.2)
 
   pub memory_only : {X : Type 0} (r : Result X StoreFault) → IfErr r (λ e. e ≡ fault.Memory) → IfErr r (HasCause old new)
   memory_only (Ok x) h = tt

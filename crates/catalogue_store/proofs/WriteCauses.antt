@@ -42,17 +42,23 @@ use Rattle.catalogue_store.specs.declared.fault.StoreFault.TheVariants as fault
 use Rattle.catalogue_store.proofs.Calls.{early, Knows, is_write}
 use Rattle.catalogue_store.proofs.Causes.{cause_then}
 
--- each error of the part is one of the schema
-abbrev Blames : {A : Type 0} → Part A → Type 0
-Blames {A} P = (e : Error) → P (Err (Some e)) → fault_of e ≡ fault.Schema
+-- the fault is the disk's
+abbrev is_disk : StoreFault → Bool
+is_disk fault.Memory = false
+is_disk fault.Disk = true
+is_disk fault.Schema = false
 
-by : (e x : Error) → e ≡ x → fault_of x ≡ fault.Schema → fault_of e ≡ fault.Schema
-by e x is h = ap fault_of is ∙ h
+-- no error of the part is the disk's
+abbrev Blames : {A : Type 0} → Part A → Type 0
+Blames {A} P = (e : Error) → P (Err (Some e)) → is_disk (fault_of e) ≡ false
+
+by : (e x : Error) → e ≡ x → is_disk (fault_of x) ≡ false → is_disk (fault_of e) ≡ false
+by e x is h = ap (λ e. is_disk (fault_of e)) is ∙ h
 
 given : {A : Type 0} (a : A) → Blames (Gives a)
 given a e h = absurd (cc)
 
-refused : {A : Type 0} (x e : Error) → fault_of x ≡ fault.Schema → ◌≡◌ {A = Result A (Option Error)} (Err (Some e)) (Err (Some x)) → fault_of e ≡ fault.Schema
+refused : {A : Type 0} (x e : Error) → is_disk (fault_of x) ≡ false → ◌≡◌ {A = Result A (Option Error)} (Err (Some e)) (Err (Some x)) → is_disk (fault_of e) ≡ false
 refused x e h is = by e x (cc) h
 
 -- the part stopped there with this error
@@ -75,7 +81,7 @@ sourced limit db params (source.Values terms width) e (inl h) = by e _ h.0 refl
 sourced limit db params (source.Values terms width) e (inr h) = by e _ h.0 refl
 sourced limit db params (source.Query q) e h = queried limit db q params e h
 
-edit_blames : (r : Refusal) → fault_of (edit_error r) ≡ fault.Schema
+edit_blames : (r : Refusal) → is_disk (fault_of (edit_error r)) ≡ false
 edit_blames (Violates rule) = refl
 edit_blames Mismatch = refl
 edit_blames NoRowid = refl
@@ -138,7 +144,7 @@ module _ (task : Task) where
 
 -- ---- definitions
 
-alter_blames : (r : alter.Refusal) → fault_of (alter_error r) ≡ fault.Schema
+alter_blames : (r : alter.Refusal) → is_disk (fault_of (alter_error r)) ≡ false
 alter_blames (why.Invalid e) = refl
 alter_blames why.NameTaken = refl
 alter_blames why.BadName = refl
@@ -147,7 +153,7 @@ alter_blames why.BadText = refl
 alter_blames why.TooBig = refl
 alter_blames (why.Violates rule) = refl
 
-alters : (text : List ℕ) (P : alter.Refusal → Type 0) (e : Error) → IsNoText text e ⊎ RefusesToAlter P e → fault_of e ≡ fault.Schema
+alters : (text : List ℕ) (P : alter.Refusal → Type 0) (e : Error) → IsNoText text e ⊎ RefusesToAlter P e → is_disk (fault_of e) ≡ false
 alters text P e (inl h) = by e _ h.1 refl
 alters text P e (inr h) = by e (alter_error h.0) h.2 (alter_blames h.0)
 
@@ -198,8 +204,10 @@ module _ (limit : Option ℕ) (mode : Mode) (params : Row) (db : Database) (text
   does_blame _ w = absurd (cc)
 
 module _ (old new : State) where
-  pub fair_schema : (f : StoreFault) → f ≡ fault.Schema → BlamesDisk old new f
-  fair_schema f is = subst (BlamesDisk old new) (sym is) tt
+  pub fair : (f : StoreFault) → is_disk f ≡ false → BlamesDisk old new f
+  fair fault.Memory is = tt
+  fair fault.Disk is = absurd (let clash : true ≡ false = is in cc)
+  fair fault.Schema is = tt
 
   fair_store : (too_big : Type 0) (cause : StoreError) → state.HasCause old new too_big cause → BlamesDisk old new (fault_of (store_error cause))
   fair_store too_big OutOfMemory h = tt
@@ -212,34 +220,34 @@ module _ (old new : State) where
   fair_failure : (too_big : Type 0) (e : Error) → Fails old new too_big e → BlamesDisk old new (fault_of e)
   fair_failure too_big e failed = subst (λ e. BlamesDisk old new (fault_of e)) (sym failed.1) (fair_store too_big failed.0 failed.2)
 
-no_statement : (s : State) (sql : List ℕ) (params : Row) (e : Error) → IsNoStatement s sql params e → fault_of e ≡ fault.Schema
+no_statement : (s : State) (sql : List ℕ) (params : Row) (e : Error) → IsNoStatement s sql params e → is_disk (fault_of e) ≡ false
 no_statement s sql params e (inl h) = by e _ h.2 refl
 no_statement s sql params e (inr (c, u, inl h)) = by e _ h.1 refl
 no_statement s sql params e (inr (c, u, inr (inl h))) = by e _ h.1 refl
 no_statement s sql params e (inr (c, u, inr (inr h))) = by e _ h.1 refl
 
-misplaced : (s : State) (command : Command) (e : Error) → IsMisplaced s command e → fault_of e ≡ fault.Schema
+misplaced : (s : State) (command : Command) (e : Error) → IsMisplaced s command e → is_disk (fault_of e) ≡ false
 misplaced s command e (inl h) = by e _ h.0 refl
 misplaced s command e (inr h) = by e _ h.0 refl
 
 module _ (sql : List ℕ) (params : Row) (old new : State) (command : Command) (writes : is_write command ≡ true) (known : Knows sql command old) where
   ran : (c : Compiled) (full : Row) → c.command ≡ command → c.returning ≡ None → (e : Error) → RunsCommand old new sql c full (Err e) → BlamesDisk old new (fault_of e)
-  ran c full is none e (inl (inl h, same)) = fair_schema old new (fault_of e) (misplaced old c.command e h)
+  ran c full is none e (inl (inl h, same)) = fair old new (fault_of e) (misplaced old c.command e h)
   ran c full is none e (inl (inr h, same)) =
       let text = text_of sql c in
-      fair_schema old new (fault_of e) (does_blame old.step_limit (mode_of old) full old.now text command writes e
+      fair old new (fault_of e) (does_blame old.step_limit (mode_of old) full old.now text command writes e
       (subst₂ (λ k r. Does old.step_limit (mode_of old) full old.now text r k (Err (Some e))) is none h.1))
   ran c full is none e (inr failed) = fair_failure old new _ e failed
 
   -- a write that fails blames the disk for its own failures only
   pub write_disk : (e : Error) → Executes sql params old new (Err e) → BlamesDisk old new (fault_of e)
   unfolding ExecutesIn IsNotRun
-  write_disk e (inl (inl refused)) = fair_schema old new (fault_of e) (no_statement old sql params e refused.0)
+  write_disk e (inl (inl refused)) = fair old new (fault_of e) (no_statement old sql params e refused.0)
   write_disk e (inl (inr failed)) = fair_failure old new ⊥ e failed
   write_disk e (inr it) =
       let plain = subst IsPlain it.1.is known.plain in
       elim (cases_Bool (shows_rows false it.0)) [
-        | inl shows ↦ fair_schema old new (fault_of e) (by e ExecuteReturnedResults (let same = (rw shows at it.2).0 in cc) refl)
+        | inl shows ↦ fair old new (fault_of e) (by e ExecuteReturnedResults (let same = (rw shows at it.2).0 in cc) refl)
         | inr runs ↦ ran it.0 (timed params it.0.formats it.1.now) (sym (ap command_of it.1.is) ∙ known.is) plain.0 e (rw runs at it.2)
       ]
 

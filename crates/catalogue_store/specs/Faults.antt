@@ -9,9 +9,12 @@ use Rattle.sqlite.specs.declared.error.ErrorCode.TheVariants as code
 use Rattle.catalogue_store.specs.declared.fault.StoreFault.{StoreFault}
 use Rattle.catalogue_store.specs.declared.fault.StoreFault.TheVariants as fault
 
--- A growth was refused, the disk failed or was shut by an earlier failure, or else the statement is none for these tables.
+-- A growth was refused: of memory, or of the store, whose rows and row numbers have an end. Or the disk failed, or was
+-- shut by an earlier failure. Or else the statement is none for these tables.
 abbrev pub fault_of : Error → StoreFault
 fault_of (SqliteFailure code.OutOfMemory) = fault.Memory
+fault_of (SqliteFailure code.TooBig) = fault.Memory
+fault_of (SqliteFailure code.NoRowid) = fault.Memory
 fault_of (SqliteFailure code.SystemIoFailure) = fault.Disk
 fault_of (SqliteFailure code.DatabaseCorrupt) = fault.Disk
 fault_of (SqliteFailure code.DiskFull) = fault.Disk

@@ -25,3 +25,4 @@ pub mod Housing
 pub mod Marking
 pub mod Marked
 pub mod OpenMarks
+pub mod Bounds

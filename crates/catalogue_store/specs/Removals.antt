@@ -2,6 +2,7 @@
 use Rattle.std.specs.Prelude.{◌≡◌, ℕ, not, true, List, [], ◌∷◌, map, filter, nat_eq}
 use Rattle.std.specs.List.{IsDistinct, list_any}
 use Rattle.std.specs.Ordering.{int_cmp}
+use Rattle.sqlite.specs.Tree.{Trees}
 use Rattle.sqlite.specs.Effect.{Database}
 use Rattle.catalogue_store.specs.Order.{Rises}
 use Rattle.catalogue_store.specs.Rows.{unit_row, by_number, ElementRow, element_row, HousingRow, housing_row, PermitRow, permit_row}
@@ -24,3 +25,18 @@ pub record AreRemoved (ids : List ℕ) (old new : Database) : Type 0 where
   pub housings : (xs : List HousingRow) → old.trees 20 ≡ map housing_row xs → Rises (λ a b. int_cmp a.row b.row) xs → new.trees 20 ≡ map housing_row (without (λ h. h.unit) ids xs)
   pub permits : (xs : List PermitRow) → old.trees 10 ≡ map permit_row xs → Rises (λ a b. int_cmp a.row b.row) xs → new.trees 10 ≡ map permit_row (without (λ p. p.unit) ids xs)
   pub only : OnlyTouches (10 ∷ 14 ∷ 16 ∷ 20 ∷ []) old new
+
+-- what the tables of the units, and of all that goes with a unit, have as rows
+pub record IsTold (db : Trees) : Type 0 where
+  pub units : List Unit
+  pub unit_rows : db 14 ≡ map unit_row units
+  pub units_rise : Rises by_number units
+  pub elements : List ElementRow
+  pub element_rows : db 16 ≡ map element_row elements
+  pub elements_rise : Rises (λ a b. int_cmp a.row b.row) elements
+  pub housings : List HousingRow
+  pub housing_rows : db 20 ≡ map housing_row housings
+  pub housings_rise : Rises (λ a b. int_cmp a.row b.row) housings
+  pub permits : List PermitRow
+  pub permit_rows : db 10 ≡ map permit_row permits
+  pub permits_rise : Rises (λ a b. int_cmp a.row b.row) permits

@@ -7,7 +7,8 @@ use std::alloc::{AllocError, AllocFailed};
 /// or has been taken back already.
 #[derive(Clone, Copy, Debug, PartialEq, Eq)]
 pub enum StoreFault {
-    /// A growth was refused, in memory or of the store's size.
+    /// A growth was refused: of memory, or of the store, where a row is too long for it (10^9 bytes)
+    /// or a table has given away its last row number (2^63 - 1).
     Memory,
     /// The store's disk failed.
     Disk,
@@ -45,7 +46,9 @@ impl From<Error> for StoreFault {
 
     fn from(error: Error) -> StoreFault {
         match error {
-            Error::SqliteFailure(ErrorCode::OutOfMemory) => StoreFault::Memory,
+            Error::SqliteFailure(
+                ErrorCode::OutOfMemory | ErrorCode::TooBig | ErrorCode::NoRowid,
+            ) => StoreFault::Memory,
             Error::SqliteFailure(
                 ErrorCode::SystemIoFailure
                 | ErrorCode::DatabaseCorrupt

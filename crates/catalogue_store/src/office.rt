@@ -54,6 +54,7 @@ pub(crate) fn insert_office<P: Places, S: Alter>(
     ensures goes { InTransaction P.version (state S.Store conn.old) → OnOk result (Goes (state S.Store conn.old) (state S.Store conn.new)) }
     ensures puts { InTransaction P.version (state S.Store conn.old) → HasCleanDisk (state S.Store conn.new) → OnOk result (PutsRow 13 (row_of_office P.version row.now) (state S.Store conn.old).now (state S.Store conn.new).now) }
     ensures disk { InTransaction P.version (state S.Store conn.old) → HasCleanDisk (state S.Store conn.new) → IfErr result (BlamesDisk (state S.Store conn.old) (state S.Store conn.new)) }
+    ensures faults { InTransaction P.version (state S.Store conn.old) → HasCleanDisk (state S.Store conn.new) → IsUnlimited (state S.Store conn.old) → (state S.Store conn.old).now.trees 13 ≡ [] → IfErr result (HasCause (state S.Store conn.old) (state S.Store conn.new)) }
     ensures cut { InTransaction P.version (state S.Store conn.old) → OnErr result (IsCut (state S.Store conn.old) (state S.Store conn.new)) }
 {
     let version = P::number();
@@ -80,6 +81,7 @@ pub(crate) fn set_next_unit<S: Alter>(conn: &mut Connection<S>, next: u64) -> Re
     requires small { next < 2 ^ 63 }
     ensures goes { OnOk result (Goes (state S.Store conn.old) (state S.Store conn.new)) }
     ensures rows { HasCleanDisk (state S.Store conn.new) → (version : Version) (o : OfficeRow) → ShowsOffice version (state S.Store conn.old).now.trees o → OnOk result (HasRows 13 (row_of_office version (record o { next_unit = next }) ∷ []) (state S.Store conn.old).now (state S.Store conn.new).now) }
+    ensures faults { HasCleanDisk (state S.Store conn.new) → IsUnlimited (state S.Store conn.old) → (version : Version) (o : OfficeRow) → ShowsOffice version (state S.Store conn.old).now.trees o → IfErr result (HasCause (state S.Store conn.old) (state S.Store conn.new)) }
     ensures cut { OnErr result (IsCut (state S.Store conn.old) (state S.Store conn.new)) }
 {
     conn.execute(
