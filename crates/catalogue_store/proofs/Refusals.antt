@@ -6,7 +6,7 @@ use Rattle.sqlite.specs.Schema.{Schema}
 use Rattle.sqlite.specs.Source.{Source}
 use Rattle.sqlite.specs.Command.TheVariants.{Insert}
 use Rattle.sqlite.specs.Tree.{Trees}
-use Rattle.sqlite.specs.Edit.{Edit, edit_of, taken_by, IsRefused}
+use Rattle.sqlite.specs.Edit.{Edit, edit_of, taken_by, IsRefused, Applies}
 use Rattle.sqlite.specs.Rowids.TheVariants.{Chosen}
 use Rattle.sqlite.specs.declared.error.Error.{Error}
 use Rattle.sqlite.specs.declared.error.Error.TheVariants.{SqliteFailure}
@@ -18,9 +18,10 @@ use Rattle.sqlite_rules.proofs.ActionLemmas.{no_works}
 use Rattle.sqlite_schema.specs.Rules.{Refers}
 use Rattle.sqlite.specs.Effect.{Database, IsSource, RefusesSource, edit_error}
 use Rattle.sqlite.specs.Does.{Does, AtPlace, OnRows, due}
-use Rattle.sqlite.specs.Rows.{Sourced, Edited}
+use Rattle.sqlite.specs.Rows.{Written, Sourced, Edited}
+use Rattle.sqlite.proofs.Callers.{one_step}
 use Rattle.sqlite.specs.declared.run.Mode.{Mode}
-use Rattle.catalogue_store.proofs.Steps.{plain}
+use Rattle.catalogue_store.proofs.Steps.{plain, went, same_value}
 
 pub data IsInsertRefusal (limit : Option ℕ) (mode : Mode) (params : Row) (schema : Schema) (table : Table) (from : Source) (db : Trees) (e : Error) : Type 0 where
   -- the values do not type, or the limit on steps is reached
@@ -29,7 +30,8 @@ pub data IsInsertRefusal (limit : Option ℕ) (mode : Mode) (params : Row) (sche
   by_rule : (rows : List Row) → IsSource (record { schema = schema; trees = db }) params from rows → (why : Refusal) → IsRefused schema mode.keys db (edit_of db table [] Chosen 0 rows) why → e ≡ edit_error why
       → IsInsertRefusal limit mode params schema table from db e
   -- a foreign key, once the row is there
-  by_key : (after : Trees) → (Refers (due mode) schema after → ⊥) → e ≡ SqliteFailure (ConstraintViolation ForeignKey) → IsInsertRefusal limit mode params schema table from db e
+  by_key : (rows : List Row) (after : Trees) → IsSource (record { schema = schema; trees = db }) params from rows → Applies schema mode.keys db (edit_of db table [] Chosen 0 rows) after → (Refers (due mode) schema after → ⊥) → e ≡ SqliteFailure (ConstraintViolation ForeignKey)
+      → IsInsertRefusal limit mode params schema table from db e
 
 same_error : {X : Type 0} {a b : Option Error} → ◌≡◌ {A = Result X (Option Error)} (Err a) (Err b) → a ≡ b
 same_error e = cc
@@ -71,6 +73,13 @@ module _ (schema : Schema) (at : ℕ) (any : Table) (is : slice_get schema.table
           by_rule rows (rw (append-nil params) at given) it.0 it.1 it.2
       go (inl (stop, inr (rows, given, inr (counter, c, inr (mid, edited, inl last))), q)) = absurd (let k = last.1 in cc)
       go (inl (stop, inr (rows, given, inr (counter, c, inr (mid, edited, inr last))), q)) = absurd (let k = last.2 in cc)
-      go (inr (w, inserted, inl (stop, tested, q))) = by_key w.trees tested.0 (let k : Some e ≡ Some (SqliteFailure (ConstraintViolation ForeignKey)) = same_error q ∙ tested.1 in cc)
+      go (inr (w, inserted, inl (stop, tested, q))) =
+          let given = went inserted in
+          let written = went (went given.2).2 in
+          let counted = went written.2 in
+          let trees : w.trees ≡ written.0 = ap (λ (it : Written). it.trees) (same_value counted.2) ∙ same_value counted.1 in
+          let edit = edit_of before.trees (plain any) [] Chosen 0 given.0 in
+          let step = one_step schema mode.keys before.trees written.0 edit (no_works schema mode.keys 0 any.tree edit.news) written.1 in
+          by_key given.0 w.trees (subst (λ p. IsSource (record { schema = schema; trees = before.trees }) p from given.0) (append-nil params) given.1) (subst (Applies schema mode.keys before.trees edit) (sym trees) step) tested.0 (let k : Some e ≡ Some (SqliteFailure (ConstraintViolation ForeignKey)) = same_error q ∙ tested.1 in cc)
       go (inr (w, inserted, inr (doubt, tested, inl shown))) = absurd (let k = shown.1 in cc)
       go (inr (w, inserted, inr (doubt, tested, inr last))) = absurd (let k = last.2 in cc)
