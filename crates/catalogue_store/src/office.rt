@@ -58,6 +58,8 @@ pub(crate) fn insert_office<P: Places, S: Alter>(
     ensures cut { InTransaction P.version (state S.Store conn.old) → OnErr result (IsCut (state S.Store conn.old) (state S.Store conn.new)) }
 {
     let version = P::number();
+    // An open connection's rows keep the rules of its tables.
+    let _ = conn.schema();
     conn.execute(
         "INSERT INTO office (one, version, country, repo, seats, daily, hands, run_size, day, next_unit) VALUES (1, ?1, ?2, ?3, ?4, ?5, ?6, ?7, ?8, ?9)",
         &[

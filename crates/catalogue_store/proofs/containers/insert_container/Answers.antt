@@ -5,6 +5,7 @@ use Rattle.catalogue_store.specs.Step.{IsCut}
 use Rattle.catalogue_store.proofs.Calls.{early, in_office, write_cut, write_went}
 use Rattle.catalogue_store.proofs.Inserts.{insert_container_text, insert_container_command, insert_container_is, insert_container_plain, insert_container_done, insert_container_rows, insert_container_touches, insert_container_fresh}
 use Rattle.catalogue_store.proofs.WriteCauses.{write_disk}
+use Rattle.catalogue_store.proofs.InsertFaults.{insert_container_cause}
 use Rattle.catalogue_store.proofs.containers.insert_container.Goals as goal
 
 pub returns-in_err-execute-clause-cut : goal.returns-in_err-execute-clause-cut
@@ -36,3 +37,12 @@ returns-in_err-execute-clause-disk g c clean =
     let new = state g.S.Store c.execute.new.self in
     let fair = write_disk insert_container_text _ old new insert_container_command refl (in_office insert_container_text insert_container_command old (c.requires.inside) insert_container_is insert_container_plain (early old new _ c.execute.ensures.survives clean)) c.in_err-execute.field-0.0 (c.in_err-execute.ensures.runs clean) in
     search (rules, fair)
+
+pub returns-in_err-execute-clause-faults : goal.returns-in_err-execute-clause-faults
+returns-in_err-execute-clause-faults g c clean free xs stored none other =
+    let old = state g.S.Store c.args.conn.now in
+    let new = state g.S.Store c.execute.new.self in
+    let ran = rw (c.number.ensures, c.words.ensures, c.words-2.ensures, c.words-3.ensures) at (c.in_err-execute.ensures.runs clean) in
+    let at = c.requires.inside (early old new _ c.execute.ensures.survives clean) in
+    let cause = insert_container_cause old new c.args.n c.args.key.now xs at.0 at.1 c.schema.ensures.live free stored none other c.in_err-execute.field-0.0 ran in
+    search (rules, cause)

@@ -5,6 +5,7 @@ use Rattle.catalogue_store.specs.Step.{IsCut}
 use Rattle.catalogue_store.proofs.Calls.{early, in_office, write_cut, write_went}
 use Rattle.catalogue_store.proofs.Inserts.{insert_housing_text, insert_housing_command, insert_housing_is, insert_housing_plain, insert_housing_done, insert_housing_rows, insert_housing_touches, insert_housing_fresh}
 use Rattle.catalogue_store.proofs.WriteCauses.{write_disk}
+use Rattle.catalogue_store.proofs.InsertFaults.{insert_housing_cause}
 use Rattle.catalogue_store.proofs.containers.insert_housing.Goals as goal
 
 pub returns-in_err-execute-clause-cut : goal.returns-in_err-execute-clause-cut
@@ -36,3 +37,12 @@ returns-in_err-execute-clause-disk g c clean =
     let new = state g.S.Store c.execute.new.self in
     let fair = write_disk insert_housing_text _ old new insert_housing_command refl (in_office insert_housing_text insert_housing_command old (c.requires.inside) insert_housing_is insert_housing_plain (early old new _ c.execute.ensures.survives clean)) c.in_err-execute.field-0.0 (c.in_err-execute.ensures.runs clean) in
     search (rules, fair)
+
+pub returns-in_err-execute-clause-faults : goal.returns-in_err-execute-clause-faults
+returns-in_err-execute-clause-faults g c clean free us units known xs stored rise none other =
+    let old = state g.S.Store c.args.conn.now in
+    let new = state g.S.Store c.execute.new.self in
+    let ran = rw (c.number.ensures, c.number-2.ensures, c.number-3.ensures) at (c.in_err-execute.ensures.runs clean) in
+    let at = c.requires.inside (early old new _ c.execute.ensures.survives clean) in
+    let cause = insert_housing_cause old new c.args.unit c.args.ord c.args.container us xs at.0 at.1 c.schema.ensures.live free units known stored rise none other c.in_err-execute.field-0.0 ran in
+    search (rules, cause)

@@ -5,6 +5,7 @@ use Rattle.catalogue_store.specs.Step.{IsCut}
 use Rattle.catalogue_store.proofs.Calls.{early, office_of, in_office, write_cut, write_went}
 use Rattle.catalogue_store.proofs.Inserts.{insert_office_text, insert_office_command, insert_office_is, insert_office_plain, insert_office_done, insert_office_rows, insert_office_touches, insert_office_fresh}
 use Rattle.catalogue_store.proofs.WriteCauses.{write_disk}
+use Rattle.catalogue_store.proofs.InsertFaults.{insert_office_cause}
 use Rattle.catalogue_store.proofs.office.insert_office.Goals as goal
 
 pub returns-in_err-execute-clause-cut : goal.returns-in_err-execute-clause-cut
@@ -36,3 +37,12 @@ returns-in_err-execute-clause-disk g c inside clean =
     let new = state g.S.Store c.execute.new.self in
     let fair = write_disk insert_office_text _ old new insert_office_command refl (in_office insert_office_text insert_office_command old ((office_of g.P.Places.version old inside)) insert_office_is insert_office_plain (early old new _ c.execute.ensures.survives clean)) c.in_err-execute.field-0.0 (c.in_err-execute.ensures.runs clean) in
     search (rules, fair)
+
+pub returns-in_err-execute-clause-faults : goal.returns-in_err-execute-clause-faults
+returns-in_err-execute-clause-faults g c inside clean free none =
+    let old = state g.S.Store c.args.conn.now in
+    let new = state g.S.Store c.execute.new.self in
+    let ran = rw (c.number.ensures, c.number-version.ensures, c.words.ensures, c.words-2.ensures, c.number-2.ensures, c.from.ensures, c.number-3.ensures, c.from-2.ensures, c.number-4.ensures, c.from-3.ensures, c.number-5.ensures, c.from-4.ensures, c.day.ensures, c.number-6.ensures) at (c.in_err-execute.ensures.runs clean) in
+    let at = office_of g.P.Places.version old inside (early old new _ c.execute.ensures.survives clean) in
+    let cause = insert_office_cause old new g.P.Places.version c.args.row.now at.0 at.1 c.schema.ensures.live free none c.in_err-execute.field-0.0 ran in
+    search (rules, cause)

@@ -6,6 +6,7 @@ use Rattle.catalogue_store.specs.Added.{unit_of}
 use Rattle.catalogue_store.proofs.Calls.{early, in_office, write_cut, write_went}
 use Rattle.catalogue_store.proofs.Inserts.{insert_unit_text, insert_unit_command, insert_unit_is, insert_unit_plain, insert_unit_done, insert_unit_rows, insert_unit_touches, insert_unit_fresh}
 use Rattle.catalogue_store.proofs.WriteCauses.{write_disk}
+use Rattle.catalogue_store.proofs.InsertFaults.{insert_unit_cause}
 use Rattle.catalogue_store.proofs.units.insert_unit.Goals as goal
 
 pub returns-in_err-execute-clause-cut : goal.returns-in_err-execute-clause-cut
@@ -37,3 +38,12 @@ returns-in_err-execute-clause-disk g c clean =
     let new = state g.S.Store c.execute.new.self in
     let fair = write_disk insert_unit_text _ old new insert_unit_command refl (in_office insert_unit_text insert_unit_command old (c.requires.inside) insert_unit_is insert_unit_plain (early old new _ c.execute.ensures.survives clean)) c.in_err-execute.field-0.0 (c.in_err-execute.ensures.runs clean) in
     search (rules, fair)
+
+pub returns-in_err-execute-clause-faults : goal.returns-in_err-execute-clause-faults
+returns-in_err-execute-clause-faults g c clean free xs stored none other =
+    let old = state g.S.Store c.args.conn.now in
+    let new = state g.S.Store c.execute.new.self in
+    let ran = rw (c.number.ensures, c.words.ensures, c.words-2.ensures, c.words-3.ensures, c.truth.ensures) at (c.in_err-execute.ensures.runs clean) in
+    let at = c.requires.inside (early old new _ c.execute.ensures.survives clean) in
+    let cause = insert_unit_cause old new (unit_of c.args.unit.now) xs at.0 at.1 c.schema.ensures.live free refl stored none other c.in_err-execute.field-0.0 ran in
+    search (rules, cause)
