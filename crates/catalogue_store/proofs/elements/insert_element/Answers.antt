@@ -39,10 +39,10 @@ returns-in_err-execute-clause-disk g c clean =
     search (rules, fair)
 
 pub returns-in_err-execute-clause-faults : goal.returns-in_err-execute-clause-faults
-returns-in_err-execute-clause-faults g c clean free us units known xs at_rows none =
+returns-in_err-execute-clause-faults g c clean free us units known xs rows none =
     let old = state g.S.Store c.args.conn.now in
     let new = state g.S.Store c.execute.new.self in
     let ran = rw (c.number.ensures, c.number-2.ensures, c.words.ensures) at (c.in_err-execute.ensures.runs clean) in
     let at = c.requires.inside (early old new _ c.execute.ensures.survives clean) in
-    let cause = insert_element_cause old new c.args.unit c.args.k c.args.value.now us xs at.0 at.1 c.schema.ensures.live free units known at_rows none c.in_err-execute.field-0.0 ran in
+    let cause = insert_element_cause old new c.args.unit c.args.k c.args.value.now us xs at.0 at.1 c.schema.ensures.live free units known rows none c.in_err-execute.field-0.0 ran in
     search (rules, cause)
