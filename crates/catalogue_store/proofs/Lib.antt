@@ -66,3 +66,4 @@ pub mod Attachments
 pub mod OpenLemmas
 pub mod UpdateCauses
 pub mod ChangeCauses
+pub mod LinkUpdates
