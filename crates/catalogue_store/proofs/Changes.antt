@@ -53,7 +53,7 @@ link_alone : is_referred_to (schema Links) 24 ≡ false
 unfolding joined same_name
 link_alone = refl
 
-updates_freely : (v : Version) → all_free (schema v) ≡ true
+pub updates_freely : (v : Version) → all_free (schema v) ≡ true
 updates_freely Links = refl
 updates_freely Spans = refl
 
@@ -152,10 +152,10 @@ unfolding understood everything
 set_level_plain Links = (refl, refl)
 set_level_plain Spans = (refl, refl)
 
-abbrev set_level_source : (id : ℕ) → (values : Description) → Unit → Row
+abbrev pub set_level_source : (id : ℕ) → (values : Description) → Unit → Row
 set_level_source id values x = Int (pos x.id) ∷ Int (pos x.id) ∷ Null ∷ Text x.source ∷ Text x.legacy ∷ Text values.level ∷ Int (flag x.draft) ∷ or_null Int x.until ∷ []
 
-set_level_casts : (id : ℕ) → (values : Description) → (x : Unit) → cast_row unit (drop 1 (set_level_source id values x)) ≡ unit_row (record x { values = values })
+pub set_level_casts : (id : ℕ) → (values : Description) → (x : Unit) → cast_row unit (drop 1 (set_level_source id values x)) ≡ unit_row (record x { values = values })
 set_level_casts id values x = rw (cast_int (pos x.id), cast_null, cast_int (flag x.draft), cast_maybe x.until) refl
 
 module _ (old new : State) (id : ℕ) (values : Description) (count : ℕ) (v : Version) (has : old.now.schema ≡ schema v) (h : Executes set_level_text (Int (pos id) ∷ Text values.level ∷ []) old new (Ok count)) where
@@ -197,10 +197,10 @@ unfolding understood everything
 set_draft_plain Links = (refl, refl)
 set_draft_plain Spans = (refl, refl)
 
-abbrev set_draft_source : (id : ℕ) → (draft : Bool) → Unit → Row
+abbrev pub set_draft_source : (id : ℕ) → (draft : Bool) → Unit → Row
 set_draft_source id draft x = Int (pos x.id) ∷ Int (pos x.id) ∷ Null ∷ Text x.source ∷ Text x.legacy ∷ Text x.values.level ∷ Int (flag draft) ∷ or_null Int x.until ∷ []
 
-set_draft_casts : (id : ℕ) → (draft : Bool) → (x : Unit) → cast_row unit (drop 1 (set_draft_source id draft x)) ≡ unit_row (record x { draft = draft })
+pub set_draft_casts : (id : ℕ) → (draft : Bool) → (x : Unit) → cast_row unit (drop 1 (set_draft_source id draft x)) ≡ unit_row (record x { draft = draft })
 set_draft_casts id draft x = rw (cast_int (pos x.id), cast_null, cast_int (flag draft), cast_maybe x.until) refl
 
 module _ (old new : State) (id : ℕ) (draft : Bool) (count : ℕ) (v : Version) (has : old.now.schema ≡ schema v) (h : Executes set_draft_text (Int (pos id) ∷ Int (flag draft) ∷ []) old new (Ok count)) where
@@ -242,10 +242,10 @@ unfolding understood everything
 set_until_plain Links = (refl, refl)
 set_until_plain Spans = (refl, refl)
 
-abbrev set_until_source : (id : ℕ) → (until : Option ℤ) → Unit → Row
+abbrev pub set_until_source : (id : ℕ) → (until : Option ℤ) → Unit → Row
 set_until_source id until x = Int (pos x.id) ∷ Int (pos x.id) ∷ Null ∷ Text x.source ∷ Text x.legacy ∷ Text x.values.level ∷ Int (flag x.draft) ∷ or_null Int until ∷ []
 
-set_until_casts : (id : ℕ) → (until : Option ℤ) → (x : Unit) → cast_row unit (drop 1 (set_until_source id until x)) ≡ unit_row (record x { until = until })
+pub set_until_casts : (id : ℕ) → (until : Option ℤ) → (x : Unit) → cast_row unit (drop 1 (set_until_source id until x)) ≡ unit_row (record x { until = until })
 set_until_casts id until x = rw (cast_int (pos x.id), cast_null, cast_int (flag x.draft), cast_maybe until) refl
 
 module _ (old new : State) (id : ℕ) (until : Option ℤ) (count : ℕ) (v : Version) (has : old.now.schema ≡ schema v) (h : Executes set_until_text (Int (pos id) ∷ or_null Int until ∷ []) old new (Ok count)) where

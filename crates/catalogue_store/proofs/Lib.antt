@@ -66,3 +66,6 @@ pub mod Attachments
 pub mod OpenLemmas
 pub mod InsertCauses
 pub mod InsertFaults
+pub mod UpdateCauses
+pub mod ChangeCauses
+pub mod LinkUpdates

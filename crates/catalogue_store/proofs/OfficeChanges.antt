@@ -51,10 +51,10 @@ unfolding understood everything
 set_next_plain Links = (refl, refl)
 set_next_plain Spans = (refl, refl)
 
-abbrev set_next_source : (next : ℕ) → Version × OfficeRow → Row
+abbrev pub set_next_source : (next : ℕ) → Version × OfficeRow → Row
 set_next_source next x = Int (pos 1) ∷ office_row x.0 (record x.1 { next_unit = next })
 
-set_next_casts : (next : ℕ) → (x : Version × OfficeRow) → cast_row office (drop 1 (set_next_source next x)) ≡ office_row x.0 (record x.1 { next_unit = next })
+pub set_next_casts : (next : ℕ) → (x : Version × OfficeRow) → cast_row office (drop 1 (set_next_source next x)) ≡ office_row x.0 (record x.1 { next_unit = next })
 set_next_casts next x =
     rw (cast_int (pos 1), cast_null, cast_int (pos (version_number x.0)), cast_int (pos x.1.seats), cast_int (pos x.1.daily), cast_int (pos x.1.hands), cast_int (pos x.1.run_size), cast_int x.1.day, cast_int (pos next)) refl
 

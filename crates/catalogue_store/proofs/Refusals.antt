@@ -33,21 +33,19 @@ pub data IsInsertRefusal (limit : Option ℕ) (mode : Mode) (params : Row) (sche
   by_key : (rows : List Row) (after : Trees) → IsSource (record { schema = schema; trees = db }) params from rows → Applies schema mode.keys db (edit_of db table [] Chosen 0 rows) after → (Refers (due mode) schema after → ⊥) → e ≡ SqliteFailure (ConstraintViolation ForeignKey)
       → IsInsertRefusal limit mode params schema table from db e
 
-same_error : {X : Type 0} {a b : Option Error} → ◌≡◌ {A = Result X (Option Error)} (Err a) (Err b) → a ≡ b
+pub same_error : {X : Type 0} {a b : Option Error} → ◌≡◌ {A = Result X (Option Error)} (Err a) (Err b) → a ≡ b
 same_error e = cc
 
-edit_refused : (schema : Schema) (mode : Mode) (db : Trees) (edit : Edit) (e : Error) → edit.gone ≡ [] → (stop : Option Error) → Edited schema mode.keys db edit (Err stop) → stop ≡ Some e
-    → (why : Refusal) × IsRefused schema mode.keys db edit why × (e ≡ edit_error why)
-edit_refused schema mode db edit e none stop (w, inl refused, is) f =
+-- an edit that sets off no action is refused by a rule alone
+pub edit_refused : (schema : Schema) (mode : Mode) (db : Trees) (edit : Edit) (e : Error) → works schema mode.keys 0 edit.table.tree (taken_by db edit) edit.news ≡ [] → (stop : Option Error)
+    → Edited schema mode.keys db edit (Err stop) → stop ≡ Some e → (why : Refusal) × IsRefused schema mode.keys db edit why × (e ≡ edit_error why)
+edit_refused schema mode db edit e idle stop (w, inl refused, is) f =
     let same : w ≡ Some refused.0 = cc in
     let it : Some e ≡ Some (edit_error refused.0) = sym f ∙ is ∙ rw same refl in
     (refused.0, refused.1, cc)
-edit_refused schema mode db edit e none stop (w, inr (inl big), is) f = absurd (let same : w ≡ None = cc in let it : Some e ≡ None = sym f ∙ is ∙ rw same refl in cc)
-edit_refused schema mode db edit e none stop (w, inr (inr went), is) f = absurd (settled went.2.0 (rw nothing at went.2.1))
+edit_refused schema mode db edit e idle stop (w, inr (inl big), is) f = absurd (let same : w ≡ None = cc in let it : Some e ≡ None = sym f ∙ is ∙ rw same refl in cc)
+edit_refused schema mode db edit e idle stop (w, inr (inr went), is) f = absurd (settled went.2.0 (rw idle at went.2.1))
   where
-    nothing : works schema mode.keys 0 edit.table.tree (taken_by db edit) edit.news ≡ []
-    nothing = rw none (no_works schema mode.keys 0 edit.table.tree edit.news)
-
     settled : (n : ℕ) → Leads schema mode.keys n went.0 [] (Err w) → ⊥
     settled zero h = let k = h.1 in cc
     settled (suc n) h = absurd (omega (arith, ap length h.2, length-append h.0 (h.1 ∷ [])))
@@ -69,7 +67,7 @@ module _ (schema : Schema) (at : ℕ) (any : Table) (is : slice_get schema.table
       go (inl (stop, inl (s, refused, p), q)) = sourced s refused (sym (same_error p) ∙ sym (same_error q))
       go (inl (stop, inr (rows, given, inl counted), q)) = absurd (let k = counted.1 in cc)
       go (inl (stop, inr (rows, given, inr (counter, c, inl (s, edited, p))), q)) =
-          let it = edit_refused schema mode before.trees (edit_of before.trees (plain any) [] Chosen 0 rows) e refl s edited (sym (same_error p) ∙ sym (same_error q)) in
+          let it = edit_refused schema mode before.trees (edit_of before.trees (plain any) [] Chosen 0 rows) e (no_works schema mode.keys 0 (plain any).tree _) s edited (sym (same_error p) ∙ sym (same_error q)) in
           by_rule rows (rw (append-nil params) at given) it.0 it.1 it.2
       go (inl (stop, inr (rows, given, inr (counter, c, inr (mid, edited, inl last))), q)) = absurd (let k = last.1 in cc)
       go (inl (stop, inr (rows, given, inr (counter, c, inr (mid, edited, inr last))), q)) = absurd (let k = last.2 in cc)

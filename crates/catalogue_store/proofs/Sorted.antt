@@ -28,7 +28,7 @@ module _ {X : Type 0} (cmp : X → X → Ordering) (total : IsTotalOrder cmp) wh
     | Greater ↦ λ _. once v xs up.1
   ] refl
 
-  none_from : (p : X → Bool) (ys : List X) → length (filter p ys) ≡ 0 → AllByRecursion (λ z. p z ≡ false) ys
+  pub none_from : (p : X → Bool) (ys : List X) → length (filter p ys) ≡ 0 → AllByRecursion (λ z. p z ≡ false) ys
   none_from p [] h = tt
   none_from p (y ∷ ys) h = elim (p y) as (λ b. length (cond b (y ∷ filter p ys) (filter p ys)) ≡ 0 → (b ≡ false) × AllByRecursion (λ z. p z ≡ false) ys) [
     | true ↦ λ e. absurd (omega (arith, e))
@@ -40,13 +40,13 @@ module _ {X : Type 0} (cmp : X → X → Ordering) (total : IsTotalOrder cmp) wh
   less_from Equal h k = absurd (cc)
   less_from Greater h k = absurd (cc)
 
-  fewer : (v y : X) (ys : List X) → length (filter (λ z. is_eq (cmp v z)) (y ∷ ys)) ≤ 1 → length (filter (λ z. is_eq (cmp v z)) ys) ≤ 1
+  pub fewer : (v y : X) (ys : List X) → length (filter (λ z. is_eq (cmp v z)) (y ∷ ys)) ≤ 1 → length (filter (λ z. is_eq (cmp v z)) ys) ≤ 1
   fewer v y ys = elim (is_eq (cmp v y)) as (λ b. length (cond b (y ∷ filter (λ z. is_eq (cmp v z)) ys) (filter (λ z. is_eq (cmp v z)) ys)) ≤ 1 → length (filter (λ z. is_eq (cmp v z)) ys) ≤ 1) [
     | true ↦ λ h. omega (arith, h)
     | false ↦ λ h. h
   ]
 
-  none_like : (y : X) (ys : List X) → length (filter (λ z. is_eq (cmp y z)) (y ∷ ys)) ≤ 1 → length (filter (λ z. is_eq (cmp y z)) ys) ≡ 0
+  pub none_like : (y : X) (ys : List X) → length (filter (λ z. is_eq (cmp y z)) (y ∷ ys)) ≤ 1 → length (filter (λ z. is_eq (cmp y z)) ys) ≡ 0
   none_like y ys h = let k = rw (tied_itself total y) at h in omega (arith, k)
 
   rises : (ys : List X) → IsSorted cmp ys → ((v : X) → length (filter (λ z. is_eq (cmp v z)) ys) ≤ 1) → Rises cmp ys

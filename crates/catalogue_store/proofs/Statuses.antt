@@ -1,5 +1,5 @@
 -- What the tables show after units are changed in their places.
-use Rattle.std.proofs.Common.{◌≡◌, ℕ, pos, List, [], ◌∷◌, ◌++◌, map, Bool, true, false, if◌then◌else◌, cond, ◌||◌, nat_eq, refl, sym, ap, ap₂, subst, ◌∙◌}
+use Rattle.std.proofs.Common.{◌≡◌, ℕ, ◌<◌, ◌^◌, pos, List, [], ◌∷◌, ◌++◌, map, Bool, true, false, if◌then◌else◌, cond, ◌||◌, nat_eq, refl, sym, ap, ap₂, subst, ◌∙◌}
 use Rattle.std.specs.Ordering.{int_cmp}
 use Rattle.std.specs.declared.cmp.Ordering.TheVariants.{Less}
 use Rattle.std.specs.List.{AllByRecursion, list_any}
@@ -8,13 +8,14 @@ use Rattle.std.proofs.lemmas.List.Sorted.{IsPermutation-map}
 use Rattle.std.proofs.lemmas.List.{map-append}
 use Rattle.sqlite.specs.Effect.{Database}
 use Rattle.sqlite.specs.Tree.{Trees}
-use Rattle.sqlite_trees.proofs.ListLemmas.{ascending-map, ascending_weaker}
-use Rattle.tree_core.specs.Forest.{Forest, Empty, Node, nodes, each, has}
+use Rattle.sqlite_trees.proofs.ListLemmas.{all-append, ascending-map, ascending_weaker}
+use Rattle.tree_core.specs.Forest.{Forest, Empty, Node, nodes, each, has, tree, branch}
+use Rattle.catalogue_store.specs.Bounds.{IsBounded}
 use Rattle.catalogue_store.specs.Schema.{Version}
 use Rattle.catalogue_store.specs.Units.{Unit, has_id}
 use Rattle.catalogue_store.specs.Merging.{Catalogue}
 use Rattle.catalogue_store.specs.Order.{Rises}
-use Rattle.catalogue_store.specs.Statuses.{with_status, is_chosen}
+use Rattle.catalogue_store.specs.Statuses.{with_status, is_chosen, chosen_units}
 use Rattle.catalogue_store.specs.Rows.{unit_row, by_number, ElementRow, HousingRow}
 use Rattle.catalogue_store.specs.Shows.{Shows, element_cells, elements_of, housing_cells, housings_of}
 use Rattle.catalogue_store.specs.Step.{HasRows}
@@ -143,3 +144,22 @@ pub draft_step : (v : Version) (shows : Trees → Forest ℕ → Type 0) → ((o
 draft_step v shows same old new o c draft ids id it schema_is wrote =
     subst (λ f. Shows shows v new o (record c { forest = f })) (drafts_more draft ids id c)
     (shows_changed (λ u. drafted draft (has_id id u) u) (one_drafted draft id) (λ u. kept_by (λ (u : Unit). u.values) (has_id id u) (record u { draft = draft }) u refl) v shows same old new o (with_status ids draft c) it schema_is wrote)
+
+halves : {A : Type 0} (P : A → Type 0) (xs ys : List A) → AllByRecursion P (xs ++ ys) → AllByRecursion P xs × AllByRecursion P ys
+halves P [] ys h = (tt, h)
+halves P (x ∷ xs) ys h = let rest = halves P xs ys h.1 in ((h.0, rest.0), rest.1)
+
+-- what holds of each node holds of those of a branch
+pub all_branch : {A : Type 0} (P : A → Type 0) (is : A → Bool) (f : Forest A) → AllByRecursion P (nodes f) → AllByRecursion P (branch is f)
+all_branch P is Empty h = tt
+all_branch P is (Node a children others) h =
+    let parts = halves P (nodes children) (nodes others) h.1 in
+    elim (is a) as (λ b. AllByRecursion P (nodes (if b then Node a children Empty else if has is children then tree is children else tree is others))) [
+      | true ↦ (h.0, all-append P (nodes children) [] parts.0 tt)
+      | false ↦ elim (has is children) as (λ b. AllByRecursion P (nodes (if b then tree is children else tree is others))) [ true ↦ all_branch P is children parts.0 | false ↦ all_branch P is others parts.1 ]
+    ]
+
+-- the units that are chosen have numbers that SQL has
+pub low_chosen : (whole : Bool) (unit : ℕ) (f : Forest ℕ) → unit < 2 ^ 63 → IsBounded f → AllByRecursion (λ id. id < 2 ^ 63) (chosen_units whole unit f)
+low_chosen true unit f low bounded = all_branch (λ id. id < 2 ^ 63) (nat_eq unit) f bounded.low
+low_chosen false unit f low bounded = (low, tt)

@@ -45,7 +45,7 @@ module _ {A : Type 0} (table : Table) (row : A → Row) (key : A → ℤ) (keyed
         ap (map (λ s. cast_row table (drop 1 s))) shown ∙ map-map (λ s. cast_row table (drop 1 s)) source ys
         ∙ map_same (λ x. cast_row table (drop 1 (source x))) (λ x. row (change x)) ys (all_from (λ x. cast_row table (drop 1 (source x)) ≡ row (change x)) ys casts)
 
-    put_are : numbered Given (without_all (db table.tree) (ids_of rows)) (map (λ s. cast_row table (drop 1 s)) rows) ≡ map (λ x. row (change x)) ys
+    pub put_are : numbered Given (without_all (db table.tree) (ids_of rows)) (map (λ s. cast_row table (drop 1 s)) rows) ≡ map (λ x. row (change x)) ys
     put_are = given_as _ _ ∙ news_are
 
     pub changes_rows : are_fresh (left_by db (edit_of db table (ids_of rows) Given 1 rows)) (numbered Given (without_all (db table.tree) (ids_of rows)) (map (λ s. cast_row table (drop 1 s)) rows)) ≡ true

@@ -86,6 +86,8 @@ pub(crate) fn set_next_unit<S: Alter>(conn: &mut Connection<S>, next: u64) -> Re
     ensures faults { HasCleanDisk (state S.Store conn.new) → IsUnlimited (state S.Store conn.old) → (version : Version) (o : OfficeRow) → ShowsOffice version (state S.Store conn.old).now.trees o → IfErr result (HasCause (state S.Store conn.old) (state S.Store conn.new)) }
     ensures cut { OnErr result (IsCut (state S.Store conn.old) (state S.Store conn.new)) }
 {
+    // An open connection's rows keep the rules of its tables.
+    let _ = conn.schema();
     conn.execute(
         "UPDATE office SET next_unit = ?1 WHERE one = 1",
         &[number(next)],

@@ -6,6 +6,7 @@ use Rattle.catalogue_store.specs.Shows.{Shows}
 use Rattle.catalogue_store.specs.Statuses.{with_status}
 use Rattle.catalogue_store.specs.Step.{IsCut}
 use Rattle.catalogue_store.proofs.Calls.{early, goes_nowhere, goes_then, cut_then, office_of}
+use Rattle.catalogue_store.proofs.Causes.{cause_then, still_unlimited}
 use Rattle.catalogue_store.proofs.Statuses.{draft_step, status_of_none}
 use Rattle.catalogue_store.proofs.Touching.{nothing_touched, touched_again}
 use Rattle.catalogue_store.proofs.WriteCauses.{disk_then}
@@ -63,3 +64,15 @@ returns-in_err-set_draft-clause-disk g c clean =
     let d = state g.S.Store c.set_draft.new.conn in
     let fair = disk_then a b d c.loop-unit.invariant.1.0.on (early b d _ c.in_err-set_draft.ensures.cut.crash clean) _ (c.in_err-set_draft.ensures.disk clean) in
     search (rules, fair)
+
+pub returns-in_err-set_draft-clause-faults : goal.returns-in_err-set_draft-clause-faults
+returns-in_err-set_draft-clause-faults g c clean free o k it low =
+    let a = state g.S.Store c.args.conn.now in
+    let b = state g.S.Store c.loop-unit.conn in
+    let d = state g.S.Store c.set_draft.new.conn in
+    let invariant = c.loop-unit.invariant in
+    let before = early b d _ c.in_err-set_draft.ensures.cut.crash clean in
+    let at = (invariant.1.1 before o k it).0.catalogue.units in
+    let why = c.in_err-set_draft.ensures.faults clean (still_unlimited a b invariant.1.0.on free) at.units at.rows at.rise in
+    let whole = cause_then a b d invariant.1.0.on before _ why in
+    search (rules, whole)

@@ -1,4 +1,5 @@
-use Rattle.std.proofs.Common.{◌≡◌, ℕ, List, [], ◌∷◌, sym, subst, ◌∙◌}
+use Rattle.std.proofs.Common.{rules, ◌≡◌, ℕ, ◌<◌, ◌^◌, List, [], ◌∷◌, sym, subst, ◌∙◌}
+use Rattle.std.specs.List.{AllByRecursion}
 use Rattle.sqlite.specs.Effect.{Database}
 use Rattle.sqlite.specs.Held.{state}
 use Rattle.tree_core.specs.Forest.{each}
@@ -7,6 +8,8 @@ use Rattle.catalogue_store.specs.Shows.{Shows}
 use Rattle.catalogue_store.specs.Statuses.{with_status}
 use Rattle.catalogue_store.specs.Step.{OnlyTouches}
 use Rattle.catalogue_store.proofs.Calls.{early}
+use Rattle.catalogue_store.proofs.Causes.{cause_then, still_unlimited}
+use Rattle.catalogue_store.proofs.Statuses.{low_chosen}
 use Rattle.catalogue_store.proofs.closing.set_status.Goals as goal
 
 pub returns-clause-shows : goal.returns-clause-shows
@@ -30,3 +33,18 @@ returns-clause-only g c clean o k it =
     let same : b.now ≡ a.now = c.in_ok-units.ensures.looks.same before in
     subst (λ (db : Database). OnlyTouches (14 ∷ []) db d.now) same
     (c.in_ok-set_drafts.ensures.only clean o k (subst (λ (db : Database). Shows g.P.Places.shows g.P.Places.version db o k) (sym same) it))
+
+pub returns-in_err-set_drafts-clause-faults : goal.returns-in_err-set_drafts-clause-faults
+returns-in_err-set_drafts-clause-faults g c clean free o k it kept =
+    let a = state g.S.Store c.args.conn.now in
+    let b = state g.S.Store c.units_under.new.conn in
+    let d = state g.S.Store c.set_drafts.new.conn in
+    let looks = c.in_ok-units.ensures.looks in
+    let before = early b d _ c.in_err-set_drafts.ensures.cut.crash clean in
+    let f = each (λ (u : Unit). u.id) k.forest in
+    let ids = c.deref.ensures.value ∙ c.in_ok-units.ensures.answers before f it.shown in
+    let low = subst (AllByRecursion (λ id. id < 2 ^ 63)) (sym ids) (low_chosen c.args.whole c.args.unit f c.requires.small kept.places) in
+    let shown = subst (λ (db : Database). Shows g.P.Places.shows g.P.Places.version db o k) (sym (looks.same before)) it in
+    let why = c.in_err-set_drafts.ensures.faults clean (still_unlimited a b looks.goes.on free) o k shown low in
+    let whole = cause_then a b d looks.goes.on before _ why in
+    search (rules, whole)

@@ -3,6 +3,7 @@ use Rattle.sqlite.specs.Held.{state}
 use Rattle.sqlite.specs.State.{HasCleanDisk}
 use Rattle.catalogue_store.specs.Step.{IsCut}
 use Rattle.catalogue_store.proofs.Calls.{early, in_office, write_cut, write_went}
+use Rattle.catalogue_store.proofs.ChangeCauses.{set_next_cause}
 use Rattle.catalogue_store.proofs.OfficeChanges.{set_next_text, set_next_command, set_next_is, set_next_plain, set_next_done, set_next_rows, set_next_touches}
 use Rattle.catalogue_store.proofs.office.set_next_unit.Goals as goal
 
@@ -28,3 +29,11 @@ returns-clause-rows g c clean version o stored =
     let ran = λ (clean : HasCleanDisk new). rw (c.number.ensures) at (c.in_ok-execute.ensures.runs clean) in
     let at = λ (clean : HasCleanDisk new). c.requires.inside (early old new _ c.execute.ensures.survives clean) in
     record { are = set_next_rows old new c.args.next c.in_ok-execute.field-0 (at clean).0 (at clean).1 (ran clean) version o stored; only = set_next_touches old new c.args.next c.in_ok-execute.field-0 (at clean).0 (at clean).1 (ran clean) }
+
+pub returns-in_err-execute-clause-faults : goal.returns-in_err-execute-clause-faults
+returns-in_err-execute-clause-faults g c clean free version o stored =
+    let old = state g.S.Store c.args.conn.now in
+    let new = state g.S.Store c.execute.new.self in
+    let at = c.requires.inside (early old new _ c.execute.ensures.survives clean) in
+    let why = set_next_cause old new c.args.next at.0 at.1 free c.schema.ensures.live version o stored c.in_err-execute.field-0.0 (rw (c.number.ensures) at (c.in_err-execute.ensures.runs clean)) in
+    search (rules, why)

@@ -3,6 +3,7 @@ use Rattle.sqlite.specs.Held.{state}
 use Rattle.sqlite.specs.State.{HasCleanDisk}
 use Rattle.catalogue_store.specs.Step.{IsCut}
 use Rattle.catalogue_store.proofs.Calls.{early, in_office, write_cut, write_went}
+use Rattle.catalogue_store.proofs.ChangeCauses.{set_level_cause}
 use Rattle.catalogue_store.proofs.Changes.{set_level_text, set_level_command, set_level_is, set_level_plain, set_level_done, set_level_rows, set_level_touches}
 use Rattle.catalogue_store.proofs.WriteCauses.{write_disk}
 use Rattle.catalogue_store.proofs.units.set_level.Goals as goal
@@ -36,3 +37,11 @@ returns-in_err-execute-clause-disk g c clean =
     let new = state g.S.Store c.execute.new.self in
     let fair = write_disk set_level_text _ old new set_level_command refl (in_office set_level_text set_level_command old (c.requires.inside) set_level_is set_level_plain (early old new _ c.execute.ensures.survives clean)) c.in_err-execute.field-0.0 (c.in_err-execute.ensures.runs clean) in
     search (rules, fair)
+
+pub returns-in_err-execute-clause-faults : goal.returns-in_err-execute-clause-faults
+returns-in_err-execute-clause-faults g c clean free xs stored up =
+    let old = state g.S.Store c.args.conn.now in
+    let new = state g.S.Store c.execute.new.self in
+    let at = c.requires.inside (early old new _ c.execute.ensures.survives clean) in
+    let why = set_level_cause old new c.args.id c.args.values.now at.0 at.1 free c.schema.ensures.live xs stored up c.in_err-execute.field-0.0 (rw (c.number.ensures, c.words.ensures) at (c.in_err-execute.ensures.runs clean)) in
+    search (rules, why)
