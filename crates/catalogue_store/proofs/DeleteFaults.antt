@@ -41,7 +41,7 @@ unfolding understood everything
 clear_elements_whole Links = (le_refl _, refl, refl)
 clear_elements_whole Spans = (le_refl _, refl, refl)
 
-element_fits : (v : Version) → references_fit (schema v) element false true ≡ true
+pub element_fits : (v : Version) → references_fit (schema v) element false true ≡ true
 unfolding joined same_name
 element_fits Links = refl
 element_fits Spans = refl
@@ -62,7 +62,7 @@ unfolding understood everything
 clear_housings_whole Links = (le_refl _, refl, refl)
 clear_housings_whole Spans = (le_refl _, refl, refl)
 
-housing_fits : (v : Version) → references_fit (schema v) housing false true ≡ true
+pub housing_fits : (v : Version) → references_fit (schema v) housing false true ≡ true
 unfolding joined same_name
 housing_fits Links = refl
 housing_fits Spans = refl

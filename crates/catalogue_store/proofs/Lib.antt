@@ -66,3 +66,4 @@ pub mod Attachments
 pub mod OpenLemmas
 pub mod DeleteCauses
 pub mod DeleteFaults
+pub mod UnitFaults
