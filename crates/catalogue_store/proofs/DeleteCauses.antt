@@ -1,38 +1,34 @@
 -- Why a DELETE fails: no rule of the tables refuses it, nor what it sets off.
-use Rattle.std.proofs.Common.{◌≡◌, ◌≢◌, inl, inr, ℕ, ℤ, zero, suc, List, [], ◌∷◌, ◌++◌, length, slice_get, nat_eq, nat_lt, Bool, true, false, ◌||◌, ◌&&◌, ◌==◌, Option, Some, None, Ok, Err, Result, refl, sym, ap, subst, subst₂, ◌∙◌, eqb-true, eq-eqb, append-nil}
+use Rattle.std.proofs.Common.{◌≡◌, ◌≢◌, inl, inr, ℕ, ℤ, zero, suc, List, [], ◌∷◌, ◌++◌, length, slice_get, nat_lt, Bool, true, false, ◌||◌, ◌==◌, Option, Some, None, Ok, Err, Result, refl, sym, ap, subst, ◌∙◌, eqb-true, eq-eqb, append-nil}
 use Rattle.std.proofs.lemmas.Bool.{and_parts, and_from, or_right, not-true, not_from_false, both_ways, cases_eq, cases_Bool, false_from_ne_true}
-use Rattle.std.specs.List.{AllByRecursion, list_any, list_all}
+use Rattle.std.specs.List.{AllByRecursion, list_any}
 use Rattle.sqlite.specs.Order.{Row}
 use Rattle.sqlite.specs.Table.{Table}
 use Rattle.sqlite.specs.Schema.{Schema}
 use Rattle.sqlite.specs.Tree.{Trees}
-use Rattle.sqlite.specs.Command.{Command}
 use Rattle.sqlite.specs.Command.TheVariants.{Delete}
-use Rattle.sqlite.specs.Edit.{Applies, edit_of, taken_by, without_all, is_referred, IsRefused}
+use Rattle.sqlite.specs.Edit.{Applies, edit_of, taken_by, without_all, IsRefused}
 use Rattle.sqlite.specs.Rowids.TheVariants.{Given}
 use Rattle.sqlite.specs.declared.error.Error.{Error}
-use Rattle.sqlite.specs.declared.error.Error.TheVariants.{SqliteFailure}
-use Rattle.sqlite.specs.declared.error.ErrorCode.TheVariants.{ConstraintViolation}
-use Rattle.sqlite.specs.Effect.{Database, IsDatabase, Answers, RefusesQuery, edit_error}
+use Rattle.sqlite.specs.Effect.{Database, Answers, RefusesQuery}
 use Rattle.sqlite.specs.Does.{Does, AtPlace, OnRows, WritesRows, due}
 use Rattle.sqlite.specs.Rows.{Queried, Edited, Written}
 use Rattle.sqlite.specs.Listing.{understood}
-use Rattle.sqlite.specs.State.{State, Executes, IsLive, IsMisplaced, mode_of}
+use Rattle.sqlite.specs.State.{State, Executes, IsLive, mode_of}
 use Rattle.sqlite.specs.declared.run.Mode.{Mode}
 use Rattle.sqlite.proofs.Callers.{IsPlain, command_of, statement_of, one_step}
 use Rattle.sqlite_trees.specs.Tree.{with_tree}
 use Rattle.sqlite_schema.specs.declared.program.Program.{Program}
 use Rattle.sqlite_schema.specs.declared.schema.Among.TheVariants.{All}
 use Rattle.sqlite_schema.specs.declared.schema.Constraint.TheVariants.{Datatype, NotNull, Check, PrimaryKey, Unique, ForeignKey}
-use Rattle.sqlite_schema.specs.declared.schema.Index.{Index}
 use Rattle.sqlite_schema.specs.declared.schema.Keys.{Keys}
-use Rattle.sqlite_schema.specs.declared.schema.Keys.TheVariants.{Enforced, Deferred, Off}
+use Rattle.sqlite_schema.specs.declared.schema.Keys.TheVariants.{Enforced}
 use Rattle.sqlite_schema.specs.declared.schema.Reference.{Reference}
-use Rattle.sqlite_schema.specs.Rules.{ParentKey, parent_key, clashes, guards, Keeps, Obeys, Refers, has_null, has_parent, is_held, references_fit}
+use Rattle.sqlite_schema.specs.Rules.{ParentKey, parent_key, Keeps, Obeys, Refers, has_null, is_held, references_fit}
 use Rattle.sqlite_rules.specs.declared.action.Deed.TheVariants as deed
 use Rattle.sqlite_rules.specs.declared.error.Refusal.{Refusal}
 use Rattle.sqlite_rules.specs.declared.error.Refusal.TheVariants.{Violates, Mismatch, NoRowid, BadReference, TooDeep}
-use Rattle.sqlite_rules.specs.Action.{Acts, ActsOn, AreChildren, Leads, Work, Writes, action_edit, works}
+use Rattle.sqlite_rules.specs.Action.{Acts, ActsOn, Leads, Work, Writes, action_edit, works}
 use Rattle.sqlite_rules.specs.Calls.{ids_of}
 use Rattle.sqlite_rules.specs.Lists.{Has}
 use Rattle.sqlite_rules.proofs.ListLemmas.{all_has, some_has, some_from, test_has, test_from}

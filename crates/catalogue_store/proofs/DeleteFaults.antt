@@ -1,5 +1,5 @@
 -- Why the DELETEs of the catalogue fail.
-use Rattle.std.proofs.Common.{◌≡◌, ℕ, pos, List, [], ◌∷◌, length, true, false, Err, None, refl}
+use Rattle.std.proofs.Common.{◌≡◌, ℕ, pos, [], ◌∷◌, length, true, false, Err, None, refl}
 use Rattle.std.proofs.Math.Nat.{le_refl}
 use Rattle.sqlite.specs.Effect.{RefusesQuery}
 use Rattle.sqlite.specs.Tree.{Trees}

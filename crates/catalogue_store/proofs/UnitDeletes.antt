@@ -74,7 +74,7 @@ remove_unit_plain Spans = (refl, refl)
 
 -- ---- the work on the children of a unit, which tell it at a place
 
-abbrev pub work_on : Table → ℕ → Unit → Work
+abbrev work_on : Table → ℕ → Unit → Work
 work_on child place u = record { depth = 0; child = child; ref = to_unit place; places = 0 ∷ []; order = plain; deed = Delete; moves = (unit_row u, []) ∷ [] }
 
 no_null : (n : ℤ) → is_true (binary (Compare Eq Binary) (Int n) Null) ≡ false

@@ -1,5 +1,5 @@
 -- Why the DELETE of a unit fails: what tells of the unit goes with it, and each other row keeps its unit.
-use Rattle.std.proofs.Common.{◌≡◌, ◌≢◌, ◌||◌, ◌&&◌, inl, inr, ℕ, pos, List, [], ◌∷◌, map, filter, length, nat_eq, Bool, true, false, Ok, Err, None, Some, refl, sym, ap, ap₂, subst, ◌∙◌, arith}
+use Rattle.std.proofs.Common.{◌≡◌, ◌≢◌, ◌||◌, ◌&&◌, inl, inr, ℕ, pos, List, [], ◌∷◌, map, filter, length, nat_eq, true, false, Ok, Err, None, Some, refl, sym, ap, ap₂, subst, ◌∙◌, arith}
 use Rattle.std.proofs.Math.Nat.{le_refl}
 use Rattle.std.proofs.lemmas.Bool.{and_parts, cases_Bool, cases_eq}
 use Rattle.std.proofs.lemmas.List.Sorted.{length_permutation}
@@ -23,16 +23,15 @@ use Rattle.sqlite_schema.specs.Names.{same_name}
 use Rattle.sqlite_schema.specs.declared.schema.Among.TheVariants.{All}
 use Rattle.sqlite_schema.specs.declared.schema.Constraint.TheVariants.{ForeignKey}
 use Rattle.sqlite_schema.specs.declared.schema.Keys.TheVariants.{Enforced}
-use Rattle.sqlite_schema.specs.Rules.{agree, has_null, has_parent, is_held, parent_key, references_fit, Keeps, Obeys, Refers}
-use Rattle.sqlite_rules.specs.Action.{Work, Writes, loses, pairs, works}
+use Rattle.sqlite_schema.specs.Rules.{agree, has_parent, is_held, parent_key, references_fit, Keeps, Obeys, Refers}
+use Rattle.sqlite_rules.specs.Action.{Writes, loses, pairs, works}
 use Rattle.sqlite_rules.specs.Calls.{ids_of}
-use Rattle.sqlite_rules.specs.Lists.{Has}
 use Rattle.sqlite_rules.specs.declared.action.Deed.TheVariants.{Delete}
 use Rattle.sqlite_rules.proofs.ActionLemmas.{no_works}
 use Rattle.sqlite_rules.proofs.ListLemmas.{all_has}
 use Rattle.sqlite_rules.proofs.RuleLemmas.{refers_same}
 use Rattle.sqlite_tied.specs.Compute.{everything}
-use Rattle.sqlite_trees.proofs.ListLemmas.{all_of, all_weaker, all-map, all_from_map, ascending-filter}
+use Rattle.sqlite_trees.proofs.ListLemmas.{all_of, all-map, all_from_map, ascending-filter}
 use Rattle.sqlite_value.specs.Keys.{joined, first_key, plain}
 use Rattle.tree_core.proofs.Lists.{list_any-map}
 use Rattle.catalogue_store.specs.Faults.{fault_of, IsUnlimited, HasCause}
