@@ -27,10 +27,6 @@ pub data IsCascade (schema : Schema) (keys : Keys) (w : Work) (old new : Trees) 
   no_child : AreChildren old w [] → new ≡ old → IsCascade schema keys w old new
   children : (id : ℤ) (ids : List ℤ) → AreChildren old w (id ∷ ids) → Applies schema keys old (action_edit old w (id ∷ ids)) new → IsCascade schema keys w old new
 
--- a deletion from a table that no key refers to
-abbrev pub IsLeaf : Schema → Work → Type 0
-IsLeaf schema w = (w.deed ≡ Delete) × (w.depth ≡ 0) × (is_referred_to schema w.child.tree ≡ false)
-
 module _ (schema : Schema) (keys : Keys) where
   one_work : (n : ℕ) (db final : Trees) (bare : Work) (below : List Work) → is_referred_to schema bare.child.tree ≡ false
       → Acts schema keys (Leads schema keys n) db (record bare { deed = Delete; depth = 0 }) below (Ok final)

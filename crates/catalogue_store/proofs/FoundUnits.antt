@@ -16,13 +16,13 @@ use Rattle.catalogue_store.proofs.NewUnits.{numbered_once}
 use Rattle.catalogue_store.proofs.Reading.{first_kept}
 use Rattle.catalogue_store.proofs.Rows.{had}
 
-none_left : {A : Type 0} (p : A → Bool) (xs : List A) → list_any p xs ≡ false → filter p xs ≡ []
+pub none_left : {A : Type 0} (p : A → Bool) (xs : List A) → list_any p xs ≡ false → filter p xs ≡ []
 none_left p [] h = refl
 none_left p (x ∷ xs) h =
     let parts : (p x ≡ false) × (list_any p xs ≡ false) = grind arith in
     rw parts.0 (none_left p xs parts.1)
 
-empty : {A : Type 0} (xs : List A) → length xs ≤ 0 → xs ≡ []
+pub empty : {A : Type 0} (xs : List A) → length xs ≤ 0 → xs ≡ []
 empty [] h = refl
 empty (x ∷ xs) h = absurd (omega (arith, h))
 

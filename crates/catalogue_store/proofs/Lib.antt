@@ -69,3 +69,6 @@ pub mod InsertFaults
 pub mod UpdateCauses
 pub mod ChangeCauses
 pub mod LinkUpdates
+pub mod DeleteCauses
+pub mod DeleteFaults
+pub mod UnitFaults

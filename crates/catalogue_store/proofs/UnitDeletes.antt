@@ -16,7 +16,9 @@ use Rattle.sqlite.specs.Query.{inner, end}
 use Rattle.sqlite.specs.Collation.TheVariants.{Binary}
 use Rattle.sqlite.specs.Command.{Command}
 use Rattle.sqlite.specs.Command.TheVariants as command
+use Rattle.sqlite.specs.Effect.{Database, Answers}
 use Rattle.sqlite.specs.Listing.{understood}
+use Rattle.sqlite.specs.declared.run.Mode.{Mode}
 use Rattle.sqlite.specs.State.{State, Shows, Writes, Executes, mode_of}
 use Rattle.sqlite.proofs.Callers.{IsPlain, command_of, statement_of, runs_as, one_permutation}
 use Rattle.sqlite_rules.specs.Action.{works, Work, loses, Settles, is_child_of}
@@ -46,7 +48,7 @@ use Rattle.catalogue_store.proofs.Updates.{deletes_rows}
 use Rattle.catalogue_store.proofs.Without.{without_one}
 use Rattle.catalogue_store.proofs.Touching.{touched, touched_then}
 
-permit_alone : (v : Version) → is_referred_to (schema v) 10 ≡ false
+pub permit_alone : (v : Version) → is_referred_to (schema v) 10 ≡ false
 unfolding joined same_name
 permit_alone Links = refl
 permit_alone Spans = refl
@@ -105,33 +107,38 @@ found_one f p q same (y ∷ ys) x h = elim (q y) as (λ b. p (f y) ≡ b → con
   | false ↦ λ fails e. rw fails (found_one f p q same ys x e)
 ] (same y) h
 
-abbrev keep : ℕ → Unit → Bool
+abbrev pub keep : ℕ → Unit → Bool
 keep id u = nat_eq id u.id
 
-pub remove_unit_went : (old new : State) (id : ℕ) (count : ℕ) (v : Version) → old.now.schema ≡ schema v → Executes remove_unit_text (Int (pos id) ∷ []) old new (Ok count)
-    → (new.now.schema ≡ schema v) × Shows old new new.now (if old.in_transaction then old.committed else new.now) old.in_transaction
-remove_unit_went old new id count v has h =
-    let w = runs_as remove_unit_text (Int (pos id) ∷ []) old new (schema v) has remove_unit_command (remove_unit_is v) (remove_unit_plain v) count h in
-    let it = deleted_with (schema v) 8 unit refl old.step_limit (mode_of old) (Int (pos id) ∷ []) (statement_of remove_unit_text (understood (schema v) remove_unit_text)) remove_unit_program old.now new.now w.tally has w.changed in
-    (it.schema_is, w.shown)
+module _ (old new : State) (id : ℕ) (count : ℕ) (v : Version) (has : old.now.schema ≡ schema v) (h : Executes remove_unit_text (Int (pos id) ∷ []) old new (Ok count)) where
+  remove_unit_w : Writes old new None remove_unit_command (statement_of remove_unit_text (understood (schema v) remove_unit_text)) (Int (pos id) ∷ []) count
+  remove_unit_w = runs_as remove_unit_text (Int (pos id) ∷ []) old new (schema v) has remove_unit_command (remove_unit_is v) (remove_unit_plain v) count h
 
-module _ (old new : State) (id : ℕ) (units : List Unit) (u : Unit) (count : ℕ) (v : Version) (has : old.now.schema ≡ schema v)
-    (stored : old.now.trees 14 ≡ map unit_row units) (up : Rises by_number units)
-    (id_is : u.id ≡ id) (there : filter (keep id) units ≡ u ∷ []) (h : Executes remove_unit_text (Int (pos id) ∷ []) old new (Ok count)) where
-  w : Writes old new None remove_unit_command (statement_of remove_unit_text (understood (schema v) remove_unit_text)) (Int (pos id) ∷ []) count
-  w = runs_as remove_unit_text (Int (pos id) ∷ []) old new (schema v) has remove_unit_command (remove_unit_is v) (remove_unit_plain v) count h
+  pub remove_unit_it : DeletedWith (schema v) 8 unit refl (mode_of old) (Int (pos id) ∷ []) remove_unit_program old.now new.now
+  remove_unit_it = deleted_with (schema v) 8 unit refl old.step_limit (mode_of old) (Int (pos id) ∷ []) (statement_of remove_unit_text (understood (schema v) remove_unit_text)) remove_unit_program old.now new.now remove_unit_w.tally has remove_unit_w.changed
 
-  it : DeletedWith (schema v) 8 unit refl (mode_of old) (Int (pos id) ∷ []) remove_unit_program old.now new.now
-  it = deleted_with (schema v) 8 unit refl old.step_limit (mode_of old) (Int (pos id) ∷ []) (statement_of remove_unit_text (understood (schema v) remove_unit_text)) remove_unit_program old.now new.now w.tally has w.changed
+  pub remove_unit_went : (new.now.schema ≡ schema v) × Shows old new new.now (if old.in_transaction then old.committed else new.now) old.in_transaction
+  remove_unit_went = (remove_unit_it.schema_is, remove_unit_w.shown)
 
-  got : (xs : List Unit) → old.now.trees 14 ≡ map unit_row xs → (ys : List Unit) × IsPermutation (filter (keep id) xs) ys × IsSorted (λ _ _. Equal) ys × (it.rows ≡ map (λ (x : Unit). Int (pos x.id) ∷ []) ys)
-  got xs from = answers 14 (op2 (Compare Eq Binary) (col 1 0) (col 0 0) ∷ []) (col 1 0 ∷ []) [] old.now.trees (Int (pos id) ∷ []) unit_row xs (keep id) (λ (x : Unit). Int (pos x.id) ∷ []) (λ _. []) (λ _ _. Equal)
-      from (λ x. only (same_number x.id id)) (λ _. refl) (λ _. refl) (λ _ _. refl) it.rows (it.answer.answer Null)
+-- keys are enforced, and none is in doubt
+abbrev pub strict : Mode
+strict = record { keys = Enforced; in_doubt = false; may_wait = false }
 
-  units_left : (xs : List Unit) → old.now.trees 14 ≡ map unit_row xs → Rises by_number xs → it.next 14 ≡ map unit_row (without (λ (x : Unit). x.id) (id ∷ []) xs)
+-- the statement shows the numbers of the units that have this one
+pub shown_units : (old : Database) (id : ℕ) (rows : List Row) → Answers old remove_unit_program (Int (pos id) ∷ []) rows → (xs : List Unit) → old.trees 14 ≡ map unit_row xs
+    → (ys : List Unit) × IsPermutation (filter (keep id) xs) ys × IsSorted (λ _ _. Equal) ys × (rows ≡ map (λ (x : Unit). Int (pos x.id) ∷ []) ys)
+shown_units old id rows answer xs from = answers 14 (op2 (Compare Eq Binary) (col 1 0) (col 0 0) ∷ []) (col 1 0 ∷ []) [] old.trees (Int (pos id) ∷ []) unit_row xs (keep id) (λ (x : Unit). Int (pos x.id) ∷ []) (λ _. []) (λ _ _. Equal)
+    from (λ x. only (same_number x.id id)) (λ _. refl) (λ _. refl) (λ _ _. refl) rows (answer.answer Null)
+
+module _ (old new : Database) (id : ℕ) (units : List Unit) (u : Unit) (v : Version) (stored : old.trees 14 ≡ map unit_row units) (up : Rises by_number units)
+    (id_is : u.id ≡ id) (there : filter (keep id) units ≡ u ∷ []) (it : DeletedWith (schema v) 8 unit refl strict (Int (pos id) ∷ []) remove_unit_program old new) where
+  got : (xs : List Unit) → old.trees 14 ≡ map unit_row xs → (ys : List Unit) × IsPermutation (filter (keep id) xs) ys × IsSorted (λ _ _. Equal) ys × (it.rows ≡ map (λ (x : Unit). Int (pos x.id) ∷ []) ys)
+  got = shown_units old id it.rows it.answer
+
+  units_left : (xs : List Unit) → old.trees 14 ≡ map unit_row xs → Rises by_number xs → it.next 14 ≡ map unit_row (without (λ (x : Unit). x.id) (id ∷ []) xs)
   units_left xs from rise =
       let found = got xs from in
-      it.applies.rows ∙ deletes_rows unit unit_row (λ x. pos x.id) (λ _. refl) old.now.trees xs from rise (keep id) found.0 found.1 (λ (x : Unit). Int (pos x.id) ∷ []) (λ _. refl) it.rows found.3
+      it.applies.rows ∙ deletes_rows unit unit_row (λ x. pos x.id) (λ _. refl) old.trees xs from rise (keep id) found.0 found.1 (λ (x : Unit). Int (pos x.id) ∷ []) (λ _. refl) it.rows found.3
       ∙ ap (map unit_row) (without_one (λ (x : Unit). x.id) id xs)
 
   ids : ids_of it.rows ≡ pos u.id ∷ []
@@ -140,15 +147,15 @@ module _ (old new : State) (id : ℕ) (units : List Unit) (u : Unit) (count : �
   same_row : (x : Unit) → has_rowid (pos u.id) (unit_row x) ≡ keep u.id x
   same_row x = tests_of unit_row (λ x. pos x.id) (λ _. refl) (pos u.id) x ∙ same_nat x.id u.id
 
-  taken : taken_by old.now.trees (edit_of old.now.trees unit (ids_of it.rows) Given 0 []) ≡ unit_row u ∷ []
+  taken : taken_by old.trees (edit_of old.trees unit (ids_of it.rows) Given 0 []) ≡ unit_row u ∷ []
   taken =
-      ap (map (row_at (old.now.trees 14))) ids
+      ap (map (row_at (old.trees 14))) ids
       ∙ ap (λ rows. row_at rows (pos u.id) ∷ []) stored
       ∙ ap (λ o. unwrap_or o [] ∷ []) (found_one unit_row (has_rowid (pos u.id)) (keep u.id) same_row units u (ap (λ n. filter (keep n) units) id_is ∙ there))
 
-  cascade : (first : Trees) × (second : Trees) × IsCascade (schema v) Enforced (work_on housing 1 u) it.next first × IsCascade (schema v) Enforced (work_on element 1 u) first second × IsCascade (schema v) Enforced (work_on permit 2 u) second new.now.trees
-  cascade = three_works (schema v) Enforced it.next new.now.trees (work_on permit 2 u) (work_on element 1 u) (work_on housing 1 u) (permit_alone v) (element_alone v) (housing_alone v)
-      (subst (λ ws. Settles (schema v) Enforced it.next ws (Ok new.now.trees)) (ap (λ olds. works (schema v) Enforced 0 14 olds []) taken ∙ works_are v u) it.settles)
+  cascade : (first : Trees) × (second : Trees) × IsCascade (schema v) Enforced (work_on housing 1 u) it.next first × IsCascade (schema v) Enforced (work_on element 1 u) first second × IsCascade (schema v) Enforced (work_on permit 2 u) second new.trees
+  cascade = three_works (schema v) Enforced it.next new.trees (work_on permit 2 u) (work_on element 1 u) (work_on housing 1 u) (permit_alone v) (element_alone v) (housing_alone v)
+      (subst (λ ws. Settles (schema v) Enforced it.next ws (Ok new.trees)) (ap (λ olds. works (schema v) Enforced 0 14 olds []) taken ∙ works_are v u) it.settles)
 
   abbrev first : Trees
   first = cascade.0
@@ -156,23 +163,23 @@ module _ (old new : State) (id : ℕ) (units : List Unit) (u : Unit) (count : �
   abbrev second : Trees
   second = cascade.1
 
-  to_next : OnlyTouches (14 ∷ []) old.now (record old.now { trees = it.next })
-  to_next = touched v old.now (record old.now { trees = it.next }) 14 it.applies.tables
+  to_next : OnlyTouches (14 ∷ []) old (record old { trees = it.next })
+  to_next = touched v old (record old { trees = it.next }) 14 it.applies.tables
 
-  to_first : OnlyTouches (20 ∷ []) (record old.now { trees = it.next }) (record old.now { trees = first })
-  to_first = touched v (record old.now { trees = it.next }) (record old.now { trees = first }) 20 (cascade_apart (schema v) Enforced (work_on housing 1 u) it.next first cascade.2)
+  to_first : OnlyTouches (20 ∷ []) (record old { trees = it.next }) (record old { trees = first })
+  to_first = touched v (record old { trees = it.next }) (record old { trees = first }) 20 (cascade_apart (schema v) Enforced (work_on housing 1 u) it.next first cascade.2)
 
-  to_second : OnlyTouches (16 ∷ []) (record old.now { trees = first }) (record old.now { trees = second })
-  to_second = touched v (record old.now { trees = first }) (record old.now { trees = second }) 16 (cascade_apart (schema v) Enforced (work_on element 1 u) first second cascade.3)
+  to_second : OnlyTouches (16 ∷ []) (record old { trees = first }) (record old { trees = second })
+  to_second = touched v (record old { trees = first }) (record old { trees = second }) 16 (cascade_apart (schema v) Enforced (work_on element 1 u) first second cascade.3)
 
-  to_new : OnlyTouches (10 ∷ []) (record old.now { trees = second }) new.now
-  to_new = touched v (record old.now { trees = second }) new.now 10 (cascade_apart (schema v) Enforced (work_on permit 2 u) second new.now.trees cascade.4)
+  to_new : OnlyTouches (10 ∷ []) (record old { trees = second }) new
+  to_new = touched v (record old { trees = second }) new 10 (cascade_apart (schema v) Enforced (work_on permit 2 u) second new.trees cascade.4)
 
   same_test_as : {A : Type 0} (number : A → ℕ) (xs : List A) → filter (λ x. not (nat_eq u.id (number x))) xs ≡ without number (id ∷ []) xs
   same_test_as number xs = ap (λ n. filter (λ x. not (nat_eq n (number x))) xs) id_is ∙ without_one number id xs
 
   -- the unit is gone, with all that tells of it
-  pub remove_unit_removes : AreRemoved (id ∷ []) old.now new.now
+  pub remove_unit_removes : AreRemoved (id ∷ []) old new
   remove_unit_removes = record {
     units = λ xs from rise. to_new.1.1.1.1.1.1.1.1.0 refl ∙ to_second.1.1.1.1.1.1.1.1.0 refl ∙ to_first.1.1.1.1.1.1.1.1.0 refl ∙ units_left xs from rise;
     elements = λ xs from rise.
@@ -187,11 +194,11 @@ module _ (old new : State) (id : ℕ) (units : List Unit) (u : Unit) (count : �
         ∙ ap (map housing_row) (same_test_as (λ (h : HousingRow). h.unit) xs);
     permits = λ xs from rise.
         let at = to_second.1.1.1.1.1.1.0 refl ∙ to_first.1.1.1.1.1.1.0 refl ∙ to_next.1.1.1.1.1.1.0 refl ∙ from in
-        cascade_rows (schema v) Enforced (work_on permit 2 u) permit_row (λ p. p.row) (λ _. refl) second new.now.trees xs at rise (λ p. nat_eq u.id p.unit) (λ p. child_is permit 2 u p.unit (permit_row p) refl) cascade.4
+        cascade_rows (schema v) Enforced (work_on permit 2 u) permit_row (λ p. p.row) (λ _. refl) second new.trees xs at rise (λ p. nat_eq u.id p.unit) (λ p. child_is permit 2 u p.unit (permit_row p) refl) cascade.4
         ∙ ap (map permit_row) (same_test_as (λ (p : PermitRow). p.unit) xs);
-    only = touched_then (14 ∷ 20 ∷ []) (16 ∷ 10 ∷ []) old.now (record old.now { trees = first }) new.now
-        (touched_then (14 ∷ []) (20 ∷ []) old.now (record old.now { trees = it.next }) (record old.now { trees = first }) to_next to_first)
-        (touched_then (16 ∷ []) (10 ∷ []) (record old.now { trees = first }) (record old.now { trees = second }) new.now to_second to_new);
+    only = touched_then (14 ∷ 20 ∷ []) (16 ∷ 10 ∷ []) old (record old { trees = first }) new
+        (touched_then (14 ∷ []) (20 ∷ []) old (record old { trees = it.next }) (record old { trees = first }) to_next to_first)
+        (touched_then (16 ∷ []) (10 ∷ []) (record old { trees = first }) (record old { trees = second }) new to_second to_new);
   }
 
 -- ---- the one unit of a number

@@ -4,6 +4,7 @@ use Rattle.sqlite.specs.State.{HasCleanDisk}
 use Rattle.catalogue_store.specs.Step.{IsCut}
 use Rattle.catalogue_store.proofs.Calls.{early, in_office, write_cut, write_went}
 use Rattle.catalogue_store.proofs.Changes.{clear_housings_text, clear_housings_command, clear_housings_is, clear_housings_plain, clear_housings_done, clear_housings_rows, clear_housings_touches}
+use Rattle.catalogue_store.proofs.DeleteFaults.{clear_housings_cause}
 use Rattle.catalogue_store.proofs.WriteCauses.{write_disk}
 use Rattle.catalogue_store.proofs.containers.clear_housings.Goals as goal
 
@@ -36,3 +37,11 @@ returns-in_err-execute-clause-disk g c clean =
     let new = state g.S.Store c.execute.new.self in
     let fair = write_disk clear_housings_text _ old new clear_housings_command refl (in_office clear_housings_text clear_housings_command old (c.requires.inside) clear_housings_is clear_housings_plain (early old new _ c.execute.ensures.survives clean)) c.in_err-execute.field-0.0 (c.in_err-execute.ensures.runs clean) in
     search (rules, fair)
+
+pub returns-in_err-execute-clause-faults : goal.returns-in_err-execute-clause-faults
+returns-in_err-execute-clause-faults g c clean free xs stored up =
+    let old = state g.S.Store c.args.conn.now in
+    let new = state g.S.Store c.execute.new.self in
+    let at = c.requires.inside (early old new _ c.execute.ensures.survives clean) in
+    let why = clear_housings_cause old new c.args.unit at.0 at.1 c.schema.ensures.live free c.in_err-execute.field-0.0 (rw (c.number.ensures) at (c.in_err-execute.ensures.runs clean)) in
+    search (rules, why)

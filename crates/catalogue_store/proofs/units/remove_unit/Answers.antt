@@ -3,7 +3,8 @@ use Rattle.sqlite.specs.Held.{state}
 use Rattle.sqlite.specs.State.{HasCleanDisk}
 use Rattle.catalogue_store.specs.Step.{IsCut}
 use Rattle.catalogue_store.proofs.Calls.{early, in_office, write_cut, write_went}
-use Rattle.catalogue_store.proofs.UnitDeletes.{remove_unit_text, remove_unit_command, remove_unit_is, remove_unit_plain, remove_unit_went, remove_unit_removes, the_one}
+use Rattle.catalogue_store.proofs.UnitDeletes.{remove_unit_text, remove_unit_command, remove_unit_is, remove_unit_plain, remove_unit_it, remove_unit_went, remove_unit_removes, the_one}
+use Rattle.catalogue_store.proofs.UnitFaults.{remove_unit_cause}
 use Rattle.catalogue_store.proofs.units.remove_unit.Goals as goal
 
 pub returns-in_err-execute-clause-cut : goal.returns-in_err-execute-clause-cut
@@ -27,4 +28,12 @@ returns-clause-removes g c clean xs stored up there =
     let new = state g.S.Store c.execute.new.self in
     let at = c.requires.inside (early old new _ c.execute.ensures.survives clean) in
     let one = the_one c.args.id xs up there in
-    remove_unit_removes old new c.args.id xs one.0 c.in_ok-execute.field-0 at.0 at.1 stored up one.1 one.2 (rw c.number.ensures at (c.in_ok-execute.ensures.runs clean))
+    remove_unit_removes old.now new.now c.args.id xs one.0 at.0 stored up one.1 one.2 (remove_unit_it old new c.args.id c.in_ok-execute.field-0 at.0 at.1 (rw c.number.ensures at (c.in_ok-execute.ensures.runs clean)))
+
+pub returns-in_err-execute-clause-faults : goal.returns-in_err-execute-clause-faults
+returns-in_err-execute-clause-faults g c clean free told =
+    let old = state g.S.Store c.args.conn.now in
+    let new = state g.S.Store c.execute.new.self in
+    let at = c.requires.inside (early old new _ c.execute.ensures.survives clean) in
+    let why = remove_unit_cause old new c.args.id at.0 at.1 told c.schema.ensures.live free c.in_err-execute.field-0.0 (rw c.number.ensures at (c.in_err-execute.ensures.runs clean)) in
+    search (rules, why)

@@ -2,11 +2,14 @@ use Rattle.std.proofs.Common.{rules, ℕ, List, [], ◌∷◌, take, get_or, sym
 use Rattle.std.proofs.lemmas.List.{take_more, take_all}
 use Rattle.sqlite.specs.Held.{state}
 use Rattle.sqlite_trees.proofs.ListLemmas.{ascending-filter}
+use Rattle.catalogue_store.specs.Faults.{IsUnlimited}
 use Rattle.catalogue_store.specs.Removals.{without, AreRemoved}
 use Rattle.catalogue_store.specs.Step.{IsCut}
 use Rattle.catalogue_store.proofs.Calls.{early, goes_nowhere, goes_then, cut_then, cut_after}
+use Rattle.catalogue_store.proofs.Causes.{cause_then, still_unlimited}
 use Rattle.catalogue_store.proofs.Moves.{id_of}
 use Rattle.catalogue_store.proofs.Removals.{removed_none, removed_then, next_listed}
+use Rattle.catalogue_store.proofs.UnitFaults.{told_after}
 use Rattle.catalogue_store.proofs.units.remove_units.Goals as goal
 
 pub loop-id-init : goal.loop-id-init
@@ -54,3 +57,15 @@ returns-clause-removes g c clean xs stored up listed =
     let a = state g.S.Store c.args.conn.now in
     let b = state g.S.Store c.loop-id.conn in
     subst (λ (l : List ℕ). AreRemoved l a.now b.now) (take_all c.loop-id.id-index c.args.ids.now (omega (arith, c.loop-id-test.false))) (c.loop-id.invariant.1.1 clean xs stored up listed)
+
+pub returns-in_err-remove_unit-clause-faults : goal.returns-in_err-remove_unit-clause-faults
+returns-in_err-remove_unit-clause-faults g c clean free told listed low =
+    let a = state g.S.Store c.args.conn.now in
+    let b = state g.S.Store c.loop-id.conn in
+    let d = state g.S.Store c.remove_unit.new.conn in
+    let invariant = c.loop-id.invariant in
+    let before = early b d _ c.in_err-remove_unit.ensures.cut.crash clean in
+    let free_b : IsUnlimited b = still_unlimited a b invariant.1.0.on free in
+    let why = c.in_err-remove_unit.ensures.faults clean free_b (told_after (take c.loop-id.id-index c.args.ids.now) a.now b.now told (invariant.1.1 before told.units told.unit_rows told.units_rise listed)) in
+    let whole = cause_then a b d invariant.1.0.on before _ why in
+    search (rules, whole)
