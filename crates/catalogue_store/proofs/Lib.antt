@@ -64,3 +64,5 @@ pub mod Descending
 pub mod MarkForests
 pub mod Attachments
 pub mod OpenLemmas
+pub mod BoundLemmas
+pub mod LinkReadCauses
