@@ -1,4 +1,4 @@
-use Rattle.std.proofs.Common.{rules, ◌≡◌, ◌≢◌, inl, inr, ◌<◌, ◌^◌, ℕ, pos, List, [], ◌∷◌, Some, None, slice_get, length, refl, sym, ap, subst, ◌∙◌, arith}
+use Rattle.std.proofs.Common.{rules, ◌≡◌, ◌≢◌, inl, inr, ◌<◌, pos, List, [], ◌∷◌, Some, None, slice_get, length, sym, ap, subst, ◌∙◌, arith}
 use Rattle.sqlite.specs.Order.{Row, column}
 use Rattle.sqlite.specs.Reading.{IsReadError}
 use Rattle.sqlite.specs.declared.types.Value.TheVariants.{Int}
