@@ -72,3 +72,5 @@ pub mod LinkUpdates
 pub mod DeleteCauses
 pub mod DeleteFaults
 pub mod UnitFaults
+pub mod BoundLemmas
+pub mod LinkReadCauses
