@@ -1,19 +1,17 @@
 -- Why a definition fails: none that is understood, and whose names are free, is refused.
-use Rattle.std.proofs.Common.{◌≡◌, ◌⊎◌, inl, inr, ℕ, List, [], length, drop, slice_get, Bool, true, false, Ok, Err, Result, Option, Some, None, IsUtf8, IfErr, OnErr, refl, sym, ap, subst, ◌∙◌, arith}
-use Rattle.std.specs.List.{AllByRecursion, list_all}
+use Rattle.std.proofs.Common.{◌≡◌, ◌⊎◌, inl, inr, ℕ, List, [], length, slice_get, Bool, true, false, Ok, Err, Result, Some, None, IsUtf8, IfErr, OnErr, refl, sym, ap, subst, ◌∙◌, arith}
+use Rattle.std.specs.List.{AllByRecursion}
 use Rattle.std.proofs.lemmas.Bool.{ltb-true}
 use Rattle.std.proofs.lemmas.Str.{IsUtf8-from_is_utf8}
-use Rattle.sqlite.specs.Order.{Row}
 use Rattle.sqlite.specs.Table.{Table}
 use Rattle.sqlite.specs.Schema.{Schema}
-use Rattle.sqlite.specs.Tree.{Trees}
 use Rattle.sqlite.specs.Command.{Command}
 use Rattle.sqlite.specs.Command.TheVariants.{CreateTable, CreateIndex}
 use Rattle.sqlite.specs.Change.{created, indexed, is_used}
 use Rattle.sqlite.specs.declared.error.Error.{Error}
 use Rattle.sqlite.specs.declared.run.Mode.{Mode}
 use Rattle.sqlite.specs.Does.{MakesTable, MakesSequence, MakesIndex, Defines, Does, no_rows, lacks_sequence}
-use Rattle.sqlite.specs.Effect.{Database, IsDatabase, RefusesToAlter, IsNoText}
+use Rattle.sqlite.specs.Effect.{Database, IsDatabase, IsNoText}
 use Rattle.sqlite.specs.Listing.{understood}
 use Rattle.sqlite.specs.Rows.{Part, Gives, Then}
 use Rattle.sqlite.proofs.Callers.{IsPlain}
@@ -22,13 +20,12 @@ use Rattle.sqlite_catalog.specs.Calls.{IsBadName, RefusesTable, RefusesIndex}
 use Rattle.sqlite_catalog.specs.declared.error.Refusal.{Refusal}
 use Rattle.sqlite_catalog.specs.declared.error.Refusal.TheVariants.{Invalid, NameTaken, BadName, TooBig, BadKey, BadText, Violates}
 use Rattle.sqlite_catalog.proofs.StepLemmas.{empty_unique}
-use Rattle.sqlite_resolve.specs.Compile.{table_defined_by, index_defined_by}
 use Rattle.sqlite_resolve.specs.declared.compiled.Compiled.{Compiled}
 use Rattle.sqlite_resolve.specs.declared.error.CompileError.{CompileError}
 use Rattle.sqlite_rules.proofs.ListLemmas.{all_has, test_has, some_from}
 use Rattle.sqlite_schema.specs.Rules.{Keeps}
 use Rattle.sqlite_schema.specs.declared.schema.Constraint.TheVariants.{Unique}
-use Rattle.catalogue_store.specs.Creation.{Says, IsFreeName, DefinesTable, DefinesIndex, HasMade}
+use Rattle.catalogue_store.specs.Creation.{IsFreeName, DefinesTable, DefinesIndex, HasMade}
 use Rattle.catalogue_store.specs.Faults.{fault_of, HasCause}
 use Rattle.catalogue_store.specs.Step.{Continues, IsCut}
 use Rattle.catalogue_store.specs.Text.{IsAlone}
