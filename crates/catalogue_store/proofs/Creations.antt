@@ -1,6 +1,10 @@
 -- What the definitions of the tables make.
-use Rattle.std.proofs.Common.{◌≡◌, ℕ, List, [], ◌∷◌, codes, slice_get, ◌++◌, drop, length, false, cond, Some, None, Ok, refl, sym, ap, subst, ◌∙◌}
+use Rattle.std.proofs.Common.{◌≡◌, ℕ, List, [], ◌∷◌, codes, slice_get, ◌++◌, drop, length, false, cond, Some, None, Ok, inl, inr, refl, sym, ap, subst, ◌∙◌}
 use Rattle.std.specs.List.{AllByRecursion}
+use Rattle.std.specs.Str.{chars, is_utf8}
+use lib.Ieee.{is_nan, lt}
+use lib.Utf8.{encode}
+use Rattle.sqlite_value.specs.Order.{value_cmp}
 use Rattle.sqlite.specs.Tree.{Trees}
 use Rattle.sqlite.specs.Table.{Table}
 use Rattle.sqlite.specs.Schema.{Schema}
@@ -12,9 +16,15 @@ use Rattle.sqlite.specs.Listing.{understood}
 use Rattle.sqlite.specs.State.{State, Writes, Executes, Shows}
 use Rattle.sqlite.proofs.Callers.{runs_as}
 use Rattle.sqlite_tied.specs.Compute.{everything}
+use Rattle.sqlite_trees.specs.Sound.{same_name, begins, is_free_name, fits_kind}
 use Rattle.catalogue_store.specs.Creation.{DefinesTable, DefinesIndex, HasMade}
 use Rattle.catalogue_store.specs.Schema.{Links, desk_schema, desk_tables, schema, office, unit, element, container, housing, housing_by_container, link, index}
 use Rattle.catalogue_store.proofs.Steps.{went, same_value}
+
+-- all that unfolds when a name and the text that defines it are judged
+unfoldable pub naming : Unit {0}
+unfolding is_utf8 chars encode value_cmp is_nan lt fits_kind begins is_free_name same_name
+naming = tt
 
 abbrev pub office_text : List ℕ
 office_text = codes "CREATE TABLE office (one INTEGER PRIMARY KEY, version INTEGER NOT NULL, country TEXT NOT NULL, repo TEXT NOT NULL, seats INTEGER NOT NULL, daily INTEGER NOT NULL, hands INTEGER NOT NULL, run_size INTEGER NOT NULL, day INTEGER NOT NULL, next_unit INTEGER NOT NULL) STRICT"
@@ -67,36 +77,36 @@ abbrev pub s7 : Schema
 s7 = created s6 (free link)
 
 pub office_defined : DefinesTable desk_tables desk_schema office_text s1
-unfolding understood everything
-office_defined = record { table = free office; says = record { is = refl; plain = (refl, refl); whole = refl }; defined = refl; uncounted = refl; is = refl; more = []; first = refl; rest = refl; last = refl }
+unfolding understood everything naming
+office_defined = record { table = free office; says = record { is = refl; plain = (refl, refl); whole = refl; alone = (refl, refl) }; defined = refl; allowed = record { named = record { free = refl; utf8 = refl; unreserved = refl }; guards = refl; formed = refl; fit = refl; trees = refl; reals = refl; key_reals = refl }; uncounted = refl; is = refl; more = []; first = refl; rest = refl; last = refl }
 
 pub unit_defined : DefinesTable desk_tables s1 unit_text s2
-unfolding understood everything
-unit_defined = record { table = free unit; says = record { is = refl; plain = (refl, refl); whole = refl }; defined = refl; uncounted = refl; is = refl; more = office ∷ []; first = refl; rest = refl; last = refl }
+unfolding understood everything naming
+unit_defined = record { table = free unit; says = record { is = refl; plain = (refl, refl); whole = refl; alone = (refl, refl) }; defined = refl; allowed = record { named = record { free = refl; utf8 = refl; unreserved = refl }; guards = refl; formed = refl; fit = refl; trees = refl; reals = refl; key_reals = refl }; uncounted = refl; is = refl; more = office ∷ []; first = refl; rest = refl; last = refl }
 
 pub element_defined : DefinesTable desk_tables s2 element_text s3
-unfolding understood everything
-element_defined = record { table = free element; says = record { is = refl; plain = (refl, refl); whole = refl }; defined = refl; uncounted = refl; is = refl; more = office ∷ unit ∷ []; first = refl; rest = refl; last = refl }
+unfolding understood everything naming
+element_defined = record { table = free element; says = record { is = refl; plain = (refl, refl); whole = refl; alone = (refl, refl) }; defined = refl; allowed = record { named = record { free = refl; utf8 = refl; unreserved = refl }; guards = refl; formed = refl; fit = refl; trees = refl; reals = refl; key_reals = refl }; uncounted = refl; is = refl; more = office ∷ unit ∷ []; first = refl; rest = refl; last = refl }
 
 pub container_defined : DefinesTable desk_tables s3 container_text s4
-unfolding understood everything
-container_defined = record { table = free container; says = record { is = refl; plain = (refl, refl); whole = refl }; defined = refl; uncounted = refl; is = refl; more = office ∷ unit ∷ element ∷ []; first = refl; rest = refl; last = refl }
+unfolding understood everything naming
+container_defined = record { table = free container; says = record { is = refl; plain = (refl, refl); whole = refl; alone = (refl, refl) }; defined = refl; allowed = record { named = record { free = refl; utf8 = refl; unreserved = refl }; guards = refl; formed = refl; fit = refl; trees = refl; reals = refl; key_reals = refl }; uncounted = refl; is = refl; more = office ∷ unit ∷ element ∷ []; first = refl; rest = refl; last = refl }
 
 pub housing_defined : DefinesTable desk_tables s4 housing_text s5
-unfolding understood everything
-housing_defined = record { table = free housing; says = record { is = refl; plain = (refl, refl); whole = refl }; defined = refl; uncounted = refl; is = refl; more = office ∷ unit ∷ element ∷ container ∷ []; first = refl; rest = refl; last = refl }
+unfolding understood everything naming
+housing_defined = record { table = free housing; says = record { is = refl; plain = (refl, refl); whole = refl; alone = (refl, refl) }; defined = refl; allowed = record { named = record { free = refl; utf8 = refl; unreserved = refl }; guards = refl; formed = refl; fit = refl; trees = refl; reals = refl; key_reals = refl }; uncounted = refl; is = refl; more = office ∷ unit ∷ element ∷ container ∷ []; first = refl; rest = refl; last = refl }
 
 pub housing_indexed : DefinesIndex desk_tables s5 housing_index_text s6
-unfolding understood everything
-housing_indexed = record { at = 11; table = housing; index = record housing_by_container { tree = 0 }; says = record { is = refl; plain = (refl, refl); whole = refl }; place = refl; defined = refl; is = refl; same = refl; more = office ∷ unit ∷ element ∷ container ∷ housing ∷ []; first = refl; rest = refl }
+unfolding understood everything naming
+housing_indexed = record { at = 11; table = housing; index = record housing_by_container { tree = 0 }; says = record { is = refl; plain = (refl, refl); whole = refl; alone = (refl, refl) }; place = refl; defined = refl; allowed = record { named = record { free = refl; utf8 = refl; unreserved = refl }; utf8 = refl; fit = refl; trees = refl; reals = refl; key_reals = refl }; is = refl; same = refl; more = office ∷ unit ∷ element ∷ container ∷ housing ∷ []; first = refl; rest = refl; among = inr (inr (inr (inr (inl refl)))) }
 
 pub link_defined : DefinesTable desk_tables s6 link_text s7
-unfolding understood everything
-link_defined = record { table = free link; says = record { is = refl; plain = (refl, refl); whole = refl }; defined = refl; uncounted = refl; is = refl; more = office ∷ unit ∷ element ∷ container ∷ housing ∷ []; first = refl; rest = refl; last = refl }
+unfolding understood everything naming
+link_defined = record { table = free link; says = record { is = refl; plain = (refl, refl); whole = refl; alone = (refl, refl) }; defined = refl; allowed = record { named = record { free = refl; utf8 = refl; unreserved = refl }; guards = refl; formed = refl; fit = refl; trees = refl; reals = refl; key_reals = refl }; uncounted = refl; is = refl; more = office ∷ unit ∷ element ∷ container ∷ housing ∷ []; first = refl; rest = refl; last = refl }
 
 pub link_indexed : DefinesIndex desk_tables s7 link_index_text (schema Links)
-unfolding understood everything
-link_indexed = record { at = 12; table = link; index = index (codes "link_by_parent") 0 link (2 ∷ 3 ∷ []); says = record { is = refl; plain = (refl, refl); whole = refl }; place = refl; defined = refl; is = refl; same = refl; more = office ∷ unit ∷ element ∷ container ∷ housing ∷ link ∷ []; first = refl; rest = refl }
+unfolding understood everything naming
+link_indexed = record { at = 12; table = link; index = index (codes "link_by_parent") 0 link (2 ∷ 3 ∷ []); says = record { is = refl; plain = (refl, refl); whole = refl; alone = (refl, refl) }; place = refl; defined = refl; allowed = record { named = record { free = refl; utf8 = refl; unreserved = refl }; utf8 = refl; fit = refl; trees = refl; reals = refl; key_reals = refl }; is = refl; same = refl; more = office ∷ unit ∷ element ∷ container ∷ housing ∷ link ∷ []; first = refl; rest = refl; among = inr (inr (inr (inr (inr (inl refl))))) }
 
 -- ---- what a definition makes
 

@@ -74,3 +74,4 @@ pub mod DeleteFaults
 pub mod UnitFaults
 pub mod BoundLemmas
 pub mod LinkReadCauses
+pub mod CreationCauses

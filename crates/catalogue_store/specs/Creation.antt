@@ -1,10 +1,14 @@
 -- What a definition makes.
-use Rattle.std.specs.Prelude.{◌≡◌, ℕ, false, List, [], ◌∷◌, ◌++◌, Ok, Some, slice_get, drop, length, IsTrue}
-use Rattle.std.specs.List.{AllByRecursion}
+use Rattle.std.specs.Prelude.{◌≡◌, ℕ, ◌+◌, ◌^◌, nat_lt, true, false, List, [], ◌∷◌, ◌++◌, Ok, Some, codes, slice_get, drop, length, IsTrue}
+use Rattle.std.specs.List.{AllByRecursion, list_any, list_all}
+use Rattle.std.specs.Str.{is_utf8}
 use Rattle.sqlite.specs.Table.{Table}
 use Rattle.sqlite.specs.Schema.{Schema}
 use Rattle.sqlite_schema.specs.declared.schema.Index.{Index}
-use Rattle.sqlite.specs.Change.{created, indexed, next_tree, KeepsRows}
+use Rattle.sqlite_schema.specs.Rules.{table_reals, index_reals}
+use Rattle.sqlite_rules.specs.Lists.{Has}
+use Rattle.sqlite.specs.declared.types.Value.TheVariants.{Text}
+use Rattle.sqlite.specs.Change.{created, indexed, next_tree, automatics, is_used, is_reserved, KeepsRows}
 use Rattle.sqlite.specs.Compile.{table_defined_by, index_defined_by}
 use Rattle.sqlite.specs.Command.{Command}
 use Rattle.sqlite.specs.Command.TheVariants.{CreateTable, CreateIndex}
@@ -13,8 +17,8 @@ use Rattle.sqlite.specs.Effect.{Database}
 use Rattle.sqlite.specs.Given.{IsPlain}
 use Rattle.sqlite.specs.Listing.{understood}
 use Rattle.sqlite.specs.State.{State, HasCleanDisk}
-use Rattle.catalogue_store.specs.Text.{command_of, statement_of}
-use Rattle.sqlite_catalog.specs.Listing.{automatic}
+use Rattle.catalogue_store.specs.Text.{command_of, statement_of, IsAlone}
+use Rattle.sqlite_catalog.specs.Listing.{automatic, is_formed, is_fit}
 use Rattle.catalogue_store.specs.Schema.{reader, seat, orders, holding, run, run_line, permit, office, unit, element, container, housing, orders_by_container, orders_by_ticket, permit_by_unit, housing_by_container}
 
 -- the text is understood as one whole command
@@ -22,12 +26,39 @@ pub record Says (before : Schema) (text : List ℕ) (command : Command) : Type 0
   pub is : command_of (understood before text) ≡ command
   pub plain : IsPlain (understood before text)
   pub whole : statement_of text (understood before text) ≡ text
+  pub alone : IsAlone text (understood before text)
+
+-- the name is a text, no other object has it, and it is none of SQLite's own
+pub record IsFreeName (before : Schema) (name : List ℕ) : Type 0 where
+  pub free : is_used before name ≡ false
+  pub utf8 : is_utf8 name ≡ true
+  pub unreserved : is_reserved name ≡ false
+
+-- the names of the table and of its UNIQUE are free, its primary key is well formed, and the file has room for it
+pub record MayMakeTable (before : Schema) (text : List ℕ) (table : Table) : Type 0 where
+  pub named : IsFreeName before table.name
+  pub guards : list_any (λ i. is_used before i.name) (automatics table 0 0 table.uniques) ≡ false
+  pub formed : is_formed table ≡ true
+  pub fit : is_fit (Text (codes "table")) (Text table.name) (Text table.name) (Text text) ≡ true
+  pub trees : nat_lt (next_tree before + length table.uniques) 65536 ≡ true
+  pub reals : nat_lt (table_reals table) (2 ^ 64) ≡ true
+  pub key_reals : list_all (λ key. nat_lt (index_reals (table_reals table) key) (2 ^ 64)) table.uniques ≡ true
+
+-- the name of the index is free, and the file has room for it
+pub record MayMakeIndex (before : Schema) (text : List ℕ) (table : Table) (index : Index) : Type 0 where
+  pub named : IsFreeName before index.name
+  pub utf8 : is_utf8 table.name ≡ true
+  pub fit : is_fit (Text (codes "index")) (Text index.name) (Text table.name) (Text text) ≡ true
+  pub trees : nat_lt (next_tree before) 65536 ≡ true
+  pub reals : nat_lt (table_reals table) (2 ^ 64) ≡ true
+  pub key_reals : nat_lt (index_reals (table_reals table) index.columns) (2 ^ 64) ≡ true
 
 -- the text defines a table, the next after those that were there and some more
 pub record DefinesTable (there : List Table) (before : Schema) (text : List ℕ) (after : Schema) : Type 0 where
   pub table : Table
   pub says : Says before text CreateTable
   pub defined : table_defined_by text ≡ Ok table
+  pub allowed : MayMakeTable before text table
   pub uncounted : lacks_sequence (created before table) ≡ false
   pub is : created before table ≡ after
   pub more : List Table
@@ -35,7 +66,7 @@ pub record DefinesTable (there : List Table) (before : Schema) (text : List ℕ)
   pub rest : drop (length there) before.tables ≡ more
   pub last : drop (length there) after.tables ≡ more ++ record table { tree = next_tree before } ∷ []
 
--- the text defines an index on one of the tables
+-- the text defines an index on one of the tables that came to those that were there
 pub record DefinesIndex (there : List Table) (before : Schema) (text : List ℕ) (after : Schema) : Type 0 where
   pub at : ℕ
   pub table : Table
@@ -43,11 +74,13 @@ pub record DefinesIndex (there : List Table) (before : Schema) (text : List ℕ)
   pub says : Says before text (CreateIndex at)
   pub place : slice_get before.tables at ≡ Some table
   pub defined : index_defined_by table text ≡ Ok index
+  pub allowed : MayMakeIndex before text table index
   pub is : indexed before table index ≡ after
   pub same : after.tables ≡ before.tables
   pub more : List Table
   pub first : before.tables ≡ there ++ more
   pub rest : drop (length there) before.tables ≡ more
+  pub among : Has more table
 
 -- the tables that were there, the first ones, have the rows that they had, and each later one has none
 pub record HasMade (there : List Table) (after : Schema) (old new : Database) : Type 0 where

@@ -7,7 +7,7 @@ ghost use Rattle.sqlite.specs.Schema.{Schema};
 ghost use Rattle.sqlite.specs.Table.{Table};
 ghost use Rattle.sqlite.specs.Effect.{Database};
 ghost use Rattle.catalogue_store.specs.Creation.{DefinesTable, DefinesIndex, IsMaking, catalogue_schema, unit_schema};
-ghost use Rattle.catalogue_store.specs.Faults.{BlamesDisk};
+ghost use Rattle.catalogue_store.specs.Faults.{HasCause, BlamesDisk};
 ghost use Rattle.catalogue_store.specs.Schema.{desk_schema, desk_tables};
 ghost use Rattle.catalogue_store.specs.Step.{Continues, IsCut};
 
@@ -18,6 +18,7 @@ use sqlite::{Alter, Connection};
 pub fn create_table<S: Alter>(conn: &mut Connection<S>, text: &str) -> Result<(), StoreFault>
     ensures made { (there : List Table) (start : Database) (before after : Schema) → IsMaking there before start (state S.Store conn.old) → DefinesTable there before text.now after → OnOk result (Continues (state S.Store conn.old) (state S.Store conn.new) × IsMaking there after start (state S.Store conn.new)) }
     ensures disk { (there : List Table) (start : Database) (before after : Schema) → IsMaking there before start (state S.Store conn.old) → DefinesTable there before text.now after → HasCleanDisk (state S.Store conn.new) → IfErr result (BlamesDisk (state S.Store conn.old) (state S.Store conn.new)) }
+    ensures faults { (there : List Table) (start : Database) (before after : Schema) → IsMaking there before start (state S.Store conn.old) → DefinesTable there before text.now after → HasCleanDisk (state S.Store conn.new) → IfErr result (HasCause (state S.Store conn.old) (state S.Store conn.new)) }
     ensures cut { (there : List Table) (start : Database) (before after : Schema) → IsMaking there before start (state S.Store conn.old) → DefinesTable there before text.now after → OnErr result (IsCut (state S.Store conn.old) (state S.Store conn.new)) }
 {
     conn.execute(text, &[])?;
@@ -28,8 +29,11 @@ pub fn create_table<S: Alter>(conn: &mut Connection<S>, text: &str) -> Result<()
 pub fn create_index<S: Alter>(conn: &mut Connection<S>, text: &str) -> Result<(), StoreFault>
     ensures made { (there : List Table) (start : Database) (before after : Schema) → IsMaking there before start (state S.Store conn.old) → DefinesIndex there before text.now after → OnOk result (Continues (state S.Store conn.old) (state S.Store conn.new) × IsMaking there after start (state S.Store conn.new)) }
     ensures disk { (there : List Table) (start : Database) (before after : Schema) → IsMaking there before start (state S.Store conn.old) → DefinesIndex there before text.now after → HasCleanDisk (state S.Store conn.new) → IfErr result (BlamesDisk (state S.Store conn.old) (state S.Store conn.new)) }
+    ensures faults { (there : List Table) (start : Database) (before after : Schema) → IsMaking there before start (state S.Store conn.old) → DefinesIndex there before text.now after → HasCleanDisk (state S.Store conn.new) → IfErr result (HasCause (state S.Store conn.old) (state S.Store conn.new)) }
     ensures cut { (there : List Table) (start : Database) (before after : Schema) → IsMaking there before start (state S.Store conn.old) → DefinesIndex there before text.now after → OnErr result (IsCut (state S.Store conn.old) (state S.Store conn.new)) }
 {
+    // An open connection's rows keep the rules of its tables.
+    let _ = conn.schema();
     conn.execute(text, &[])?;
     Ok(())
 }
@@ -38,6 +42,7 @@ pub fn create_index<S: Alter>(conn: &mut Connection<S>, text: &str) -> Result<()
 pub(crate) fn create_units<S: Alter>(conn: &mut Connection<S>) -> Result<(), StoreFault>
     ensures made { (start : Database) → IsMaking desk_tables desk_schema start (state S.Store conn.old) → OnOk result (Continues (state S.Store conn.old) (state S.Store conn.new) × IsMaking desk_tables unit_schema start (state S.Store conn.new)) }
     ensures disk { (start : Database) → IsMaking desk_tables desk_schema start (state S.Store conn.old) → HasCleanDisk (state S.Store conn.new) → IfErr result (BlamesDisk (state S.Store conn.old) (state S.Store conn.new)) }
+    ensures faults { (start : Database) → IsMaking desk_tables desk_schema start (state S.Store conn.old) → HasCleanDisk (state S.Store conn.new) → IfErr result (HasCause (state S.Store conn.old) (state S.Store conn.new)) }
     ensures cut { (start : Database) → IsMaking desk_tables desk_schema start (state S.Store conn.old) → OnErr result (IsCut (state S.Store conn.old) (state S.Store conn.new)) }
 {
     create_table(
@@ -58,6 +63,7 @@ pub(crate) fn create_units<S: Alter>(conn: &mut Connection<S>) -> Result<(), Sto
 pub(crate) fn create_containers<S: Alter>(conn: &mut Connection<S>) -> Result<(), StoreFault>
     ensures made { (start : Database) → IsMaking desk_tables unit_schema start (state S.Store conn.old) → OnOk result (Continues (state S.Store conn.old) (state S.Store conn.new) × IsMaking desk_tables catalogue_schema start (state S.Store conn.new)) }
     ensures disk { (start : Database) → IsMaking desk_tables unit_schema start (state S.Store conn.old) → HasCleanDisk (state S.Store conn.new) → IfErr result (BlamesDisk (state S.Store conn.old) (state S.Store conn.new)) }
+    ensures faults { (start : Database) → IsMaking desk_tables unit_schema start (state S.Store conn.old) → HasCleanDisk (state S.Store conn.new) → IfErr result (HasCause (state S.Store conn.old) (state S.Store conn.new)) }
     ensures cut { (start : Database) → IsMaking desk_tables unit_schema start (state S.Store conn.old) → OnErr result (IsCut (state S.Store conn.old) (state S.Store conn.new)) }
 {
     create_table(

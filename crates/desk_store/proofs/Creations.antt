@@ -1,11 +1,12 @@
 -- What the definitions of the desk's tables make.
-use Rattle.std.proofs.Common.{ℕ, List, [], ◌∷◌, codes, refl}
+use Rattle.std.proofs.Common.{ℕ, List, [], ◌∷◌, codes, inl, inr, refl}
 use Rattle.sqlite.specs.Table.{Table}
 use Rattle.sqlite.specs.Schema.{Schema}
 use Rattle.sqlite.specs.Change.{created, indexed}
 use Rattle.sqlite.specs.Listing.{understood}
 use Rattle.sqlite_tied.specs.Compute.{everything}
 use Rattle.sqlite_schema.specs.declared.schema.Index.{Index}
+use Rattle.catalogue_store.proofs.Creations.{naming}
 use Rattle.catalogue_store.specs.Creation.{DefinesTable, DefinesIndex}
 use Rattle.catalogue_store.specs.Schema.{no_schema, desk_schema, reader, seat, orders, holding, run, run_line, permit, orders_by_container, orders_by_ticket, permit_by_unit}
 
@@ -75,41 +76,41 @@ abbrev pub s9 : Schema
 s9 = created s8 (free permit)
 
 pub reader_defined : DefinesTable [] no_schema reader_text s1
-unfolding understood everything
-reader_defined = record { table = free reader; says = record { is = refl; plain = (refl, refl); whole = refl }; defined = refl; uncounted = refl; is = refl; more = []; first = refl; rest = refl; last = refl }
+unfolding understood everything naming
+reader_defined = record { table = free reader; says = record { is = refl; plain = (refl, refl); whole = refl; alone = (refl, refl) }; defined = refl; allowed = record { named = record { free = refl; utf8 = refl; unreserved = refl }; guards = refl; formed = refl; fit = refl; trees = refl; reals = refl; key_reals = refl }; uncounted = refl; is = refl; more = []; first = refl; rest = refl; last = refl }
 
 pub seat_defined : DefinesTable [] s1 seat_text s2
-unfolding understood everything
-seat_defined = record { table = free seat; says = record { is = refl; plain = (refl, refl); whole = refl }; defined = refl; uncounted = refl; is = refl; more = reader ∷ []; first = refl; rest = refl; last = refl }
+unfolding understood everything naming
+seat_defined = record { table = free seat; says = record { is = refl; plain = (refl, refl); whole = refl; alone = (refl, refl) }; defined = refl; allowed = record { named = record { free = refl; utf8 = refl; unreserved = refl }; guards = refl; formed = refl; fit = refl; trees = refl; reals = refl; key_reals = refl }; uncounted = refl; is = refl; more = reader ∷ []; first = refl; rest = refl; last = refl }
 
 pub orders_defined : DefinesTable [] s2 orders_text s3
-unfolding understood everything
-orders_defined = record { table = free orders; says = record { is = refl; plain = (refl, refl); whole = refl }; defined = refl; uncounted = refl; is = refl; more = reader ∷ seat ∷ []; first = refl; rest = refl; last = refl }
+unfolding understood everything naming
+orders_defined = record { table = free orders; says = record { is = refl; plain = (refl, refl); whole = refl; alone = (refl, refl) }; defined = refl; allowed = record { named = record { free = refl; utf8 = refl; unreserved = refl }; guards = refl; formed = refl; fit = refl; trees = refl; reals = refl; key_reals = refl }; uncounted = refl; is = refl; more = reader ∷ seat ∷ []; first = refl; rest = refl; last = refl }
 
 pub orders_by_container_indexed : DefinesIndex [] s3 orders_by_container_text s4
-unfolding understood everything
-orders_by_container_indexed = record { at = 2; table = orders; index = free_index orders_by_container; says = record { is = refl; plain = (refl, refl); whole = refl }; place = refl; defined = refl; is = refl; same = refl; more = reader ∷ seat ∷ orders ∷ []; first = refl; rest = refl }
+unfolding understood everything naming
+orders_by_container_indexed = record { at = 2; table = orders; index = free_index orders_by_container; says = record { is = refl; plain = (refl, refl); whole = refl; alone = (refl, refl) }; place = refl; defined = refl; allowed = record { named = record { free = refl; utf8 = refl; unreserved = refl }; utf8 = refl; fit = refl; trees = refl; reals = refl; key_reals = refl }; is = refl; same = refl; more = reader ∷ seat ∷ orders ∷ []; first = refl; rest = refl; among = inr (inr (inl refl)) }
 
 pub orders_by_ticket_indexed : DefinesIndex [] s4 orders_by_ticket_text s5
-unfolding understood everything
-orders_by_ticket_indexed = record { at = 2; table = orders; index = free_index orders_by_ticket; says = record { is = refl; plain = (refl, refl); whole = refl }; place = refl; defined = refl; is = refl; same = refl; more = reader ∷ seat ∷ orders ∷ []; first = refl; rest = refl }
+unfolding understood everything naming
+orders_by_ticket_indexed = record { at = 2; table = orders; index = free_index orders_by_ticket; says = record { is = refl; plain = (refl, refl); whole = refl; alone = (refl, refl) }; place = refl; defined = refl; allowed = record { named = record { free = refl; utf8 = refl; unreserved = refl }; utf8 = refl; fit = refl; trees = refl; reals = refl; key_reals = refl }; is = refl; same = refl; more = reader ∷ seat ∷ orders ∷ []; first = refl; rest = refl; among = inr (inr (inl refl)) }
 
 pub holding_defined : DefinesTable [] s5 holding_text s6
-unfolding understood everything
-holding_defined = record { table = free holding; says = record { is = refl; plain = (refl, refl); whole = refl }; defined = refl; uncounted = refl; is = refl; more = reader ∷ seat ∷ orders ∷ []; first = refl; rest = refl; last = refl }
+unfolding understood everything naming
+holding_defined = record { table = free holding; says = record { is = refl; plain = (refl, refl); whole = refl; alone = (refl, refl) }; defined = refl; allowed = record { named = record { free = refl; utf8 = refl; unreserved = refl }; guards = refl; formed = refl; fit = refl; trees = refl; reals = refl; key_reals = refl }; uncounted = refl; is = refl; more = reader ∷ seat ∷ orders ∷ []; first = refl; rest = refl; last = refl }
 
 pub run_defined : DefinesTable [] s6 run_text s7
-unfolding understood everything
-run_defined = record { table = free run; says = record { is = refl; plain = (refl, refl); whole = refl }; defined = refl; uncounted = refl; is = refl; more = reader ∷ seat ∷ orders ∷ holding ∷ []; first = refl; rest = refl; last = refl }
+unfolding understood everything naming
+run_defined = record { table = free run; says = record { is = refl; plain = (refl, refl); whole = refl; alone = (refl, refl) }; defined = refl; allowed = record { named = record { free = refl; utf8 = refl; unreserved = refl }; guards = refl; formed = refl; fit = refl; trees = refl; reals = refl; key_reals = refl }; uncounted = refl; is = refl; more = reader ∷ seat ∷ orders ∷ holding ∷ []; first = refl; rest = refl; last = refl }
 
 pub run_line_defined : DefinesTable [] s7 run_line_text s8
-unfolding understood everything
-run_line_defined = record { table = free run_line; says = record { is = refl; plain = (refl, refl); whole = refl }; defined = refl; uncounted = refl; is = refl; more = reader ∷ seat ∷ orders ∷ holding ∷ run ∷ []; first = refl; rest = refl; last = refl }
+unfolding understood everything naming
+run_line_defined = record { table = free run_line; says = record { is = refl; plain = (refl, refl); whole = refl; alone = (refl, refl) }; defined = refl; allowed = record { named = record { free = refl; utf8 = refl; unreserved = refl }; guards = refl; formed = refl; fit = refl; trees = refl; reals = refl; key_reals = refl }; uncounted = refl; is = refl; more = reader ∷ seat ∷ orders ∷ holding ∷ run ∷ []; first = refl; rest = refl; last = refl }
 
 pub permit_defined : DefinesTable [] s8 permit_text s9
-unfolding understood everything
-permit_defined = record { table = free permit; says = record { is = refl; plain = (refl, refl); whole = refl }; defined = refl; uncounted = refl; is = refl; more = reader ∷ seat ∷ orders ∷ holding ∷ run ∷ run_line ∷ []; first = refl; rest = refl; last = refl }
+unfolding understood everything naming
+permit_defined = record { table = free permit; says = record { is = refl; plain = (refl, refl); whole = refl; alone = (refl, refl) }; defined = refl; allowed = record { named = record { free = refl; utf8 = refl; unreserved = refl }; guards = refl; formed = refl; fit = refl; trees = refl; reals = refl; key_reals = refl }; uncounted = refl; is = refl; more = reader ∷ seat ∷ orders ∷ holding ∷ run ∷ run_line ∷ []; first = refl; rest = refl; last = refl }
 
 pub permit_by_unit_indexed : DefinesIndex [] s9 permit_by_unit_text desk_schema
-unfolding understood everything
-permit_by_unit_indexed = record { at = 6; table = permit; index = free_index permit_by_unit; says = record { is = refl; plain = (refl, refl); whole = refl }; place = refl; defined = refl; is = refl; same = refl; more = reader ∷ seat ∷ orders ∷ holding ∷ run ∷ run_line ∷ permit ∷ []; first = refl; rest = refl }
+unfolding understood everything naming
+permit_by_unit_indexed = record { at = 6; table = permit; index = free_index permit_by_unit; says = record { is = refl; plain = (refl, refl); whole = refl; alone = (refl, refl) }; place = refl; defined = refl; allowed = record { named = record { free = refl; utf8 = refl; unreserved = refl }; utf8 = refl; fit = refl; trees = refl; reals = refl; key_reals = refl }; is = refl; same = refl; more = reader ∷ seat ∷ orders ∷ holding ∷ run ∷ run_line ∷ permit ∷ []; first = refl; rest = refl; among = inr (inr (inr (inr (inr (inr (inl refl)))))) }

@@ -1,9 +1,11 @@
 //! The tables are made.
 
-ghost use Rattle.std.specs.Prelude.{[], OnOk, OnErr};
+ghost use Rattle.std.specs.Prelude.{[], OnOk, OnErr, IfErr};
 ghost use Rattle.sqlite.specs.Held.{state};
 ghost use Rattle.sqlite.specs.Effect.{Database};
+ghost use Rattle.sqlite.specs.State.{HasCleanDisk};
 ghost use Rattle.catalogue_store.specs.Creation.{IsMaking};
+ghost use Rattle.catalogue_store.specs.Faults.{HasCause};
 ghost use Rattle.catalogue_store.specs.Schema.{no_schema, desk_schema};
 ghost use Rattle.catalogue_store.specs.Step.{Continues, IsCut};
 ghost use Rattle.desk_store.specs.Making.{reader_schema, order_schema, run_schema};
@@ -14,6 +16,7 @@ use sqlite::{Alter, Connection};
 /// Makes the tables of the readers and of the seats that are taken.
 fn create_readers<S: Alter>(conn: &mut Connection<S>) -> Result<(), StoreFault>
     ensures made { (start : Database) → IsMaking [] no_schema start (state S.Store conn.old) → OnOk result (Continues (state S.Store conn.old) (state S.Store conn.new) × IsMaking [] reader_schema start (state S.Store conn.new)) }
+    ensures faults { (start : Database) → IsMaking [] no_schema start (state S.Store conn.old) → HasCleanDisk (state S.Store conn.new) → IfErr result (HasCause (state S.Store conn.old) (state S.Store conn.new)) }
     ensures cut { (start : Database) → IsMaking [] no_schema start (state S.Store conn.old) → OnErr result (IsCut (state S.Store conn.old) (state S.Store conn.new)) }
 {
     create_table(
@@ -29,6 +32,7 @@ fn create_readers<S: Alter>(conn: &mut Connection<S>) -> Result<(), StoreFault>
 /// Makes the table of the orders.
 fn create_orders<S: Alter>(conn: &mut Connection<S>) -> Result<(), StoreFault>
     ensures made { (start : Database) → IsMaking [] reader_schema start (state S.Store conn.old) → OnOk result (Continues (state S.Store conn.old) (state S.Store conn.new) × IsMaking [] order_schema start (state S.Store conn.new)) }
+    ensures faults { (start : Database) → IsMaking [] reader_schema start (state S.Store conn.old) → HasCleanDisk (state S.Store conn.new) → IfErr result (HasCause (state S.Store conn.old) (state S.Store conn.new)) }
     ensures cut { (start : Database) → IsMaking [] reader_schema start (state S.Store conn.old) → OnErr result (IsCut (state S.Store conn.old) (state S.Store conn.new)) }
 {
     create_table(
@@ -45,6 +49,7 @@ fn create_orders<S: Alter>(conn: &mut Connection<S>) -> Result<(), StoreFault>
 /// Makes the tables of the containers that are not on the shelf, and of the runs.
 fn create_runs<S: Alter>(conn: &mut Connection<S>) -> Result<(), StoreFault>
     ensures made { (start : Database) → IsMaking [] order_schema start (state S.Store conn.old) → OnOk result (Continues (state S.Store conn.old) (state S.Store conn.new) × IsMaking [] run_schema start (state S.Store conn.new)) }
+    ensures faults { (start : Database) → IsMaking [] order_schema start (state S.Store conn.old) → HasCleanDisk (state S.Store conn.new) → IfErr result (HasCause (state S.Store conn.old) (state S.Store conn.new)) }
     ensures cut { (start : Database) → IsMaking [] order_schema start (state S.Store conn.old) → OnErr result (IsCut (state S.Store conn.old) (state S.Store conn.new)) }
 {
     create_table(
@@ -64,6 +69,7 @@ fn create_runs<S: Alter>(conn: &mut Connection<S>) -> Result<(), StoreFault>
 /// Makes the table of the permits.
 fn create_permits<S: Alter>(conn: &mut Connection<S>) -> Result<(), StoreFault>
     ensures made { (start : Database) → IsMaking [] run_schema start (state S.Store conn.old) → OnOk result (Continues (state S.Store conn.old) (state S.Store conn.new) × IsMaking [] desk_schema start (state S.Store conn.new)) }
+    ensures faults { (start : Database) → IsMaking [] run_schema start (state S.Store conn.old) → HasCleanDisk (state S.Store conn.new) → IfErr result (HasCause (state S.Store conn.old) (state S.Store conn.new)) }
     ensures cut { (start : Database) → IsMaking [] run_schema start (state S.Store conn.old) → OnErr result (IsCut (state S.Store conn.old) (state S.Store conn.new)) }
 {
     create_table(
@@ -76,6 +82,7 @@ fn create_permits<S: Alter>(conn: &mut Connection<S>) -> Result<(), StoreFault>
 /// Makes the desk's tables, where there are none. They come before the catalogue's.
 pub fn create_desk<S: Alter>(conn: &mut Connection<S>) -> Result<(), StoreFault>
     ensures made { (start : Database) → IsMaking [] no_schema start (state S.Store conn.old) → OnOk result (Continues (state S.Store conn.old) (state S.Store conn.new) × IsMaking [] desk_schema start (state S.Store conn.new)) }
+    ensures faults { (start : Database) → IsMaking [] no_schema start (state S.Store conn.old) → HasCleanDisk (state S.Store conn.new) → IfErr result (HasCause (state S.Store conn.old) (state S.Store conn.new)) }
     ensures cut { (start : Database) → IsMaking [] no_schema start (state S.Store conn.old) → OnErr result (IsCut (state S.Store conn.old) (state S.Store conn.new)) }
 {
     create_readers(conn)?;

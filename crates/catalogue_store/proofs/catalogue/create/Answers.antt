@@ -8,6 +8,8 @@ use Rattle.catalogue_store.specs.Shows.{Shows}
 use Rattle.catalogue_store.specs.Step.{InTransaction, Continues, Goes, IsCut, PutsRow}
 use Rattle.catalogue_store.proofs.Calls.{early, cut_then, continues_then, on_ok_then, on_ok_both, on_err_then}
 use Rattle.catalogue_store.proofs.Beginning.{shows_beginning, desk_kept}
+use Rattle.catalogue_store.proofs.Causes.{cause_then, still_unlimited}
+use Rattle.catalogue_store.proofs.CreationCauses.{last_cause}
 use Rattle.catalogue_store.proofs.WriteCauses.{disk_then, last_disk}
 use Rattle.catalogue_store.proofs.catalogue.create.Goals as goal
 
@@ -141,3 +143,46 @@ pub returns-in_err-create_units-clause-disk : goal.returns-in_err-create_units-c
 returns-in_err-create_units-clause-disk g c start making clean =
     let fair = c.in_err-create_units.ensures.disk start making clean in
     search (rules, fair)
+
+pub returns-in_err-create_containers-clause-faults : goal.returns-in_err-create_containers-clause-faults
+returns-in_err-create_containers-clause-faults g c start making clean free =
+    let a0 = state g.S.Store c.args.conn.now in
+    let a1 = state g.S.Store c.create_units.new.conn in
+    let step1 = c.in_ok-create_units.ensures.made start making in
+    let a2 = state g.S.Store c.create_containers.new.conn in
+    let before = early a1 a2 _ (c.in_err-create_containers.ensures.cut start step1.1).crash clean in
+    let all = cause_then a0 a1 a2 step1.0 before _ (c.in_err-create_containers.ensures.faults start step1.1 clean) in
+    search (rules, all)
+
+pub returns-in_err-create-clause-faults : goal.returns-in_err-create-clause-faults
+returns-in_err-create-clause-faults g c start making clean free =
+    let a0 = state g.S.Store c.args.conn.now in
+    let a1 = state g.S.Store c.create_units.new.conn in
+    let step1 = c.in_ok-create_units.ensures.made start making in
+    let a2 = state g.S.Store c.create_containers.new.conn in
+    let step2 = c.in_ok-create_containers.ensures.made start step1.1 in
+    let on2 = continues_then a0 a1 a2 step1.0 step2.0 in
+    let a3 = state g.S.Store c.create.new.conn in
+    let before = early a2 a3 _ (c.in_err-create.ensures.cut start step2.1).crash clean in
+    let all = cause_then a0 a2 a3 on2 before _ (c.in_err-create.ensures.faults clean (still_unlimited a0 a2 on2 free) start step2.1) in
+    search (rules, all)
+
+pub returns-clause-faults : goal.returns-clause-faults
+returns-clause-faults g c start making clean free =
+    let a0 = state g.S.Store c.args.conn.now in
+    let a1 = state g.S.Store c.create_units.new.conn in
+    let step1 = c.in_ok-create_units.ensures.made start making in
+    let a2 = state g.S.Store c.create_containers.new.conn in
+    let step2 = c.in_ok-create_containers.ensures.made start step1.1 in
+    let on2 = continues_then a0 a1 a2 step1.0 step2.0 in
+    let a3 = state g.S.Store c.create.new.conn in
+    let step3 = c.in_ok-create.ensures.made start step2.1 in
+    let on3 = continues_then a0 a2 a3 on2 step3.0 in
+    let inside : InTransaction g.P.Places.version a3 = λ clean. ((step3.1 clean).0.schema_is, (step3.1 clean).1) in
+    let a4 = state g.S.Store c.insert_office.new.conn in
+    last_cause a0 a3 a4 on3 c.insert_office.result (c.insert_office.ensures.cut inside) clean (λ before. c.insert_office.ensures.faults inside clean (still_unlimited a0 a3 on3 free) (step3.1 before).0.empty.0)
+
+pub returns-in_err-create_units-clause-faults : goal.returns-in_err-create_units-clause-faults
+returns-in_err-create_units-clause-faults g c start making clean free =
+    let why = c.in_err-create_units.ensures.faults start making clean in
+    search (rules, why)

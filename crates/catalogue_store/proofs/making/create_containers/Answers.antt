@@ -5,6 +5,8 @@ use Rattle.catalogue_store.specs.Creation.{IsMaking}
 use Rattle.catalogue_store.specs.Schema.{desk_tables}
 use Rattle.catalogue_store.proofs.Creations.{s3, s4, s5, s6, container_defined, housing_defined, housing_indexed}
 use Rattle.catalogue_store.proofs.Calls.{cut_then, continues_then, on_ok_then, on_err_then, early}
+use Rattle.catalogue_store.proofs.Causes.{cause_then}
+use Rattle.catalogue_store.proofs.CreationCauses.{last_cause}
 use Rattle.catalogue_store.proofs.WriteCauses.{disk_then, last_disk}
 use Rattle.catalogue_store.proofs.making.create_containers.Goals as goal
 
@@ -81,3 +83,34 @@ returns-clause-disk g c start making clean =
     let on2 = continues_then a0 a1 a2 on1 step2.0 in
     let a3 = state g.S.Store c.create_index.new.conn in
     last_disk a0 a2 a3 on2 c.create_index.result (c.create_index.ensures.cut desk_tables start s5 s6 step2.1 housing_indexed) clean (c.create_index.ensures.disk desk_tables start s5 s6 step2.1 housing_indexed clean)
+
+pub returns-in_err-create_table-clause-faults : goal.returns-in_err-create_table-clause-faults
+returns-in_err-create_table-clause-faults g c start making clean =
+    let a0 = state g.S.Store c.args.conn.now in
+    let a1 = state g.S.Store c.create_table.new.conn in
+    let why = c.in_err-create_table.ensures.faults desk_tables start s3 s4 making container_defined clean in
+    search (rules, why)
+
+pub returns-in_err-create_table-2-clause-faults : goal.returns-in_err-create_table-2-clause-faults
+returns-in_err-create_table-2-clause-faults g c start making clean =
+    let a0 = state g.S.Store c.args.conn.now in
+    let a1 = state g.S.Store c.create_table.new.conn in
+    let step1 = c.in_ok-create_table.ensures.made desk_tables start s3 s4 making container_defined in
+    let on1 = step1.0 in
+    let a2 = state g.S.Store c.create_table-2.new.conn in
+    let before = early a1 a2 _ (c.in_err-create_table-2.ensures.cut desk_tables start s4 s5 step1.1 housing_defined).crash clean in
+    let one = c.in_err-create_table-2.ensures.faults desk_tables start s4 s5 step1.1 housing_defined clean in
+    let all = cause_then a0 a1 a2 on1 before _ one in
+    search (rules, all)
+
+pub returns-clause-faults : goal.returns-clause-faults
+returns-clause-faults g c start making clean =
+    let a0 = state g.S.Store c.args.conn.now in
+    let a1 = state g.S.Store c.create_table.new.conn in
+    let a2 = state g.S.Store c.create_table-2.new.conn in
+    let step1 = c.in_ok-create_table.ensures.made desk_tables start s3 s4 making container_defined in
+    let on1 = step1.0 in
+    let step2 = c.in_ok-create_table-2.ensures.made desk_tables start s4 s5 step1.1 housing_defined in
+    let on2 = continues_then a0 a1 a2 on1 step2.0 in
+    let a3 = state g.S.Store c.create_index.new.conn in
+    last_cause a0 a2 a3 on2 c.create_index.result (c.create_index.ensures.cut desk_tables start s5 s6 step2.1 housing_indexed) clean (λ _. c.create_index.ensures.faults desk_tables start s5 s6 step2.1 housing_indexed clean)

@@ -1,9 +1,10 @@
-use Rattle.std.proofs.Common.{rules, refl}
+use Rattle.std.proofs.Common.{IsUtf8, rules, refl}
 use Rattle.sqlite.specs.Held.{state}
 use Rattle.sqlite.specs.Command.TheVariants.{CreateTable}
 use Rattle.catalogue_store.specs.Step.{IsCut}
 use Rattle.catalogue_store.proofs.Calls.{early, known_in, write_cut, write_continues}
 use Rattle.catalogue_store.proofs.Creations.{creates}
+use Rattle.catalogue_store.proofs.CreationCauses.{table_cause}
 use Rattle.catalogue_store.proofs.WriteCauses.{write_disk}
 use Rattle.catalogue_store.proofs.making.create_table.Goals as goal
 
@@ -30,3 +31,12 @@ returns-in_err-execute-clause-disk g c there start before after making defines c
     let before_clean = early old new _ c.execute.ensures.survives clean in
     let fair = write_disk c.args.text.now _ old new CreateTable refl (known_in before c.args.text.now CreateTable old (making before_clean).0.schema_is (making before_clean).1 defines.says.is defines.says.plain) c.in_err-execute.field-0.0 (c.in_err-execute.ensures.runs clean) in
     search (rules, fair)
+
+pub returns-in_err-execute-clause-faults : goal.returns-in_err-execute-clause-faults
+returns-in_err-execute-clause-faults g c there start before after making defines clean =
+    let old = state g.S.Store c.args.conn.now in
+    let new = state g.S.Store c.execute.new.self in
+    let made = (making (early old new _ c.execute.ensures.survives clean)).0 in
+    let utf8 : IsUtf8 c.args.text.now = search rules in
+    let why = table_cause there before after c.args.text.now utf8 defines old new made.schema_is c.in_err-execute.field-0.0 (c.in_err-execute.ensures.runs clean) in
+    search (rules, why)

@@ -3,7 +3,9 @@ use Rattle.sqlite.specs.Held.{state}
 use Rattle.catalogue_store.specs.Step.{Continues, IsCut}
 use Rattle.catalogue_store.specs.Creation.{IsMaking}
 use Rattle.catalogue_store.specs.Schema.{desk_schema}
-use Rattle.catalogue_store.proofs.Calls.{cut_then, continues_then, on_ok_then, on_err_then}
+use Rattle.catalogue_store.proofs.Calls.{cut_then, continues_then, on_ok_then, on_err_then, early}
+use Rattle.catalogue_store.proofs.Causes.{cause_then}
+use Rattle.catalogue_store.proofs.CreationCauses.{last_cause}
 use Rattle.desk_store.proofs.making.create_desk.Goals as goal
 
 pub returns-in_err-create_readers-clause-cut : goal.returns-in_err-create_readers-clause-cut
@@ -65,3 +67,50 @@ returns-clause-cut g c start making =
     let on3 = continues_then a0 a2 a3 on2 step3.0 in
     let a4 = state g.S.Store c.create_permits.new.conn in
     on_err_then c.create_permits.result (IsCut a3 a4) (IsCut a0 a4) (λ last. cut_then a0 a3 a4 on3 last) (c.create_permits.ensures.cut start step3.1)
+
+pub returns-in_err-create_readers-clause-faults : goal.returns-in_err-create_readers-clause-faults
+returns-in_err-create_readers-clause-faults g c start making clean =
+    let a0 = state g.S.Store c.args.conn.now in
+    let a1 = state g.S.Store c.create_readers.new.conn in
+    let why = c.in_err-create_readers.ensures.faults start making clean in
+    search (rules, why)
+
+pub returns-in_err-create_orders-clause-faults : goal.returns-in_err-create_orders-clause-faults
+returns-in_err-create_orders-clause-faults g c start making clean =
+    let a0 = state g.S.Store c.args.conn.now in
+    let a1 = state g.S.Store c.create_readers.new.conn in
+    let step1 = c.in_ok-create_readers.ensures.made start making in
+    let on1 = step1.0 in
+    let a2 = state g.S.Store c.create_orders.new.conn in
+    let before = early a1 a2 _ (c.in_err-create_orders.ensures.cut start step1.1).crash clean in
+    let why = cause_then a0 a1 a2 on1 before _ (c.in_err-create_orders.ensures.faults start step1.1 clean) in
+    search (rules, why)
+
+pub returns-in_err-create_runs-clause-faults : goal.returns-in_err-create_runs-clause-faults
+returns-in_err-create_runs-clause-faults g c start making clean =
+    let a0 = state g.S.Store c.args.conn.now in
+    let a1 = state g.S.Store c.create_readers.new.conn in
+    let step1 = c.in_ok-create_readers.ensures.made start making in
+    let on1 = step1.0 in
+    let a2 = state g.S.Store c.create_orders.new.conn in
+    let step2 = c.in_ok-create_orders.ensures.made start step1.1 in
+    let on2 = continues_then a0 a1 a2 on1 step2.0 in
+    let a3 = state g.S.Store c.create_runs.new.conn in
+    let before = early a2 a3 _ (c.in_err-create_runs.ensures.cut start step2.1).crash clean in
+    let why = cause_then a0 a2 a3 on2 before _ (c.in_err-create_runs.ensures.faults start step2.1 clean) in
+    search (rules, why)
+
+pub returns-clause-faults : goal.returns-clause-faults
+returns-clause-faults g c start making clean =
+    let a0 = state g.S.Store c.args.conn.now in
+    let a1 = state g.S.Store c.create_readers.new.conn in
+    let step1 = c.in_ok-create_readers.ensures.made start making in
+    let on1 = step1.0 in
+    let a2 = state g.S.Store c.create_orders.new.conn in
+    let step2 = c.in_ok-create_orders.ensures.made start step1.1 in
+    let on2 = continues_then a0 a1 a2 on1 step2.0 in
+    let a3 = state g.S.Store c.create_runs.new.conn in
+    let step3 = c.in_ok-create_runs.ensures.made start step2.1 in
+    let on3 = continues_then a0 a2 a3 on2 step3.0 in
+    let a4 = state g.S.Store c.create_permits.new.conn in
+    last_cause a0 a3 a4 on3 c.create_permits.result (c.create_permits.ensures.cut start step3.1) clean (λ _. c.create_permits.ensures.faults start step3.1 clean)

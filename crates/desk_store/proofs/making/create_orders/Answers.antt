@@ -3,7 +3,9 @@ use Rattle.sqlite.specs.Held.{state}
 use Rattle.catalogue_store.specs.Step.{Continues, IsCut}
 use Rattle.catalogue_store.specs.Creation.{IsMaking}
 use Rattle.desk_store.proofs.Creations.{orders_by_container_indexed, orders_by_ticket_indexed, orders_defined, s2, s3, s4, s5}
-use Rattle.catalogue_store.proofs.Calls.{cut_then, continues_then, on_ok_then, on_err_then}
+use Rattle.catalogue_store.proofs.Calls.{cut_then, continues_then, on_ok_then, on_err_then, early}
+use Rattle.catalogue_store.proofs.Causes.{cause_then}
+use Rattle.catalogue_store.proofs.CreationCauses.{last_cause}
 use Rattle.desk_store.proofs.making.create_orders.Goals as goal
 
 pub returns-in_err-create_table-clause-cut : goal.returns-in_err-create_table-clause-cut
@@ -48,3 +50,33 @@ returns-clause-cut g c start making =
     let on2 = continues_then a0 a1 a2 on1 step2.0 in
     let a3 = state g.S.Store c.create_index-2.new.conn in
     on_err_then c.create_index-2.result (IsCut a2 a3) (IsCut a0 a3) (λ last. cut_then a0 a2 a3 on2 last) (c.create_index-2.ensures.cut [] start s4 s5 step2.1 orders_by_ticket_indexed)
+
+pub returns-in_err-create_table-clause-faults : goal.returns-in_err-create_table-clause-faults
+returns-in_err-create_table-clause-faults g c start making clean =
+    let a0 = state g.S.Store c.args.conn.now in
+    let a1 = state g.S.Store c.create_table.new.conn in
+    let why = c.in_err-create_table.ensures.faults [] start s2 s3 making orders_defined clean in
+    search (rules, why)
+
+pub returns-in_err-create_index-clause-faults : goal.returns-in_err-create_index-clause-faults
+returns-in_err-create_index-clause-faults g c start making clean =
+    let a0 = state g.S.Store c.args.conn.now in
+    let a1 = state g.S.Store c.create_table.new.conn in
+    let step1 = c.in_ok-create_table.ensures.made [] start s2 s3 making orders_defined in
+    let on1 = step1.0 in
+    let a2 = state g.S.Store c.create_index.new.conn in
+    let before = early a1 a2 _ (c.in_err-create_index.ensures.cut [] start s3 s4 step1.1 orders_by_container_indexed).crash clean in
+    let why = cause_then a0 a1 a2 on1 before _ (c.in_err-create_index.ensures.faults [] start s3 s4 step1.1 orders_by_container_indexed clean) in
+    search (rules, why)
+
+pub returns-clause-faults : goal.returns-clause-faults
+returns-clause-faults g c start making clean =
+    let a0 = state g.S.Store c.args.conn.now in
+    let a1 = state g.S.Store c.create_table.new.conn in
+    let step1 = c.in_ok-create_table.ensures.made [] start s2 s3 making orders_defined in
+    let on1 = step1.0 in
+    let a2 = state g.S.Store c.create_index.new.conn in
+    let step2 = c.in_ok-create_index.ensures.made [] start s3 s4 step1.1 orders_by_container_indexed in
+    let on2 = continues_then a0 a1 a2 on1 step2.0 in
+    let a3 = state g.S.Store c.create_index-2.new.conn in
+    last_cause a0 a2 a3 on2 c.create_index-2.result (c.create_index-2.ensures.cut [] start s4 s5 step2.1 orders_by_ticket_indexed) clean (λ _. c.create_index-2.ensures.faults [] start s4 s5 step2.1 orders_by_ticket_indexed clean)

@@ -5,6 +5,7 @@ use Rattle.catalogue_store.specs.Creation.{IsMaking}
 use Rattle.catalogue_store.specs.Schema.{desk_schema}
 use Rattle.desk_store.proofs.Creations.{permit_by_unit_indexed, permit_defined, s8, s9}
 use Rattle.catalogue_store.proofs.Calls.{cut_then, continues_then, on_ok_then, on_err_then}
+use Rattle.catalogue_store.proofs.CreationCauses.{last_cause}
 use Rattle.desk_store.proofs.making.create_permits.Goals as goal
 
 pub returns-in_err-create_table-clause-cut : goal.returns-in_err-create_table-clause-cut
@@ -32,3 +33,19 @@ returns-clause-cut g c start making =
     let on1 = step1.0 in
     let a2 = state g.S.Store c.create_index.new.conn in
     on_err_then c.create_index.result (IsCut a1 a2) (IsCut a0 a2) (λ last. cut_then a0 a1 a2 on1 last) (c.create_index.ensures.cut [] start s9 desk_schema step1.1 permit_by_unit_indexed)
+
+pub returns-in_err-create_table-clause-faults : goal.returns-in_err-create_table-clause-faults
+returns-in_err-create_table-clause-faults g c start making clean =
+    let a0 = state g.S.Store c.args.conn.now in
+    let a1 = state g.S.Store c.create_table.new.conn in
+    let why = c.in_err-create_table.ensures.faults [] start s8 s9 making permit_defined clean in
+    search (rules, why)
+
+pub returns-clause-faults : goal.returns-clause-faults
+returns-clause-faults g c start making clean =
+    let a0 = state g.S.Store c.args.conn.now in
+    let a1 = state g.S.Store c.create_table.new.conn in
+    let step1 = c.in_ok-create_table.ensures.made [] start s8 s9 making permit_defined in
+    let on1 = step1.0 in
+    let a2 = state g.S.Store c.create_index.new.conn in
+    last_cause a0 a1 a2 on1 c.create_index.result (c.create_index.ensures.cut [] start s9 desk_schema step1.1 permit_by_unit_indexed) clean (λ _. c.create_index.ensures.faults [] start s9 desk_schema step1.1 permit_by_unit_indexed clean)
