@@ -64,3 +64,6 @@ pub mod Descending
 pub mod MarkForests
 pub mod Attachments
 pub mod OpenLemmas
+pub mod LaterCauses
+pub mod BoundLemmas
+pub mod FoundLinks
