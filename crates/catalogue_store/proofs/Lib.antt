@@ -64,6 +64,7 @@ pub mod Descending
 pub mod MarkForests
 pub mod Attachments
 pub mod OpenLemmas
-pub mod LaterCauses
 pub mod BoundLemmas
+pub mod LinkReadCauses
+pub mod LaterCauses
 pub mod FoundLinks

@@ -1,6 +1,6 @@
 //! Rows that a query answers, read one by one.
 
-ghost use Rattle.std.specs.Prelude.{◌≡◌, ℕ, pos, List, [], ◌∷◌, map, slice_index_or, IfOk, IfErr};
+ghost use Rattle.std.specs.Prelude.{◌≡◌, ◌<◌, ◌^◌, ℕ, pos, List, [], ◌∷◌, map, slice_index_or, IfOk, IfErr};
 ghost use Rattle.std.specs.List.{AllByRecursion};
 ghost use Rattle.sqlite.specs.declared.types.Value.TheVariants.{Int};
 
@@ -227,7 +227,8 @@ pub(crate) fn only_number(numbers: &[u64]) -> Result<u64, StoreFault>
 
 /// The number in the first row, or 0 where there is none.
 pub(crate) fn first_or_zero(rows: &[Row]) -> Result<u32, StoreFault>
-    ensures { (xs : List ℕ) → rows.now ≡ map (λ n. Int (pos n) ∷ []) xs → IfOk result (λ n. n ≡ slice_index_or xs 0 0) }
+    ensures value { (xs : List ℕ) → rows.now ≡ map (λ n. Int (pos n) ∷ []) xs → IfOk result (λ n. n ≡ slice_index_or xs 0 0) }
+    ensures faults { (xs : List ℕ) → rows.now ≡ map (λ n. Int (pos n) ∷ []) xs → AllByRecursion (λ n. n < 2 ^ 32) xs → IfErr result (λ e. e ≡ StoreFault.Memory) }
 {
     match rows.first() {
         Some(row) => Ok(row.get(0)?),
