@@ -75,3 +75,5 @@ pub mod UnitFaults
 pub mod BoundLemmas
 pub mod LinkReadCauses
 pub mod CreationCauses
+pub mod LaterCauses
+pub mod FoundLinks
