@@ -67,3 +67,5 @@ pub mod OpenLemmas
 pub mod LaterCauses
 pub mod BoundLemmas
 pub mod FoundLinks
+pub mod Untold
+pub mod BoxCauses
