@@ -25,7 +25,7 @@ use Rattle.catalogue_store.specs.Rows.{unit_row, ElementRow, HousingRow, counted
 use Rattle.catalogue_store.specs.Put.{put_by}
 use Rattle.catalogue_store.specs.Shows.{texts_from, element_number}
 use Rattle.catalogue_store.specs.Units.{Unit, has_id}
-use Rattle.catalogue_store.proofs.BoxNumbers.{all_apart, all_known, box_itself, one_apart, still_known, unknown_unnumbered, same_box}
+use Rattle.catalogue_store.proofs.BoxNumbers.{all_apart, all_known, box_itself, still_known, unknown_unnumbered, same_box}
 use Rattle.catalogue_store.proofs.Finding.{itself}
 use Rattle.catalogue_store.proofs.HousingLemmas.{cells_in, same_cells}
 use Rattle.catalogue_store.proofs.Puts.{put_rows}
@@ -36,22 +36,22 @@ use Rattle.catalogue_store.proofs.TextReads.{other_number}
 -- ---- rows
 
 -- what fails for each fails for all
-pub none_passes : {A : Type 0} (p : A → Bool) (xs : List A) → AllByRecursion (λ x. p x ≡ false) xs → list_any p xs ≡ false
+none_passes : {A : Type 0} (p : A → Bool) (xs : List A) → AllByRecursion (λ x. p x ≡ false) xs → list_any p xs ≡ false
 none_passes p [] all = refl
 none_passes p (x ∷ xs) all = or_from (p x) (list_any p xs) all.0 (none_passes p xs all.1)
 
 -- and what fails for all fails for each
-pub each_fails : {A : Type 0} (p : A → Bool) (xs : List A) → list_any p xs ≡ false → AllByRecursion (λ x. p x ≡ false) xs
+each_fails : {A : Type 0} (p : A → Bool) (xs : List A) → list_any p xs ≡ false → AllByRecursion (λ x. p x ≡ false) xs
 each_fails p [] none = tt
 each_fails p (x ∷ xs) none = let parts = or_parts (p x) (list_any p xs) none in (parts.0, each_fails p xs parts.1)
 
 -- a unit that had no row has none for a cell that was not told
-pub none_told : {A C : Type 0} (unit_of : A → ℕ) (cell_of : A → C) (n : ℕ) (q : C → Bool) (cells : List C) (xs ys : List A) → WithCells unit_of cell_of n cells xs ys
+none_told : {A C : Type 0} (unit_of : A → ℕ) (cell_of : A → C) (n : ℕ) (q : C → Bool) (cells : List C) (xs ys : List A) → WithCells unit_of cell_of n cells xs ys
     → list_any (λ a. nat_eq n (unit_of a)) xs ≡ false → AllByRecursion (λ c. q c ≡ false) cells → list_any (λ a. nat_eq n (unit_of a) && q (cell_of a)) ys ≡ false
 none_told {A} unit_of cell_of n q cells xs ys w none apart =
     let test = λ (a : A). nat_eq n (unit_of a) && q (cell_of a) in
     let new : list_any test w.more ≡ false = none_passes test w.more (all_from (λ a. test a ≡ false) w.more
-        (λ a h. and_right (nat_eq n (unit_of a)) (q (cell_of a)) (all_has (λ c. q c ≡ false) cells (cell_of a) apart (had cells (map cell_of w.more) w.tell (cell_of a) (has_map cell_of w.more a h))))) in
+    (λ a h. and_right (nat_eq n (unit_of a)) (q (cell_of a)) (all_has (λ c. q c ≡ false) cells (cell_of a) apart (had cells (map cell_of w.more) w.tell (cell_of a) (has_map cell_of w.more a h))))) in
     let old : list_any test xs ≡ false = none_passes test xs (all_weaker (λ a. nat_eq n (unit_of a) ≡ false) (λ a. test a ≡ false) (λ a h. rw h refl) xs (each_fails (λ a. nat_eq n (unit_of a)) xs none)) in
     sym (list_any-IsPermutation test (w.more ++ xs) ys w.are) ∙ list_any-append test w.more xs ∙ or_from (list_any test w.more) (list_any test xs) new old
 
@@ -71,7 +71,7 @@ text_free unit i texts xs ys low w none =
 -- ---- containers
 
 -- a container that is not the unit's has another place
-pub place_free : (k n : ℕ) (cs seen : List BoxKey) → k + length seen ≤ n
+place_free : (k n : ℕ) (cs seen : List BoxKey) → k + length seen ≤ n
     → AllByRecursion (λ (c : ℕ × ℕ). nat_eq n c.0 ≡ false) (map (λ (box : ℕ × BoxKey). (let c : ℕ × ℕ = (box.0, box_number cs box.1) in c)) (counted_from k seen))
 place_free k n cs [] low = tt
 place_free k n cs (b ∷ seen) low = (ne_eqb n k (λ same. omega (arith, low, same)), place_free (k + 1) n cs seen (omega (arith, low)))
@@ -92,9 +92,9 @@ one_less None n h = absurd (let e : ◌≡◌ {A = Option ℕ} None (Some n) = h
 one_less (Some m) n h = (m, refl, let e : Some (suc m) ≡ Some n = h in cc)
 
 -- two containers of one number are one
-pub one_number : (cs : List BoxKey) (a b : BoxKey) (n : ℕ) → number_in cs a ≡ Some n → number_in cs b ≡ Some n → is_same a b ≡ true
+one_number : (cs : List BoxKey) (a b : BoxKey) (n : ℕ) → number_in cs a ≡ Some n → number_in cs b ≡ Some n → is_same a b ≡ true
 one_number [] a b n p q = absurd (let e : ◌≡◌ {A = Option ℕ} None (Some n) = p in cc)
-one_number (c ∷ cs) a b n p q = at (is_same c a) (is_same c b) refl refl p q
+one_number (c ∷ cs) a b n p q = at (is_same c a) (is_same c b) refl refl p q (one_number cs a b)
   where
     first : (d : BoxKey) → Some 1 ≡ Some n → option_map suc (number_in cs d) ≡ Some n → ⊥
     first d one more =
@@ -102,14 +102,14 @@ one_number (c ∷ cs) a b n p q = at (is_same c a) (is_same c b) refl refl p q
         let is : n ≡ 1 = cc in
         not_nought cs d (it.1 ∙ ap Some (omega (arith, is, it.2)))
 
-    at : (x y : Bool) → is_same c a ≡ x → is_same c b ≡ y → cond x (Some 1) (option_map suc (number_in cs a)) ≡ Some n → cond y (Some 1) (option_map suc (number_in cs b)) ≡ Some n → is_same a b ≡ true
-    at true true e f p q = ap (λ d. is_same d b) (sym (same_box c a e)) ∙ f
-    at true false e f p q = absurd (first b p q)
-    at false true e f p q = absurd (first a q p)
-    at false false e f p q =
+    at : (x y : Bool) → is_same c a ≡ x → is_same c b ≡ y → cond x (Some 1) (option_map suc (number_in cs a)) ≡ Some n → cond y (Some 1) (option_map suc (number_in cs b)) ≡ Some n → ((m : ℕ) → number_in cs a ≡ Some m → number_in cs b ≡ Some m → is_same a b ≡ true) → is_same a b ≡ true
+    at true true e f p q later = ap (λ d. is_same d b) (sym (same_box c a e)) ∙ f
+    at true false e f p q later = absurd (first b p q)
+    at false true e f p q later = absurd (first a q p)
+    at false false e f p q later =
         let x = one_less (number_in cs a) n p in
         let y = one_less (number_in cs b) n q in
-        one_number cs a b x.0 x.1 (y.1 ∙ ap Some (omega (arith, x.2, y.2)))
+        later x.0 x.1 (y.1 ∙ ap Some (omega (arith, x.2, y.2)))
 
 numbered : (cs : List BoxKey) (b : BoxKey) → list_any (is_same b) cs ≡ true → (n : ℕ) × (number_in cs b ≡ Some n)
 numbered cs b there = at (number_in cs b) refl
@@ -124,8 +124,8 @@ other_box cs a b p q differs =
     let x = numbered cs a p in
     let y = numbered cs b q in
     ne_eqb (box_number cs a) (box_number cs b) (λ same.
-      let is : y.0 ≡ x.0 = sym (ap (λ o. unwrap_or o 0) y.1) ∙ sym same ∙ ap (λ o. unwrap_or o 0) x.1 in
-      false≢true (sym differs ∙ one_number cs a b x.0 x.1 (y.1 ∙ ap Some is)))
+    let is : y.0 ≡ x.0 = sym (ap (λ o. unwrap_or o 0) y.1) ∙ sym same ∙ ap (λ o. unwrap_or o 0) x.1 in
+    false≢true (sym differs ∙ one_number cs a b x.0 x.1 (y.1 ∙ ap Some is)))
 
 -- a container that was not told has another number than those that were
 number_free : (k : ℕ) (cs : List BoxKey) (b : BoxKey) (seen : List BoxKey) → list_any (is_same b) cs ≡ true → list_all (λ c. list_any (is_same c) cs) seen ≡ true → list_any (is_same b) seen ≡ false

@@ -124,15 +124,15 @@ returns-clause-shows g c clean o k it knows next there =
     c.set_next_unit.ensures.goes
 
 pub returns-in_err-insert_unit-clause-faults : goal.returns-in_err-insert_unit-clause-faults
-returns-in_err-insert_unit-clause-faults g c clean free o k it kept knows there new_id new_source once =
+returns-in_err-insert_unit-clause-faults g c clean free o k it kept knows there new_id new_source once long =
     let u = unit_of c.args.unit.now in
     let at = it.catalogue.units in
     let why = c.in_err-insert_unit.ensures.faults clean free at.units at.rows (sym (list_any-IsPermutation (has_id u.id) (nodes k.forest) at.units at.are) ∙ new_id)
-        (sym (list_any-IsPermutation (is_from u.source u.legacy) (nodes k.forest) at.units at.are) ∙ new_source) in
+    (sym (list_any-IsPermutation (is_from u.source u.legacy) (nodes k.forest) at.units at.are) ∙ new_source) in
     search (rules, why)
 
 pub returns-in_err-add-clause-faults : goal.returns-in_err-add-clause-faults
-returns-in_err-add-clause-faults g c clean free o k it kept knows there new_id new_source once =
+returns-in_err-add-clause-faults g c clean free o k it kept knows there new_id new_source once long =
     let a = state g.S.Store c.args.conn.now in
     let b = state g.S.Store c.insert_unit.new.conn in
     let d = state g.S.Store c.add.new.conn in
@@ -143,12 +143,12 @@ returns-in_err-add-clause-faults g c clean free o k it kept knows there new_id n
     let only = (c.in_ok-insert_unit.ensures.puts before).only in
     let shown = g.met.P.Places.shows_same a.now.trees b.now.trees ids (only.1.1.1.1.1.1.1.1.1.1.1.1.0 refl) it.shown in
     let why = c.in_err-add.ensures.faults clean (still_unlimited a b went.on free) ids shown kept.places
-        (has_place-each nat_eq (λ (x : Unit). x.id) c.args.parent k.forest ∙ there) (has-each (nat_eq u.id) (λ (x : Unit). x.id) k.forest ∙ new_id) in
+    (has_place-each nat_eq (λ (x : Unit). x.id) c.args.parent k.forest ∙ there) (has-each (nat_eq u.id) (λ (x : Unit). x.id) k.forest ∙ new_id) in
     let whole = cause_then a b d went.on before _ why in
     search (rules, whole)
 
 pub returns-in_err-describe-clause-faults : goal.returns-in_err-describe-clause-faults
-returns-in_err-describe-clause-faults g c clean free o k it kept knows there new_id new_source once =
+returns-in_err-describe-clause-faults g c clean free o k it kept knows there new_id new_source once long =
     let a = state g.S.Store c.args.conn.now in
     let b = state g.S.Store c.insert_unit.new.conn in
     let d = state g.S.Store c.add.new.conn in
@@ -167,13 +167,13 @@ returns-in_err-describe-clause-faults g c clean free o k it kept knows there new
     let unit = unit_added a.now.trees d.now.trees u at.units.units at.units.rows (aside.1.1.1.1.1.1.1.1.0 refl ∙ put.rows) in
     let texts = same_elements a.now.trees d.now.trees xs (aside.1.1.1.1.1.1.1.1.1.0 refl ∙ only.1.1.1.1.1.1.1.1.1.0 refl) (elements_shown v a.now o k at) in
     let housed = same_housed a.now.trees d.now.trees k.containers hs (aside.1.1.1.1.1.1.1.1.1.1.0 refl ∙ only.1.1.1.1.1.1.1.1.1.1.0 refl) (aside.1.1.1.1.1.1.1.1.1.1.1.0 refl ∙ only.1.1.1.1.1.1.1.1.1.1.1.0 refl) (housed_shown v a.now o k at knows) in
-    let why = c.in_err-describe.ensures.faults clean (still_unlimited a d went.on free) unit k.containers xs hs texts housed kept.few_boxes once
-        (none_yet (λ (x : ElementRow). x.unit) u.id k.forest xs new_id at.elements.others) (none_yet (λ (h : HousingRow). h.unit) u.id k.forest hs new_id at.housings.others) in
+    let why = c.in_err-describe.ensures.faults clean (still_unlimited a d went.on free) unit k.containers xs hs texts housed kept.few_boxes once long
+    (none_yet (λ (x : ElementRow). x.unit) u.id k.forest xs new_id at.elements.others) (none_yet (λ (h : HousingRow). h.unit) u.id k.forest hs new_id at.housings.others) in
     let whole = cause_then a d e went.on before_d _ why in
     search (rules, whole)
 
 pub returns-clause-faults : goal.returns-clause-faults
-returns-clause-faults g c clean free o k it kept knows there new_id new_source once =
+returns-clause-faults g c clean free o k it kept knows there new_id new_source once long =
     let a = state g.S.Store c.args.conn.now in
     let b = state g.S.Store c.insert_unit.new.conn in
     let d = state g.S.Store c.add.new.conn in

@@ -73,7 +73,7 @@ returns-clause-shows g c clean o k it knows there =
     c.describe.ensures.goes
 
 pub returns-clause-faults : goal.returns-clause-faults
-returns-clause-faults g c clean free o k it kept knows there once =
+returns-clause-faults g c clean free o k it kept knows there once long =
     let a = state g.S.Store c.args.conn.now in
     let b = state g.S.Store c.set_level.new.conn in
     let d = state g.S.Store c.clear.new.conn in
@@ -96,5 +96,5 @@ returns-clause-faults g c clean free o k it kept knows there once =
     let still = c.in_ok-clear.ensures.only before_d xs hs texts.rows texts.rise housed.rows housed.rise in
     let listed = sym (list_any-IsPermutation (has_id unit) (nodes k.forest) at.units.units at.units.are) ∙ there in
     let known = unit_valued d.now.trees unit c.args.values.now at.units.units (still.1.1.1.1.1.1.1.1.0 refl ∙ level.are) listed in
-    c.describe.ensures.faults clean (still_unlimited a d went.on free) known k.containers elements housings cleared.0 cleared.1 kept.few_boxes once
+    c.describe.ensures.faults clean (still_unlimited a d went.on free) known k.containers elements housings cleared.0 cleared.1 kept.few_boxes once long
     (none_left (λ (x : ElementRow). nat_eq unit x.unit) xs) (none_left (λ (x : HousingRow). nat_eq unit x.unit) hs))

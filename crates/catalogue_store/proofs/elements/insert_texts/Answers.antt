@@ -44,7 +44,7 @@ loop-text-preserved g c =
     )
 
 pub returns-in_err-insert_text-clause-faults : goal.returns-in_err-insert_text-clause-faults
-returns-in_err-insert_text-clause-faults g c clean free known xs at none =
+returns-in_err-insert_text-clause-faults g c clean free known xs at none long =
     let a = state g.S.Store c.args.conn.now in
     let b = state g.S.Store c.loop-text.conn in
     let d = state g.S.Store c.insert_text.new.conn in
@@ -64,4 +64,5 @@ returns-in_err-insert_text-clause-faults g c clean free known xs at none =
     search (rules, whole)
 
 pub returns-then-place-ge25-clause-faults : goal.returns-then-place-ge25-clause-faults
-returns-then-place-ge25-clause-faults g c clean free known xs at none = let h = c.well_formed in let k = c.as_slice-text-items.type_inv in ?
+returns-then-place-ge25-clause-faults g c clean free known xs at none long =
+    absurd (omega (arith, c.if-place-ge25.true, c.loop-text-test.true, c.loop-text.invariant.0, ap length c.as_slice-text-items.ensures, long))

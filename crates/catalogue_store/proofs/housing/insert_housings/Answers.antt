@@ -69,7 +69,7 @@ returns-in_err-house-clause-faults g c clean free known boxes xs at small once n
     let low : i < length told = subst (λ (l : List BoxKey). i < length l) c.as_slice-key-items.ensures c.loop-key-test.true in
     let is : key ≡ get_or told i key = c.key-item.is ∙ ap (λ (l : List BoxKey). get_or l i key) c.as_slice-key-items.ensures in
     let now = with_boxes boxes seen in
-    let few : length now < 2 ^ 63 = omega (arith, small, boxes_within boxes seen, length-take-le i told (omega (arith, low)), invariant.0) in
+    let few : length now < 2 ^ 63 = omega (arith, small, boxes_within boxes seen, length-take-le i told (omega (arith, low)), c.as_slice-key-items.type_inv, c.loop-key-test.true) in
     let place_free = subst (λ n. list_any (λ (h : HousingRow). nat_eq unit h.unit && nat_eq (n + 1) h.ord) housed.0 ≡ false) (sym invariant.0) (housing_place unit i boxes told key xs housed.0 at.apart low housed.2 none) in
     let number_free = housing_number unit i boxes told key xs housed.0 at.apart low housed.2 none (not_seen told i key low is once) in
     let why = c.in_err-house.ensures.faults clean (still_unlimited a b so_far.on free) here now housed.0 housed.1 few place_free number_free in
