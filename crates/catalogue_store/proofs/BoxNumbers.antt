@@ -23,7 +23,7 @@ same_box a b h =
     ∙ (ap (λ text. record { name = b.name; location = text; kind = a.kind }) ((bytes_eq-Decides a.location b.location).0 rest.0)
     ∙ ap (λ text. record { name = b.name; location = b.location; kind = text }) ((bytes_eq-Decides a.kind b.kind).0 rest.1))
 
-box_itself : (b : BoxKey) → is_same b b ≡ true
+pub box_itself : (b : BoxKey) → is_same b b ≡ true
 box_itself b = rw (same_text b.name, same_text b.location, same_text b.kind) refl
   where
     same_text : (a : List ℕ) → bytes_eq a a ≡ true

@@ -77,3 +77,5 @@ pub mod LinkReadCauses
 pub mod CreationCauses
 pub mod LaterCauses
 pub mod FoundLinks
+pub mod Untold
+pub mod BoxCauses

@@ -17,7 +17,7 @@ told_at place text cell = if nat_eq (element_number place) cell.0 then Some cell
 abbrev pub text_told : ℕ → List (ℕ × Bytes) → Option Bytes
 text_told place cells = fold (told_at place) None cells
 
-other_number : (i j : ℕ) → i ≢ j → nat_eq (element_number i) (element_number j) ≡ false
+pub other_number : (i j : ℕ) → i ≢ j → nat_eq (element_number i) (element_number j) ≡ false
 other_number i j differs = ne_eqb (element_number i) (element_number j) (λ same. elim (cases_lt i j) [
   | inl below ↦ omega (arith, number_rises i j below, same)
   | inr above ↦ elim (cases_lt j i) [

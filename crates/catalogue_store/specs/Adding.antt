@@ -1,6 +1,6 @@
 -- Texts and containers of a unit that are added to their tables.
-use Rattle.std.specs.Prelude.{◌≡◌, ℕ, List, [], ◌∷◌, ◌++◌, map, Option, IsPermutation}
-use Rattle.std.specs.List.{AllByRecursion}
+use Rattle.std.specs.Prelude.{◌≡◌, ℕ, true, List, [], ◌∷◌, ◌++◌, map, Option, IsPermutation}
+use Rattle.std.specs.List.{AllByRecursion, list_any}
 use Rattle.std.specs.Ordering.{int_cmp}
 use Rattle.sqlite.specs.Tree.{Trees}
 use Rattle.isad_core.specs.Texts.{Bytes}
@@ -8,8 +8,9 @@ use Rattle.isad_core.specs.declared.values.BoxKey.{BoxKey}
 use Rattle.isad_core.specs.declared.values.Values.{Values}
 use Rattle.atom_csv.specs.Values.{distinct}
 use Rattle.catalogue_store.specs.Order.{Rises}
-use Rattle.catalogue_store.specs.Rows.{ElementRow, element_row, HousingRow, housing_row}
+use Rattle.catalogue_store.specs.Rows.{unit_row, ElementRow, element_row, HousingRow, housing_row}
 use Rattle.catalogue_store.specs.Shows.{ShowsContainers, texts_from, element_number, element_cells, housing_cells}
+use Rattle.catalogue_store.specs.Units.{Unit, has_id}
 
 -- the rows with one more for each of these cells of a unit
 pub record WithCells {A C : Type 0} (unit_of : A → ℕ) (cell_of : A → C) (unit : ℕ) (cells : List C) (xs ys : List A) : Type 0 where
@@ -17,6 +18,12 @@ pub record WithCells {A C : Type 0} (unit_of : A → ℕ) (cell_of : A → C) (u
   pub are : IsPermutation (more ++ xs) ys
   pub tell : IsPermutation cells (map cell_of more)
   pub theirs : AllByRecursion (λ a. unit_of a ≡ unit) more
+
+-- the unit has its row
+pub record HasUnit (db : Trees) (unit : ℕ) : Type 0 where
+  pub units : List Unit
+  pub rows : db 14 ≡ map unit_row units
+  pub there : list_any (has_id unit) units ≡ true
 
 -- ---- texts
 

@@ -1,4 +1,5 @@
 use Rattle.std.proofs.Common.{◌≡◌, ℕ, List, map, take, rules, sym, ap, ◌∙◌}
+use Rattle.std.specs.Bool.{⊤}
 use Rattle.std.proofs.lemmas.List.{take-map}
 use Rattle.std.proofs.lemmas.Result.{IfOk-weaker}
 use Rattle.sqlite.specs.Held.{state}
@@ -6,8 +7,10 @@ use Rattle.isad_core.specs.declared.values.BoxKey.{BoxKey}
 use Rattle.catalogue_store.specs.Rows.{by_container}
 use Rattle.catalogue_store.specs.Order.{IsOrdered}
 use Rattle.catalogue_store.specs.Step.{IsCut, Looks}
-use Rattle.sqlite_trees.proofs.ListLemmas.{map-map}
+use Rattle.sqlite_trees.proofs.ListLemmas.{map-map, all_of}
 use Rattle.catalogue_store.proofs.Calls.{early, in_office, read_cut, read_looks, cut_looks, on_ok_from}
+use Rattle.catalogue_store.proofs.BoxCauses.{last_container_cause}
+use Rattle.catalogue_store.proofs.Causes.{memory_only}
 use Rattle.catalogue_store.proofs.UnitReads.{last_container_text, last_container_command, last_container_is, last_container_plain, last_container_rows}
 use Rattle.catalogue_store.proofs.containers.last_container.Goals as goal
 
@@ -39,3 +42,21 @@ returns-clause-rows g c clean xs stored =
     let numbers = map (λ (c : ℕ × BoxKey). c.0) got.0 in
     IfOk-weaker c.read_all.result (λ all. all.items ≡ take 1 numbers) (λ all. (ys : List (ℕ × BoxKey)) × IsOrdered (λ a b. by_container b a) xs ys × (all.items ≡ take 1 (map (λ (c : ℕ × BoxKey). c.0) ys))) (λ all same. (got.0, (got.1, got.2), same))
     (c.read_all.ensures.value (take 1 numbers) (c.deref.ensures.value ∙ got.3 ∙ ap (take 1) (sym (map-map _ (λ (c : ℕ × BoxKey). c.0) got.0)) ∙ take-map _ 1 numbers))
+
+pub returns-in_err-rows-clause-faults : goal.returns-in_err-rows-clause-faults
+returns-in_err-rows-clause-faults g c clean free xs stored =
+    let old = state g.S.Store c.args.conn.now in
+    let new = state g.S.Store c.query_all.new.self in
+    let at = c.requires.inside (early old new _ c.query_all.ensures.survives clean) in
+    let why = last_container_cause old new at.0 at.1 free c.in_err-rows.field-0.0 (c.in_err-rows.ensures.err clean) in
+    search (rules, why)
+
+pub returns-clause-faults : goal.returns-clause-faults
+returns-clause-faults g c clean free xs stored =
+    let old = state g.S.Store c.args.conn.now in
+    let new = state g.S.Store c.query_all.new.self in
+    let at = c.requires.inside (early old new _ c.query_all.ensures.survives clean) in
+    let got = last_container_rows old new xs _ at.0 at.1 stored (c.in_ok-rows.ensures.ok clean) in
+    let numbers = map (λ (c : ℕ × BoxKey). c.0) got.0 in
+    let same = c.deref.ensures.value ∙ got.3 ∙ ap (take 1) (sym (map-map _ (λ (c : ℕ × BoxKey). c.0) got.0)) ∙ take-map _ 1 numbers in
+    memory_only old new c.read_all.result (c.read_all.ensures.faults (take 1 numbers) same (all_of (λ _. ⊤) (λ _. tt) (take 1 numbers)))

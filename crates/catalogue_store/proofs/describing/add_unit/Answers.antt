@@ -1,18 +1,22 @@
-use Rattle.std.proofs.Common.{rules, [], ◌∷◌, ◌+◌, refl, ◌∙◌, nat_eq}
+use Rattle.std.proofs.Common.{rules, [], ◌∷◌, ◌+◌, refl, sym, ◌∙◌, nat_eq}
+use Rattle.std.proofs.lemmas.List.Sorted.{list_any-IsPermutation}
 use Rattle.sqlite.specs.Held.{state}
-use Rattle.tree_core.specs.Forest.{add, each}
+use Rattle.tree_core.specs.Forest.{add, each, nodes}
 use Rattle.tree_core.proofs.EachLemmas.{has_place-each, has-each}
 use Rattle.catalogue_store.specs.Added.{unit_of}
 use Rattle.catalogue_store.specs.Describing.{with_unit}
-use Rattle.catalogue_store.specs.Rows.{office_row}
+use Rattle.catalogue_store.specs.Rows.{ElementRow, HousingRow, office_row}
 use Rattle.catalogue_store.specs.Shows.{Shows}
 use Rattle.catalogue_store.specs.Step.{Goes, HasRows, IsCut, OnlyTouches}
-use Rattle.catalogue_store.specs.Units.{Unit}
+use Rattle.catalogue_store.specs.Units.{Unit, has_id, is_from}
 use Rattle.catalogue_store.proofs.Calls.{cut_then, early, goes_then, office_of, on_err_then, on_ok_then, still_office}
 use Rattle.catalogue_store.proofs.NewUnits.{no_unit, shows_added}
 use Rattle.catalogue_store.proofs.Outcomes.{on_ok_by}
 use Rattle.catalogue_store.proofs.Telling.{elements_shown, housed_shown, same_described, same_elements, same_housed}
 use Rattle.catalogue_store.proofs.Touching.{touched_then}
+use Rattle.catalogue_store.proofs.Causes.{cause_then, still_unlimited}
+use Rattle.catalogue_store.proofs.LaterCauses.{last_cause}
+use Rattle.catalogue_store.proofs.Untold.{none_yet, unit_added}
 use Rattle.catalogue_store.proofs.describing.add_unit.Goals as goal
 
 pub insert_unit-requires-clause-inside : goal.insert_unit-requires-clause-inside
@@ -118,3 +122,69 @@ returns-clause-shows g c clean o k it knows next there =
     }))
     (c.set_next_unit.ensures.rows clean v o office))
     c.set_next_unit.ensures.goes
+
+pub returns-in_err-insert_unit-clause-faults : goal.returns-in_err-insert_unit-clause-faults
+returns-in_err-insert_unit-clause-faults g c clean free o k it kept knows there new_id new_source once long =
+    let u = unit_of c.args.unit.now in
+    let at = it.catalogue.units in
+    let why = c.in_err-insert_unit.ensures.faults clean free at.units at.rows (sym (list_any-IsPermutation (has_id u.id) (nodes k.forest) at.units at.are) ∙ new_id)
+    (sym (list_any-IsPermutation (is_from u.source u.legacy) (nodes k.forest) at.units at.are) ∙ new_source) in
+    search (rules, why)
+
+pub returns-in_err-add-clause-faults : goal.returns-in_err-add-clause-faults
+returns-in_err-add-clause-faults g c clean free o k it kept knows there new_id new_source once long =
+    let a = state g.S.Store c.args.conn.now in
+    let b = state g.S.Store c.insert_unit.new.conn in
+    let d = state g.S.Store c.add.new.conn in
+    let u = unit_of c.args.unit.now in
+    let ids = each (λ (x : Unit). x.id) k.forest in
+    let went = c.in_ok-insert_unit.ensures.goes in
+    let before = early b d _ c.in_err-add.ensures.cut.crash clean in
+    let only = (c.in_ok-insert_unit.ensures.puts before).only in
+    let shown = g.met.P.Places.shows_same a.now.trees b.now.trees ids (only.1.1.1.1.1.1.1.1.1.1.1.1.0 refl) it.shown in
+    let why = c.in_err-add.ensures.faults clean (still_unlimited a b went.on free) ids shown kept.places
+    (has_place-each nat_eq (λ (x : Unit). x.id) c.args.parent k.forest ∙ there) (has-each (nat_eq u.id) (λ (x : Unit). x.id) k.forest ∙ new_id) in
+    let whole = cause_then a b d went.on before _ why in
+    search (rules, whole)
+
+pub returns-in_err-describe-clause-faults : goal.returns-in_err-describe-clause-faults
+returns-in_err-describe-clause-faults g c clean free o k it kept knows there new_id new_source once long =
+    let a = state g.S.Store c.args.conn.now in
+    let b = state g.S.Store c.insert_unit.new.conn in
+    let d = state g.S.Store c.add.new.conn in
+    let e = state g.S.Store c.describe.new.conn in
+    let v = g.P.Places.version in
+    let u = unit_of c.args.unit.now in
+    let at = it.catalogue in
+    let xs = at.elements.elements in
+    let hs = at.housings.housings in
+    let went = goes_then a b d c.in_ok-insert_unit.ensures.goes c.in_ok-add.ensures.goes in
+    let before_d = early d e _ c.in_err-describe.ensures.cut.crash clean in
+    let before_b = early b d _ c.in_ok-add.ensures.goes.on.crash before_d in
+    let put = c.in_ok-insert_unit.ensures.puts before_b in
+    let only = put.only in
+    let aside = c.in_ok-add.ensures.only before_d in
+    let unit = unit_added a.now.trees d.now.trees u at.units.units at.units.rows (aside.1.1.1.1.1.1.1.1.0 refl ∙ put.rows) in
+    let texts = same_elements a.now.trees d.now.trees xs (aside.1.1.1.1.1.1.1.1.1.0 refl ∙ only.1.1.1.1.1.1.1.1.1.0 refl) (elements_shown v a.now o k at) in
+    let housed = same_housed a.now.trees d.now.trees k.containers hs (aside.1.1.1.1.1.1.1.1.1.1.0 refl ∙ only.1.1.1.1.1.1.1.1.1.1.0 refl) (aside.1.1.1.1.1.1.1.1.1.1.1.0 refl ∙ only.1.1.1.1.1.1.1.1.1.1.1.0 refl) (housed_shown v a.now o k at knows) in
+    let why = c.in_err-describe.ensures.faults clean (still_unlimited a d went.on free) unit k.containers xs hs texts housed kept.few_boxes once long
+    (none_yet (λ (x : ElementRow). x.unit) u.id k.forest xs new_id at.elements.others) (none_yet (λ (h : HousingRow). h.unit) u.id k.forest hs new_id at.housings.others) in
+    let whole = cause_then a d e went.on before_d _ why in
+    search (rules, whole)
+
+pub returns-clause-faults : goal.returns-clause-faults
+returns-clause-faults g c clean free o k it kept knows there new_id new_source once long =
+    let a = state g.S.Store c.args.conn.now in
+    let b = state g.S.Store c.insert_unit.new.conn in
+    let d = state g.S.Store c.add.new.conn in
+    let e = state g.S.Store c.describe.new.conn in
+    let h = state g.S.Store c.set_next_unit.new.conn in
+    let went = goes_then a d e (goes_then a b d c.in_ok-insert_unit.ensures.goes c.in_ok-add.ensures.goes) c.in_ok-describe.ensures.goes in
+    last_cause a e h went.on c.set_next_unit.result c.set_next_unit.ensures.cut clean (λ before_e.
+    let before_d = early d e _ c.in_ok-describe.ensures.goes.on.crash before_e in
+    let before_b = early b d _ c.in_ok-add.ensures.goes.on.crash before_d in
+    let only = (c.in_ok-insert_unit.ensures.puts before_b).only in
+    let aside = c.in_ok-add.ensures.only before_d in
+    let told = c.in_ok-describe.ensures.only before_e in
+    let office = told.1.1.1.1.1.1.1.0 refl ∙ aside.1.1.1.1.1.1.1.0 refl ∙ only.1.1.1.1.1.1.1.0 refl ∙ it.catalogue.office in
+    c.set_next_unit.ensures.faults clean (still_unlimited a e went.on free) g.P.Places.version o office)

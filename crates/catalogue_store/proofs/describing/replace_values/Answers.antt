@@ -1,15 +1,21 @@
-use Rattle.std.proofs.Common.{[], ◌∷◌, filter, not, nat_eq, refl, ◌∙◌}
+use Rattle.std.proofs.Common.{[], ◌∷◌, filter, not, nat_eq, refl, sym, ◌∙◌}
+use Rattle.std.proofs.lemmas.List.Sorted.{list_any-IsPermutation}
+use Rattle.tree_core.specs.Forest.{nodes}
 use Rattle.sqlite.specs.Held.{state}
 use Rattle.catalogue_store.specs.Adding.{IsDescribed}
 use Rattle.catalogue_store.specs.Describing.{with_values}
 use Rattle.catalogue_store.specs.Rows.{ElementRow, HousingRow}
 use Rattle.catalogue_store.specs.Shows.{Shows}
+use Rattle.catalogue_store.specs.Units.{has_id}
 use Rattle.catalogue_store.specs.Step.{Goes, OnlyTouches}
 use Rattle.catalogue_store.proofs.Calls.{early, goes_then, office_of, on_ok_both, still_office}
 use Rattle.catalogue_store.proofs.Outcomes.{on_ok_by}
 use Rattle.catalogue_store.proofs.Telling.{elements_shown, housed_shown, same_elements, same_housed}
 use Rattle.catalogue_store.proofs.Touching.{touched_then}
 use Rattle.catalogue_store.proofs.Valued.{shows_valued}
+use Rattle.catalogue_store.proofs.Causes.{still_unlimited}
+use Rattle.catalogue_store.proofs.LaterCauses.{last_cause}
+use Rattle.catalogue_store.proofs.Untold.{none_left, unit_valued}
 use Rattle.catalogue_store.proofs.describing.replace_values.Goals as goal
 
 pub set_level-requires-clause-inside : goal.set_level-requires-clause-inside
@@ -65,3 +71,30 @@ returns-clause-shows g c clean o k it knows there =
     }))
     (c.describe.ensures.tells clean k.containers elements housings cleared.0 cleared.1) (c.describe.ensures.only clean))
     c.describe.ensures.goes
+
+pub returns-clause-faults : goal.returns-clause-faults
+returns-clause-faults g c clean free o k it kept knows there once long =
+    let a = state g.S.Store c.args.conn.now in
+    let b = state g.S.Store c.set_level.new.conn in
+    let d = state g.S.Store c.clear.new.conn in
+    let e = state g.S.Store c.describe.new.conn in
+    let v = g.P.Places.version in
+    let unit = c.args.unit in
+    let at = it.catalogue in
+    let xs = at.elements.elements in
+    let hs = at.housings.housings in
+    let elements = filter (λ (x : ElementRow). not (nat_eq unit x.unit)) xs in
+    let housings = filter (λ (x : HousingRow). not (nat_eq unit x.unit)) hs in
+    let went = goes_then a b d c.in_ok-set_level.ensures.goes c.in_ok-clear.ensures.goes in
+    last_cause a d e went.on c.describe.result c.describe.ensures.cut clean (λ before_d.
+    let before_b = early b d _ c.in_ok-clear.ensures.goes.on.crash before_d in
+    let level = c.in_ok-set_level.ensures.rows before_b at.units.units at.units.rows at.units.rise in
+    let only = level.only in
+    let texts = same_elements a.now.trees b.now.trees xs (only.1.1.1.1.1.1.1.1.1.0 refl) (elements_shown v a.now o k at) in
+    let housed = same_housed a.now.trees b.now.trees k.containers hs (only.1.1.1.1.1.1.1.1.1.1.0 refl) (only.1.1.1.1.1.1.1.1.1.1.1.0 refl) (housed_shown v a.now o k at knows) in
+    let cleared = c.in_ok-clear.ensures.clears before_d k.containers xs hs texts housed in
+    let still = c.in_ok-clear.ensures.only before_d xs hs texts.rows texts.rise housed.rows housed.rise in
+    let listed = sym (list_any-IsPermutation (has_id unit) (nodes k.forest) at.units.units at.units.are) ∙ there in
+    let known = unit_valued d.now.trees unit c.args.values.now at.units.units (still.1.1.1.1.1.1.1.1.0 refl ∙ level.are) listed in
+    c.describe.ensures.faults clean (still_unlimited a d went.on free) known k.containers elements housings cleared.0 cleared.1 kept.few_boxes once long
+    (none_left (λ (x : ElementRow). nat_eq unit x.unit) xs) (none_left (λ (x : HousingRow). nat_eq unit x.unit) hs))

@@ -1,4 +1,5 @@
-use Rattle.std.proofs.Common.{◌≡◌, List, [], ◌∷◌, ap, sym, subst, option_copied}
+use Rattle.std.proofs.Common.{◌≡◌, List, [], ◌∷◌, ap, sym, subst, option_copied, false, nat_eq, ◌&&◌}
+use Rattle.std.specs.List.{list_any}
 use Rattle.sqlite.specs.Held.{state}
 use Rattle.sqlite.specs.Edit.{next_rowid}
 use Rattle.catalogue_store.specs.Adding.{AreElements, WithTexts, text_cells}
@@ -22,3 +23,8 @@ returns-in-Some-clause-adds g c clean xs at =
     let it = one_element a.now b.now unit c.element_number.result value xs at puts in
     (it.0, it.1, subst (λ cells. WithTexts unit cells xs it.0) (sym e) (subst (λ k. WithTexts unit ((k, value) ∷ []) xs it.0) c.element_number.ensures.number it.2)))
     (c.insert_element.ensures.puts clean)
+
+pub returns-in-Some-clause-faults : goal.returns-in-Some-clause-faults
+returns-in-Some-clause-faults g c clean free known xs at none =
+    let none_yet = subst (λ k. list_any (λ (e : ElementRow). nat_eq c.args.unit e.unit && nat_eq k e.k) xs ≡ false) (sym c.element_number.ensures.number) none in
+    c.insert_element.ensures.faults clean free known.units known.rows known.there xs at none_yet

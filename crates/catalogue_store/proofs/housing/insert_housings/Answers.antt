@@ -1,5 +1,6 @@
-use Rattle.std.proofs.Common.{◌≡◌, ◌<◌, ◌+◌, ◌∙◌, List, [], ◌∷◌, ◌++◌, length, get_or, take, ap, sym, subst, arith}
+use Rattle.std.proofs.Common.{rules, refl, false, nat_eq, ◌&&◌, ◌^◌, ◌≡◌, ◌<◌, ◌+◌, ◌∙◌, List, [], ◌∷◌, ◌++◌, length, get_or, take, ap, sym, subst, arith}
 use Rattle.std.proofs.lemmas.List.{take_more, length-take-le}
+use Rattle.std.specs.List.{list_any}
 use Rattle.sqlite.specs.Held.{state}
 use Rattle.isad_core.specs.declared.values.BoxKey.{BoxKey}
 use Rattle.catalogue_store.specs.Adding.{AreHoused, WithHousings, housing_cell, with_boxes}
@@ -9,6 +10,8 @@ use Rattle.catalogue_store.proofs.Calls.{early, goes_then}
 use Rattle.catalogue_store.proofs.Touching.{touched_again}
 use Rattle.catalogue_store.proofs.Parts.{cells_then}
 use Rattle.catalogue_store.proofs.HousingLemmas.{boxes_more, cells_in, housing_more}
+use Rattle.catalogue_store.proofs.Causes.{cause_then, still_unlimited}
+use Rattle.catalogue_store.proofs.Untold.{boxes_within, housing_number, housing_place, not_seen, unit_still}
 use Rattle.catalogue_store.proofs.housing.insert_housings.Goals as goal
 
 pub loop-key-preserved : goal.loop-key-preserved
@@ -47,3 +50,28 @@ loop-key-preserved g c =
         ),
       ),
     )
+
+pub returns-in_err-house-clause-faults : goal.returns-in_err-house-clause-faults
+returns-in_err-house-clause-faults g c clean free known boxes xs at small once none =
+    let a = state g.S.Store c.args.conn.now in
+    let b = state g.S.Store c.loop-key.conn in
+    let d = state g.S.Store c.house.new.conn in
+    let unit = c.args.unit in
+    let told = c.args.values.now.boxes in
+    let i = c.loop-key.key-index in
+    let key = c.key-item.result in
+    let seen = take i told in
+    let invariant = c.loop-key.invariant in
+    let so_far = invariant.1.1.0 in
+    let before = early b d _ c.in_err-house.ensures.cut.crash clean in
+    let housed = invariant.1.1.1.1 before boxes xs at in
+    let here = unit_still a.now.trees b.now.trees unit ((invariant.1.1.1.0 before).1.1.1.1.1.1.1.1.0 refl) known in
+    let low : i < length told = subst (λ (l : List BoxKey). i < length l) c.as_slice-key-items.ensures c.loop-key-test.true in
+    let is : key ≡ get_or told i key = c.key-item.is ∙ ap (λ (l : List BoxKey). get_or l i key) c.as_slice-key-items.ensures in
+    let now = with_boxes boxes seen in
+    let few : length now < 2 ^ 63 = omega (arith, small, boxes_within boxes seen, length-take-le i told (omega (arith, low)), c.as_slice-key-items.type_inv, c.loop-key-test.true) in
+    let place_free = subst (λ n. list_any (λ (h : HousingRow). nat_eq unit h.unit && nat_eq (n + 1) h.ord) housed.0 ≡ false) (sym invariant.0) (housing_place unit i boxes told key xs housed.0 at.apart low housed.2 none) in
+    let number_free = housing_number unit i boxes told key xs housed.0 at.apart low housed.2 none (not_seen told i key low is once) in
+    let why = c.in_err-house.ensures.faults clean (still_unlimited a b so_far.on free) here now housed.0 housed.1 few place_free number_free in
+    let whole = cause_then a b d so_far.on before _ why in
+    search (rules, whole)

@@ -1,4 +1,4 @@
-use Rattle.std.proofs.Common.{◌≡◌, ◌+◌, ◌++◌, ◌∷◌, [], ℕ, List, length, slice_get, sym, ap, subst, ◌∙◌, None, Some}
+use Rattle.std.proofs.Common.{arith, ◌≡◌, ◌+◌, ◌++◌, ◌∷◌, [], ℕ, List, length, slice_get, sym, ap, subst, ◌∙◌, None, Some}
 use Rattle.std.proofs.lemmas.Result.{IfOk-weaker}
 use Rattle.sqlite.specs.Effect.{Database}
 use Rattle.sqlite.specs.Held.{state}
@@ -11,6 +11,9 @@ use Rattle.catalogue_store.proofs.Calls.{early}
 use Rattle.catalogue_store.proofs.Outcomes.{if_ok_by}
 use Rattle.catalogue_store.proofs.BoxNumbers.{box_number_known, box_number_new, known_numbered, unknown_unnumbered, with_known, with_new}
 use Rattle.catalogue_store.proofs.Numbered.{number_read}
+use Rattle.catalogue_store.proofs.Causes.{still_unlimited}
+use Rattle.catalogue_store.proofs.LaterCauses.{last_cause}
+use Rattle.catalogue_store.proofs.Untold.{number_within}
 use Rattle.catalogue_store.proofs.housing.number_of.Goals as goal
 
 pub returns-in_default-clause-numbers : goal.returns-in_default-clause-numbers
@@ -42,3 +45,25 @@ returns-clause-numbers g c clean boxes at apart =
     sym (number_read boxes key got.0 got.1) ∙ sym (c.copied.ensures ∙ c.first.ensures.value ∙ ap (λ (l : List ℕ). slice_get l 0) (c.deref.ensures.value ∙ got.2)) ∙ c.in-Some.is in
     let there : ShowsContainers b.now.trees boxes = ap (λ (db : Database). db.trees 18) (c.in_ok-found.ensures.looks.same clean) ∙ at in
     (box_number_known boxes key c.in-Some.number apart some, subst (ShowsContainers b.now.trees) (sym (with_known boxes key apart (known_numbered boxes key c.in-Some.number some))) there)
+
+pub returns-in_default-clause-faults : goal.returns-in_default-clause-faults
+returns-in_default-clause-faults g c clean free boxes at small =
+    let a = state g.S.Store c.args.conn.now in
+    let b = state g.S.Store c.container_number.new.conn in
+    let d = state g.S.Store c.add_container.new.conn in
+    let key = c.args.key.now in
+    let looked = c.in_ok-found.ensures.looks in
+    last_cause a b d looked.goes.on c.add_container.result c.add_container.ensures.cut clean (λ before.
+    let got = c.in_ok-found.ensures.rows before (counted_from 1 boxes) at in
+    let none : number_in boxes key ≡ None =
+    sym (number_read boxes key got.0 got.1) ∙ sym (c.copied.ensures ∙ c.first.ensures.value ∙ ap (λ (l : List ℕ). slice_get l 0) (c.deref.ensures.value ∙ got.2)) ∙ c.in_default.is in
+    let there : ShowsContainers b.now.trees boxes = ap (λ (db : Database). db.trees 18) (looked.same before) ∙ at in
+    c.add_container.ensures.faults clean (still_unlimited a b looked.goes.on free) boxes there (unknown_unnumbered boxes key none))
+
+pub returns-then-number-ge-NO_NUMBER-clause-faults : goal.returns-then-number-ge-NO_NUMBER-clause-faults
+returns-then-number-ge-NO_NUMBER-clause-faults g c clean free boxes at small =
+    let key = c.args.key.now in
+    let got = c.in_ok-found.ensures.rows clean (counted_from 1 boxes) at in
+    let some : number_in boxes key ≡ Some c.in-Some.number =
+    sym (number_read boxes key got.0 got.1) ∙ sym (c.copied.ensures ∙ c.first.ensures.value ∙ ap (λ (l : List ℕ). slice_get l 0) (c.deref.ensures.value ∙ got.2)) ∙ c.in-Some.is in
+    absurd (omega (arith, small, number_within boxes key c.in-Some.number some))
