@@ -64,3 +64,4 @@ pub mod Descending
 pub mod MarkForests
 pub mod Attachments
 pub mod OpenLemmas
+pub mod UnitCauses

@@ -46,9 +46,8 @@ impl From<Error> for StoreFault {
 
     fn from(error: Error) -> StoreFault {
         match error {
-            Error::SqliteFailure(
-                ErrorCode::OutOfMemory | ErrorCode::TooBig | ErrorCode::NoRowid,
-            ) => StoreFault::Memory,
+            Error::SqliteFailure(ErrorCode::OutOfMemory | ErrorCode::TooBig | ErrorCode::NoRowid) =>
+                StoreFault::Memory,
             Error::SqliteFailure(
                 ErrorCode::SystemIoFailure
                 | ErrorCode::DatabaseCorrupt
