@@ -65,3 +65,4 @@ pub mod MarkForests
 pub mod Attachments
 pub mod OpenLemmas
 pub mod UnitCauses
+pub mod MarkCauses
