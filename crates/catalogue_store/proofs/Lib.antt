@@ -66,3 +66,4 @@ pub mod Attachments
 pub mod OpenLemmas
 pub mod UnitCauses
 pub mod MarkCauses
+pub mod ValueCauses

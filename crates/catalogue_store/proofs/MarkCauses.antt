@@ -1,8 +1,7 @@
 -- Why reading marks fails: never for the units of a catalogue within its limits.
-use Rattle.std.proofs.Common.{◌≡◌, inl, inr, ℕ, ◌<◌, ◌≤◌, ◌^◌, List, [], ◌∷◌, map, filter, length, get_or, Some, None, Option, slice_get, Result, Ok, Err, OnErr, nat_eq, refl, sym, ap, subst, ◌∙◌, arith}
+use Rattle.std.proofs.Common.{◌≡◌, inl, inr, ℕ, ◌<◌, ◌≤◌, ◌^◌, List, [], ◌∷◌, map, filter, length, get_or, Some, None, slice_get, Result, Ok, Err, OnErr, nat_eq, refl, sym, ap, subst, ◌∙◌, arith}
 use Rattle.std.specs.Prelude.{IfErr}
 use Rattle.std.specs.List.{AllByRecursion}
-use Rattle.std.specs.List.Sorted.{IsPermutation}
 use Rattle.std.proofs.lemmas.Bool.{eq-eqb}
 use Rattle.std.proofs.lemmas.List.{get_or-map, length-map}
 use Rattle.std.proofs.lemmas.List.Sorted.{IsPermutation-sym}
@@ -10,7 +9,7 @@ use Rattle.sqlite.specs.Tree.{Trees}
 use Rattle.sqlite_rules.specs.Lists.{Has}
 use Rattle.sqlite_rules.proofs.ListLemmas.{all_has, has_filtered, has_kept}
 use Rattle.sqlite_trees.proofs.ListLemmas.{all-get_or, all-permutation, all_from_map}
-use Rattle.tree_core.specs.Forest.{Forest, nodes, each}
+use Rattle.tree_core.specs.Forest.{Forest, nodes}
 use Rattle.tree_core.specs.declared.rows.Span.{Span}
 use Rattle.catalogue_store.specs.Bounds.{IsKept, IsLegibleUnit}
 use Rattle.catalogue_store.specs.Marking.{AreAttached, names}
