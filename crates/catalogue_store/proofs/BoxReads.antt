@@ -26,7 +26,7 @@ positive (c ∷ cs) b n h = at (is_same c b) (number_in cs b) h
     at false None e = absurd (cc)
     at false (Some m) e = let k : suc m ≡ n = cc in omega (arith, k)
 
-later : (o : Option ℕ) (n : ℕ) → option_map suc o ≡ Some n → (m : ℕ) × (o ≡ Some m) × (n ≡ suc m)
+pub later : (o : Option ℕ) (n : ℕ) → option_map suc o ≡ Some n → (m : ℕ) × (o ≡ Some m) × (n ≡ suc m)
 later None n e = absurd (cc)
 later (Some m) n e = (m, refl, cc)
 

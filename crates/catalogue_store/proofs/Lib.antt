@@ -79,3 +79,6 @@ pub mod LaterCauses
 pub mod FoundLinks
 pub mod Untold
 pub mod BoxCauses
+pub mod UnitCauses
+pub mod MarkCauses
+pub mod ValueCauses

@@ -1,11 +1,16 @@
 //! The values of a unit, read from its rows.
 
-ghost use Rattle.std.specs.Prelude.{◌≡◌, ◌<◌, ◌^◌, List, length, map, IsPermutation, OnOk, OnErr, IfOk, IfSome};
+ghost use Rattle.std.specs.Prelude.{◌≡◌, ◌≢◌, ◌<◌, ◌^◌, ℕ, List, length, map, true, IsPermutation, IsOk, OnOk, OnErr, IfOk, IfErr, IfSome, IfNone, IsUtf8};
+ghost use Rattle.std.specs.List.{AllByRecursion, list_any, list_all};
 ghost use Rattle.sqlite.specs.Held.{state};
 ghost use Rattle.sqlite.specs.State.{HasCleanDisk};
 ghost use Rattle.isad_core.specs.declared.values.BoxKey.{BoxKey};
 ghost use Rattle.isad_core.specs.declared.values.Values.{«Values» as Description};
-ghost use Rattle.catalogue_store.specs.Describing.{HasAllPlaces, values_of};
+ghost use Rattle.atom_csv.specs.Values.{is_same as is_same_box};
+ghost use Rattle.catalogue_store.specs.Bounds.{IsKept};
+ghost use Rattle.catalogue_store.specs.Describing.{HasAllPlaces, KnowsItsContainers, values_of};
+ghost use Rattle.catalogue_store.specs.Faults.{IsUnlimited, HasCause};
+ghost use Rattle.catalogue_store.specs.Legible.{IsLegibleBox};
 ghost use Rattle.catalogue_store.specs.Merging.{Catalogue, box_number};
 ghost use Rattle.catalogue_store.specs.Rows.{ElementRow, element_row, HousingRow, housing_row};
 ghost use Rattle.catalogue_store.specs.Schema.{Version};
@@ -37,6 +42,7 @@ pub struct UnitValues {
 fn place_of(k: u64) -> Option<usize>
     ensures place { IfSome result (λ place. k ≡ number_of_place place) }
     ensures small { IfSome result (λ place. place < 25) }
+    ensures none { IfNone result ((place : ℕ) → place < 25 → k ≢ number_of_place place) }
 {
     match k {
         1..=3 => Some(k as usize - 1),
@@ -47,7 +53,8 @@ fn place_of(k: u64) -> Option<usize>
 
 /// These texts at the places of their elements.
 fn placed(elements: Vec<Element>) -> Result<[Option<Text>; 25], StoreFault>
-    ensures { (values : Description) → length values.texts ≡ 25 → map (λ (e : Element). (e.k, e.value)) elements.items ≡ element_cells values → IfOk result (λ texts. texts ≡ values.texts) }
+    ensures value { (values : Description) → length values.texts ≡ 25 → map (λ (e : Element). (e.k, e.value)) elements.items ≡ element_cells values → IfOk result (λ texts. texts ≡ values.texts) }
+    ensures places { (values : Description) → length values.texts ≡ 25 → map (λ (e : Element). (e.k, e.value)) elements.items ≡ element_cells values → IsOk result }
 {
     let mut texts = array::from_fn(|_| None);
     for element in elements {
@@ -69,6 +76,7 @@ fn texts_of<S: Alter>(
     requires small { unit < 2 ^ 63 }
     ensures answers { HasCleanDisk (state S.Store conn.new) → (xs : List ElementRow) → (state S.Store conn.old).now.trees 16 ≡ map element_row xs → (values : Description) → length values.texts ≡ 25 → IsPermutation (element_cells values) (texts_among unit xs) → IfOk result (λ texts. texts ≡ values.texts) }
     ensures looks { OnOk result (Looks (state S.Store conn.old) (state S.Store conn.new)) }
+    ensures faults { HasCleanDisk (state S.Store conn.new) → IsUnlimited (state S.Store conn.old) → (xs : List ElementRow) → (state S.Store conn.old).now.trees 16 ≡ map element_row xs → AllByRecursion (λ e. IsUtf8 e.value) xs → (values : Description) → length values.texts ≡ 25 → IsPermutation (element_cells values) (texts_among unit xs) → IfErr result (HasCause (state S.Store conn.old) (state S.Store conn.new)) }
     ensures cut { OnErr result (IsCut (state S.Store conn.old) (state S.Store conn.new)) }
 {
     let found = elements_of(alloc, conn, unit)?;
@@ -96,6 +104,7 @@ fn containers_of<S: Alter>(
     requires small { unit < 2 ^ 63 }
     ensures answers { HasCleanDisk (state S.Store conn.new) → (xs : List HousingRow) → (state S.Store conn.old).now.trees 20 ≡ map housing_row xs → (boxes : List BoxKey) (values : Description) → IsPermutation (housing_cells boxes values) (containers_among unit xs) → IfOk result (λ numbers. numbers ≡ map (box_number boxes) values.boxes) }
     ensures looks { OnOk result (Looks (state S.Store conn.old) (state S.Store conn.new)) }
+    ensures faults { HasCleanDisk (state S.Store conn.new) → IsUnlimited (state S.Store conn.old) → (xs : List HousingRow) → (state S.Store conn.old).now.trees 20 ≡ map housing_row xs → IfErr result (HasCause (state S.Store conn.old) (state S.Store conn.new)) }
     ensures cut { OnErr result (IsCut (state S.Store conn.old) (state S.Store conn.new)) }
 {
     let found = housings_of(alloc, conn, unit)?;
@@ -111,6 +120,7 @@ fn container_of<S: Alter>(
     requires inside { InOffice (state S.Store conn.old) }
     ensures answers { HasCleanDisk (state S.Store conn.new) → (boxes : List BoxKey) → ShowsContainers (state S.Store conn.old).now.trees boxes → (b : BoxKey) → number ≡ box_number boxes b → IfOk result (λ key. key ≡ b) }
     ensures looks { OnOk result (Looks (state S.Store conn.old) (state S.Store conn.new)) }
+    ensures faults { HasCleanDisk (state S.Store conn.new) → IsUnlimited (state S.Store conn.old) → (boxes : List BoxKey) → ShowsContainers (state S.Store conn.old).now.trees boxes → AllByRecursion IsLegibleBox boxes → length boxes < 2 ^ 62 → (b : BoxKey) → list_any (is_same_box b) boxes ≡ true → number ≡ box_number boxes b → IfErr result (HasCause (state S.Store conn.old) (state S.Store conn.new)) }
     ensures cut { OnErr result (IsCut (state S.Store conn.old) (state S.Store conn.new)) }
 {
     if number >= NO_NUMBER {
@@ -132,6 +142,7 @@ fn boxes_of<S: Alter>(
     requires inside { InOffice (state S.Store conn.old) }
     ensures answers { HasCleanDisk (state S.Store conn.new) → (boxes : List BoxKey) → ShowsContainers (state S.Store conn.old).now.trees boxes → (bs : List BoxKey) → numbers.now ≡ map (box_number boxes) bs → IfOk result (λ keys. keys ≡ bs) }
     ensures looks { OnOk result (Looks (state S.Store conn.old) (state S.Store conn.new)) }
+    ensures faults { HasCleanDisk (state S.Store conn.new) → IsUnlimited (state S.Store conn.old) → (boxes : List BoxKey) → ShowsContainers (state S.Store conn.old).now.trees boxes → AllByRecursion IsLegibleBox boxes → length boxes < 2 ^ 62 → (bs : List BoxKey) → list_all (λ b. list_any (is_same_box b) boxes) bs ≡ true → numbers.now ≡ map (box_number boxes) bs → IfErr result (HasCause (state S.Store conn.old) (state S.Store conn.new)) }
     ensures cut { OnErr result (IsCut (state S.Store conn.old) (state S.Store conn.new)) }
 {
     let mut keys = List::new(alloc);
@@ -151,6 +162,7 @@ pub fn values<S: Alter>(
     requires small { unit < 2 ^ 63 }
     ensures answers { HasCleanDisk (state S.Store conn.new) → (version : Version) (o : OfficeRow) (c : Catalogue) → ShowsCatalogue version (state S.Store conn.old).now o c → HasAllPlaces c → IfOk result (λ found. found ≡ values_of unit c) }
     ensures looks { OnOk result (Looks (state S.Store conn.old) (state S.Store conn.new)) }
+    ensures faults { HasCleanDisk (state S.Store conn.new) → IsUnlimited (state S.Store conn.old) → (version : Version) (o : OfficeRow) (c : Catalogue) → ShowsCatalogue version (state S.Store conn.old).now o c → HasAllPlaces c → KnowsItsContainers c → IsKept c → IfErr result (HasCause (state S.Store conn.old) (state S.Store conn.new)) }
     ensures cut { OnErr result (IsCut (state S.Store conn.old) (state S.Store conn.new)) }
 {
     let mut levels = levels_of(alloc, conn, unit)?;

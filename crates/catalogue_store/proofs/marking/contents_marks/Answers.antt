@@ -1,13 +1,16 @@
-use Rattle.std.proofs.Common.{List, ℕ, map, sym, subst, ◌∙◌}
+use Rattle.std.proofs.Common.{rules, List, ℕ, map, sym, subst, ◌∙◌}
 use Rattle.std.proofs.lemmas.Result.{IfOk-weaker}
 use Rattle.sqlite.specs.Held.{state}
 use Rattle.sqlite.specs.Effect.{Database}
 use Rattle.catalogue_store.specs.Marking.{AreAttached, AreMarksOfEach}
 use Rattle.catalogue_store.specs.Shows.{Shows}
-use Rattle.catalogue_store.specs.Step.{Looks}
+use Rattle.catalogue_store.specs.Step.{IsCut, Looks}
 use Rattle.catalogue_store.specs.Units.{Unit}
 use Rattle.catalogue_store.proofs.Calls.{early, office_of}
 use Rattle.catalogue_store.proofs.MarkForests.{if_ok_with}
+use Rattle.catalogue_store.specs.Faults.{IsUnlimited, HasCause}
+use Rattle.catalogue_store.proofs.Causes.{if_cause_then, still_unlimited}
+use Rattle.catalogue_store.proofs.MarkCauses.{if_err_with, attached_low}
 use Rattle.catalogue_store.proofs.marking.contents_marks.Goals as goal
 
 pub attached_units-requires-clause-inside : goal.attached_units-requires-clause-inside
@@ -29,3 +32,25 @@ returns-clause-answers g c clean o k it =
     (λ found each. (got.0, got.1, subst (λ (l : List ℕ). AreMarksOfEach k.forest l found.items) same each))
     (c.marks_of_each.ensures.answers clean o k (subst (λ (db : Database). Shows g.P.Places.shows g.P.Places.version db o k) still it)))
     c.marks_of_each.ensures.looks
+
+pub returns-in_err-units-clause-faults : goal.returns-in_err-units-clause-faults
+returns-in_err-units-clause-faults g c clean free o k it kept =
+    let why = c.in_err-units.ensures.faults clean free k it.catalogue.housings in
+    search (rules, why)
+
+pub returns-clause-faults : goal.returns-clause-faults
+returns-clause-faults g c clean free o k it kept =
+    let a = state g.S.Store c.args.conn.now in
+    let b = state g.S.Store c.attached_units.new.conn in
+    let d = state g.S.Store c.marks_of_each.new.conn in
+    let looked = c.in_ok-units.ensures.looks in
+    if_err_with c.marks_of_each.result (IsCut b d) (HasCause a d)
+    (λ last.
+    let before = early b d _ last.crash clean in
+    let still = sym (looked.same before) in
+    let free_b : IsUnlimited b = still_unlimited a b looked.goes.on free in
+    let got = c.in_ok-units.ensures.answers before k it.catalogue.units it.catalogue.housings in
+    if_cause_then a b d looked.goes.on before c.marks_of_each.result
+    (c.marks_of_each.ensures.faults clean free_b o k (subst (λ (db : Database). Shows g.P.Places.shows g.P.Places.version db o k) still it) kept
+    (attached_low k kept c.args.container got.0 c.deref.result.now got.1 (c.deref.ensures.value ∙ got.2))))
+    c.marks_of_each.ensures.cut

@@ -1,6 +1,7 @@
-use Rattle.std.proofs.Common.{rules, ℕ, ◌+◌, List, ◌++◌, ◌∷◌, [], take, get_or, sym, subst, ◌∙◌, arith}
+use Rattle.std.proofs.Common.{rules, ℕ, ◌+◌, ◌<◌, ◌^◌, List, ◌++◌, ◌∷◌, [], take, get_or, sym, subst, ◌∙◌, arith}
 use Rattle.std.proofs.lemmas.List.{take_more, take_all}
 use Rattle.sqlite.specs.Held.{state}
+use Rattle.sqlite_trees.proofs.ListLemmas.{all-get_or}
 use Rattle.sqlite.specs.Effect.{Database}
 use Rattle.catalogue_store.specs.Marking.{AreMarksOfEach}
 use Rattle.catalogue_store.specs.Shows.{Shows}
@@ -8,6 +9,8 @@ use Rattle.catalogue_store.specs.Step.{IsCut}
 use Rattle.catalogue_store.specs.declared.marking.Attached.{Attached}
 use Rattle.catalogue_store.proofs.Calls.{early, looks_nowhere, looks_then, cut_then, cut_after, office_of}
 use Rattle.catalogue_store.proofs.MarkForests.{each_more}
+use Rattle.catalogue_store.specs.Faults.{IsUnlimited}
+use Rattle.catalogue_store.proofs.Causes.{cause_then, still_unlimited}
 use Rattle.catalogue_store.proofs.marking.marks_of_each.Goals as goal
 
 pub loop-unit-init : goal.loop-unit-init
@@ -74,3 +77,33 @@ pub returns-clause-answers : goal.returns-clause-answers
 returns-clause-answers g c clean o k it =
     subst (λ (ids : List ℕ). AreMarksOfEach k.forest ids c.loop-unit.found.items) (take_all c.loop-unit.unit-index c.args.units.now (omega (arith, c.loop-unit-test.false)))
     (c.loop-unit.invariant.so_far clean o k it)
+
+pub returns-then-unit-ge-NO_NUMBER-clause-faults : goal.returns-then-unit-ge-NO_NUMBER-clause-faults
+returns-then-unit-ge-NO_NUMBER-clause-faults g c clean free o k it kept low =
+    let small : get_or c.args.units.now c.loop-unit.unit-index 0 < 2 ^ 63 = all-get_or (λ (id : ℕ). id < 2 ^ 63) c.args.units.now c.loop-unit.unit-index 0 low c.loop-unit-test.true in
+    absurd (omega (arith, small, c.if-unit-ge-NO_NUMBER.true))
+
+pub returns-in_err-path-clause-faults : goal.returns-in_err-path-clause-faults
+returns-in_err-path-clause-faults g c clean free o k it kept low =
+    let a = state g.S.Store c.args.conn.now in
+    let b = state g.S.Store c.loop-unit.conn in
+    let d = state g.S.Store c.marks_on_path.new.conn in
+    let looked = c.loop-unit.invariant.looks in
+    let before = early b d _ c.in_err-path.ensures.cut.crash clean in
+    let free_b : IsUnlimited b = still_unlimited a b looked.goes.on free in
+    let why = c.in_err-path.ensures.faults clean free_b o k (subst (λ (db : Database). Shows g.P.Places.shows g.P.Places.version db o k) (sym (looked.same before)) it) kept in
+    let whole = cause_then a b d looked.goes.on before _ why in
+    search (rules, whole)
+
+pub returns-in_err-branch-clause-faults : goal.returns-in_err-branch-clause-faults
+returns-in_err-branch-clause-faults g c clean free o k it kept low =
+    let a = state g.S.Store c.args.conn.now in
+    let b = state g.S.Store c.loop-unit.conn in
+    let d = state g.S.Store c.marks_on_path.new.conn in
+    let e = state g.S.Store c.marks_in_branch.new.conn in
+    let looked = looks_then a b d c.loop-unit.invariant.looks c.in_ok-path.ensures.looks in
+    let before = early d e _ c.in_err-branch.ensures.cut.crash clean in
+    let free_d : IsUnlimited d = still_unlimited a d looked.goes.on free in
+    let why = c.in_err-branch.ensures.faults clean free_d o k (subst (λ (db : Database). Shows g.P.Places.shows g.P.Places.version db o k) (sym (looked.same before)) it) kept in
+    let whole = cause_then a d e looked.goes.on before _ why in
+    search (rules, whole)

@@ -1,4 +1,4 @@
-use Rattle.std.proofs.Common.{◌≡◌, ◌<◌, ℕ, List, [], ◌∷◌, ◌++◌, length, get_or, take, sym, ap, subst, ◌∙◌}
+use Rattle.std.proofs.Common.{rules, ◌≡◌, ◌<◌, ℕ, List, [], ◌∷◌, ◌++◌, length, get_or, take, sym, ap, subst, ◌∙◌}
 use Rattle.std.proofs.lemmas.List.{get_or-map, length-map, take_more}
 use Rattle.sqlite.specs.Effect.{Database}
 use Rattle.sqlite.specs.Held.{state}
@@ -6,6 +6,9 @@ use Rattle.isad_core.specs.declared.values.BoxKey.{BoxKey}
 use Rattle.catalogue_store.specs.Merging.{box_number}
 use Rattle.catalogue_store.specs.Shows.{ShowsContainers}
 use Rattle.catalogue_store.proofs.Calls.{early, looks_then}
+use Rattle.catalogue_store.specs.Faults.{IsUnlimited}
+use Rattle.catalogue_store.proofs.Causes.{cause_then, still_unlimited}
+use Rattle.catalogue_store.proofs.ValueCauses.{box_at}
 use Rattle.catalogue_store.proofs.unit_values.boxes_of.Goals as goal
 
 pub loop-number-preserved : goal.loop-number-preserved
@@ -29,3 +32,17 @@ loop-number-preserved g c =
             c.in_ok-push.ensures.ok ∙ ap (λ (l : List BoxKey). l ++ key ∷ []) (invariant.1.1 before boxes at bs is) ∙ ap (λ (x : BoxKey). take i bs ++ x ∷ []) same ∙ sym (take_more bs i key low),
       ),
     )
+
+pub returns-in_err-container_of-clause-faults : goal.returns-in_err-container_of-clause-faults
+returns-in_err-container_of-clause-faults g c clean free boxes at legible few bs known is =
+    let a = state g.S.Store c.args.conn.now in
+    let b = state g.S.Store c.loop-number.conn in
+    let d = state g.S.Store c.container_of.new.conn in
+    let looked = c.loop-number.invariant.1.0 in
+    let before = early b d _ c.in_err-container_of.ensures.cut.crash clean in
+    let free_b : IsUnlimited b = still_unlimited a b looked.goes.on free in
+    let there : ShowsContainers b.now.trees boxes = ap (λ (db : Database). db.trees 18) (looked.same before) ∙ at in
+    let box = box_at boxes bs c.args.numbers.now c.loop-number.number-index known is c.loop-number-test.true in
+    let why = c.in_err-container_of.ensures.faults clean free_b boxes there legible few box.0 box.1 box.2 in
+    let whole = cause_then a b d looked.goes.on before _ why in
+    search (rules, whole)

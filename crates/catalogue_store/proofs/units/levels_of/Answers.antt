@@ -1,4 +1,5 @@
 use Rattle.std.proofs.Common.{◌≡◌, List, map, filter, nat_eq, rules, sym, ◌∙◌}
+use Rattle.std.specs.Prelude.{IsUtf8}
 use Rattle.std.proofs.lemmas.Result.{IfOk-weaker}
 use Rattle.sqlite.specs.Held.{state}
 use Rattle.sqlite.specs.State.{HasCleanDisk}
@@ -7,8 +8,13 @@ use Rattle.catalogue_store.specs.Rows.{by_number}
 use Rattle.catalogue_store.specs.Order.{IsOrdered}
 use Rattle.catalogue_store.specs.Step.{IsCut, Looks}
 use Rattle.sqlite_trees.proofs.ListLemmas.{map-map}
+use Rattle.catalogue_store.specs.Bounds.{IsLegibleUnit}
 use Rattle.catalogue_store.proofs.Calls.{early, in_office, read_cut, read_looks, cut_looks, on_ok_from}
 use Rattle.catalogue_store.proofs.UnitReads.{level_text, level_command, level_is, level_plain, level_rows}
+use Rattle.catalogue_store.proofs.Causes.{memory_only}
+use Rattle.catalogue_store.proofs.Reading.{all_found}
+use Rattle.catalogue_store.proofs.Statuses.{all_map}
+use Rattle.catalogue_store.proofs.UnitCauses.{level_cause}
 use Rattle.catalogue_store.proofs.units.levels_of.Goals as goal
 
 pub returns-in_err-rows-clause-cut : goal.returns-in_err-rows-clause-cut
@@ -39,3 +45,21 @@ returns-clause-rows g c clean xs stored =
     let got = level_rows old new c.args.id xs _ (at clean).0 (at clean).1 stored shown in
     IfOk-weaker c.read_all.result (λ all. all.items ≡ map (λ (u : Unit). u.values.level) got.0) (λ all. (ys : List Unit) × IsOrdered by_number (filter (λ (u : Unit). nat_eq c.args.id u.id) xs) ys × (all.items ≡ map (λ (u : Unit). u.values.level) ys)) (λ all same. (got.0, (got.1, got.2), same))
     (c.read_all.ensures.value (map (λ (u : Unit). u.values.level) got.0) (c.deref.ensures.value ∙ got.3 ∙ sym (map-map _ (λ (u : Unit). u.values.level) got.0)))
+
+pub returns-in_err-rows-clause-faults : goal.returns-in_err-rows-clause-faults
+returns-in_err-rows-clause-faults g c clean free xs stored legible =
+    let old = state g.S.Store c.args.conn.now in
+    let new = state g.S.Store c.query_all.new.self in
+    let at = c.requires.inside (early old new _ c.query_all.ensures.survives clean) in
+    let why = level_cause old new c.args.id at.0 at.1 free c.in_err-rows.field-0.0 (rw (c.number.ensures) at (c.in_err-rows.ensures.err clean)) in
+    search (rules, why)
+
+pub returns-clause-faults : goal.returns-clause-faults
+returns-clause-faults g c clean free xs stored legible =
+    let old = state g.S.Store c.args.conn.now in
+    let new = state g.S.Store c.query_all.new.self in
+    let at = c.requires.inside (early old new _ c.query_all.ensures.survives clean) in
+    let got = level_rows old new c.args.id xs _ at.0 at.1 stored (rw (c.number.ensures) at (c.in_ok-rows.ensures.ok clean)) in
+    let level = λ (u : Unit). u.values.level in
+    let all = map level got.0 in
+    memory_only old new c.read_all.result (c.read_all.ensures.faults all (c.deref.ensures.value ∙ got.3 ∙ sym (map-map _ level got.0)) (all_map level IsUtf8 IsLegibleUnit (λ u h. h.level) got.0 (all_found IsLegibleUnit _ xs got.0 got.1 legible)))

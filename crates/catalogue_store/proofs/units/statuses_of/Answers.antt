@@ -1,11 +1,18 @@
-use Rattle.std.proofs.Common.{map, filter, nat_eq, rules, sym, ◌∙◌}
+use Rattle.std.proofs.Common.{map, filter, nat_eq, rules, sym, ◌∙◌, SFits}
+use Rattle.std.specs.Prelude.{IfSome}
+use Rattle.std.specs.Int.{w32}
 use Rattle.sqlite.specs.Held.{state}
 use Rattle.catalogue_store.specs.Units.{Unit}
 use Rattle.catalogue_store.specs.Step.{IsCut, Looks}
 use Rattle.catalogue_store.specs.declared.answer.Status.{Status}
 use Rattle.sqlite_trees.proofs.ListLemmas.{map-map}
+use Rattle.catalogue_store.specs.Bounds.{IsLegibleUnit}
 use Rattle.catalogue_store.proofs.Calls.{early, in_office, read_cut, read_looks, cut_looks, on_ok_from}
 use Rattle.catalogue_store.proofs.PlaceReads.{statuses_text, statuses_command, statuses_is, statuses_plain, statuses_rows}
+use Rattle.catalogue_store.proofs.Causes.{memory_only}
+use Rattle.catalogue_store.proofs.Reading.{all_found}
+use Rattle.catalogue_store.proofs.Statuses.{all_map}
+use Rattle.catalogue_store.proofs.UnitCauses.{statuses_cause, statuses_found, until_fits}
 use Rattle.catalogue_store.proofs.units.statuses_of.Goals as goal
 
 pub returns-in_err-rows-clause-cut : goal.returns-in_err-rows-clause-cut
@@ -36,3 +43,21 @@ returns-clause-rows g c clean xs stored up =
     let found = filter (λ (u : Unit). nat_eq c.args.id u.id) xs in
     let told = λ (u : Unit). (let x : Status = record { draft = u.draft; until = u.until } in x) in
     c.read_all.ensures.value (map told found) (c.deref.ensures.value ∙ statuses_rows old new c.args.id xs _ at.0 at.1 stored up shown ∙ sym (map-map _ told found))
+
+pub returns-in_err-rows-clause-faults : goal.returns-in_err-rows-clause-faults
+returns-in_err-rows-clause-faults g c clean free xs stored legible =
+    let old = state g.S.Store c.args.conn.now in
+    let new = state g.S.Store c.query_all.new.self in
+    let at = c.requires.inside (early old new _ c.query_all.ensures.survives clean) in
+    let why = statuses_cause old new c.args.id at.0 at.1 free c.in_err-rows.field-0.0 (rw (c.number.ensures) at (c.in_err-rows.ensures.err clean)) in
+    search (rules, why)
+
+pub returns-clause-faults : goal.returns-clause-faults
+returns-clause-faults g c clean free xs stored legible =
+    let old = state g.S.Store c.args.conn.now in
+    let new = state g.S.Store c.query_all.new.self in
+    let at = c.requires.inside (early old new _ c.query_all.ensures.survives clean) in
+    let got = statuses_found old new c.args.id xs _ at.0 at.1 stored (rw (c.number.ensures) at (c.in_ok-rows.ensures.ok clean)) in
+    let told = λ (u : Unit). (let x : Status = record { draft = u.draft; until = u.until } in x) in
+    let all = map told got.0 in
+    memory_only old new c.read_all.result (c.read_all.ensures.faults all (c.deref.ensures.value ∙ got.2 ∙ sym (map-map _ told got.0)) (all_map told (λ (s : Status). IfSome s.until (SFits w32)) IsLegibleUnit until_fits got.0 (all_found IsLegibleUnit _ xs got.0 got.1 legible)))
