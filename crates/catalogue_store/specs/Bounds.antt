@@ -1,5 +1,5 @@
 -- The limits of an office, as far as they bear on what its tables can store and give back.
-use Rattle.std.specs.Prelude.{◌≡◌, ℕ, ◌<◌, ◌≤◌, ◌^◌, true, nat_eq, List, length, IfSome, IsUtf8}
+use Rattle.std.specs.Prelude.{◌≡◌, ℕ, ◌<◌, ◌≤◌, ◌^◌, true, nat_eq, length, IfSome, IsUtf8}
 use Rattle.std.specs.List.{AllByRecursion}
 use Rattle.isad_core.specs.Days.{is_day_number}
 use Rattle.tree_core.specs.Forest.{Forest, nodes, each, path, size}

@@ -1,8 +1,10 @@
 //! The reading room's tables.
 #![tactic(auto)]
 
+mod blank;
 mod making;
 
+pub use blank::is_blank;
 pub use making::create_desk;
 
 #[cfg(test)]

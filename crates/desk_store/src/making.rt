@@ -1,6 +1,6 @@
 //! The tables are made.
 
-ghost use Rattle.std.specs.Prelude.{[], OnOk, OnErr, IfErr};
+ghost use Rattle.std.specs.Prelude.{◌≡◌, [], Err, OnOk, OnErr, IfErr};
 ghost use Rattle.sqlite.specs.Held.{state};
 ghost use Rattle.sqlite.specs.Effect.{Database};
 ghost use Rattle.sqlite.specs.State.{HasCleanDisk};
@@ -10,6 +10,7 @@ ghost use Rattle.catalogue_store.specs.Schema.{no_schema, desk_schema};
 ghost use Rattle.catalogue_store.specs.Step.{Continues, IsCut};
 ghost use Rattle.desk_store.specs.Making.{reader_schema, order_schema, run_schema};
 
+use crate::blank::is_blank;
 use catalogue_store::{StoreFault, create_index, create_table};
 use sqlite::{Alter, Connection};
 
@@ -79,8 +80,8 @@ fn create_permits<S: Alter>(conn: &mut Connection<S>) -> Result<(), StoreFault>
     create_index(conn, "CREATE INDEX permit_by_unit ON permit (unit)")
 }
 
-/// Makes the desk's tables, where there are none. They come before the catalogue's.
-pub fn create_desk<S: Alter>(conn: &mut Connection<S>) -> Result<(), StoreFault>
+/// Makes the desk's tables, where there are none.
+fn make_desk<S: Alter>(conn: &mut Connection<S>) -> Result<(), StoreFault>
     ensures made { (start : Database) → IsMaking [] no_schema start (state S.Store conn.old) → OnOk result (Continues (state S.Store conn.old) (state S.Store conn.new) × IsMaking [] desk_schema start (state S.Store conn.new)) }
     ensures faults { (start : Database) → IsMaking [] no_schema start (state S.Store conn.old) → HasCleanDisk (state S.Store conn.new) → IfErr result (HasCause (state S.Store conn.old) (state S.Store conn.new)) }
     ensures cut { (start : Database) → IsMaking [] no_schema start (state S.Store conn.old) → OnErr result (IsCut (state S.Store conn.old) (state S.Store conn.new)) }
@@ -89,4 +90,18 @@ pub fn create_desk<S: Alter>(conn: &mut Connection<S>) -> Result<(), StoreFault>
     create_orders(conn)?;
     create_runs(conn)?;
     create_permits(conn)
+}
+
+/// Makes the desk's tables in a store that has nothing yet; any other store is left as it is. They
+/// come before the catalogue's.
+pub fn create_desk<S: Alter>(conn: &mut Connection<S>) -> Result<(), StoreFault>
+    ensures there { ((state S.Store conn.old).now.schema ≡ no_schema → ⊥) → (result ≡ Err StoreFault.Schema) × (conn.new ≡ conn.old) }
+    ensures made { (start : Database) → IsMaking [] no_schema start (state S.Store conn.old) → OnOk result (Continues (state S.Store conn.old) (state S.Store conn.new) × IsMaking [] desk_schema start (state S.Store conn.new)) }
+    ensures faults { (start : Database) → IsMaking [] no_schema start (state S.Store conn.old) → HasCleanDisk (state S.Store conn.new) → IfErr result (HasCause (state S.Store conn.old) (state S.Store conn.new)) }
+    ensures cut { (start : Database) → IsMaking [] no_schema start (state S.Store conn.old) → OnErr result (IsCut (state S.Store conn.old) (state S.Store conn.new)) }
+{
+    if !is_blank(conn) {
+        return Err(StoreFault::Schema);
+    }
+    make_desk(conn)
 }

@@ -6,15 +6,17 @@ ghost use Rattle.sqlite.specs.State.{HasCleanDisk};
 ghost use Rattle.catalogue_store.specs.Schema.{no_schema, Links};
 ghost use Rattle.catalogue_store.specs.Step.{InTransaction};
 
+use crate::blank::is_blank;
 use crate::making::create_desk;
 use catalogue_store::{
-    LinkPlaces, NewUnit, OfficeRow, StoreFault, UnitValues, add_unit, begin, branch_marks,
+    LinkPlaces, NewUnit, OfficeRow, StoreFault, UnitValues, add_unit, begin, branch_marks, commit,
     contents_marks, create, known, move_unit, office_row, path_marks, remove_branch,
     replace_values, set_closure, set_status, values,
 };
 use isad_core::{BoxKey, Day, List, Text, Values};
 use sqlite::{Alter, Connection, Row};
 use std::alloc::{AllocError, Global};
+use std::fs;
 use std::test::Fail;
 use tree_core::Mark;
 
@@ -467,5 +469,47 @@ fn tables_are_made_once(rt: HostRuntime) -> Result<(), Fail> {
     assert_eq!(rt; office.as_str(), " 1 1 2 3 1 2 19783 3\n");
     let links = rows(alloc, &mut conn, LINKS, 3)?;
     assert_eq!(rt; links.as_str(), " 1 - 1\n 2 1 1\n");
+    Ok(())
+}
+
+/// An office in a store that has nothing else.
+fn new_office<S: Alter>(alloc: Global, conn: &mut Connection<S>) -> Result<(), StoreFault>
+    ensures inside { OnOk result (InTransaction Links (state S.Store conn.new)) }
+{
+    if !is_blank(conn) {
+        return Err(StoreFault::Schema);
+    }
+    open_office(alloc, conn)
+}
+
+/// An office with four units, of which unit 3 moves below unit 2 and unit 4 goes.
+#[tactic(auto, using(crate::proofs::Going::went_on))]
+fn changed_office<S: Alter>(alloc: Global, conn: &mut Connection<S>) -> Result<(), StoreFault> {
+    new_office(alloc, conn)?;
+    four_units(alloc, conn)?;
+    move_unit::<LinkPlaces, S>(alloc, conn, 3, Some(2))?;
+    remove_branch::<LinkPlaces, S>(alloc, conn, 4)?;
+    commit(conn)
+}
+
+const FILE: &str = "office-of-the-tests.db";
+
+/// The file is closed and opened again before it is read; it is no new office then.
+#[test]
+fn an_office_stands_in_its_file(rt: HostRuntime) -> Result<(), Fail> {
+    let alloc = rt.alloc();
+    let _ = fs::remove_file(&rt, FILE);
+    let mut conn = Connection::open(&rt, FILE)?;
+    changed_office(alloc, &mut conn)?;
+    conn.close()?;
+    let mut again = Connection::open(&rt, FILE)?;
+    let links = rows(alloc, &mut again, LINKS, 3)?;
+    assert_eq!(rt; links.as_str(), " 1 - 1\n 2 1 1\n 3 2 1\n");
+    let boxes = "SELECT unit, ord, container FROM housing ORDER BY unit, ord";
+    let housing = rows(alloc, &mut again, boxes, 3)?;
+    assert_eq!(rt; housing.as_str(), " 1 1 1\n 3 1 2\n");
+    assert_eq!(rt; new_office(alloc, &mut again), Err(StoreFault::Schema));
+    again.close()?;
+    fs::remove_file(&rt, FILE)?;
     Ok(())
 }
