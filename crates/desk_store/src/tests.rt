@@ -493,12 +493,15 @@ fn changed_office<S: Alter>(alloc: Global, conn: &mut Connection<S>) -> Result<(
 }
 
 const FILE: &str = "office-of-the-tests.db";
+/// What is written before it goes into the file stands here.
+const LOG: &str = "office-of-the-tests.db-wal";
 
 /// The file is closed and opened again before it is read; it is no new office then.
 #[test]
 fn an_office_stands_in_its_file(rt: HostRuntime) -> Result<(), Fail> {
     let alloc = rt.alloc();
     let _ = fs::remove_file(&rt, FILE);
+    let _ = fs::remove_file(&rt, LOG);
     let mut conn = Connection::open(&rt, FILE)?;
     changed_office(alloc, &mut conn)?;
     conn.close()?;
@@ -511,5 +514,6 @@ fn an_office_stands_in_its_file(rt: HostRuntime) -> Result<(), Fail> {
     assert_eq!(rt; new_office(alloc, &mut again), Err(StoreFault::Schema));
     again.close()?;
     fs::remove_file(&rt, FILE)?;
+    let _ = fs::remove_file(&rt, LOG);
     Ok(())
 }
