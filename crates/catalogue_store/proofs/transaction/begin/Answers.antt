@@ -2,7 +2,7 @@ use Rattle.std.proofs.Common.{rules, Ok}
 use Rattle.sqlite.specs.Held.{state}
 use Rattle.sqlite.proofs.StateLemmas.{survives_weaker}
 use Rattle.catalogue_store.proofs.Errors.{stops}
-use Rattle.catalogue_store.proofs.Transactions.{begins, begins_outside, begin_commits}
+use Rattle.catalogue_store.proofs.Transactions.{begins, begins_outside, begin_cause, begin_commits}
 use Rattle.catalogue_store.proofs.transaction.begin.Goals as goal
 
 pub returns-in_err-execute-clause-stopped : goal.returns-in_err-execute-clause-stopped
@@ -23,3 +23,8 @@ returns-clause-begun g c clean = begins (state g.S.Store c.args.conn.now) (state
 pub returns-clause-crash : goal.returns-clause-crash
 returns-clause-crash g c =
     survives_weaker (state g.S.Store c.args.conn.now) (state g.S.Store c.execute.new.self) _ (λ _. ⊥) (λ _ db h. begin_commits (state g.S.Store c.args.conn.now) db h) c.execute.ensures.survives
+
+pub returns-in_err-execute-clause-faults : goal.returns-in_err-execute-clause-faults
+returns-in_err-execute-clause-faults g c clean outside =
+    let why = begin_cause (state g.S.Store c.args.conn.now) (state g.S.Store c.execute.new.self) c.in_err-execute.field-0.0 (c.in_err-execute.ensures.runs clean) outside in
+    search (rules, why)
