@@ -59,14 +59,14 @@ commits old new (Ok count) h =
     record { was_open = it.1.was_open; is_open = it.1.is_open; now = it.1.now_is; committed = it.1.committed_is; ended = it.1.mode }
 
 -- a transaction begins where none is open
-pub begins_outside : (old new : State) (r : Result ℕ Error) → Executes begin_text [] old new r → OnOk r (old.in_transaction ≡ false)
-begins_outside old new (Err e) h = tt
-begins_outside old new (Ok count) h = (runs_as begin_text [] old new old.now.schema refl Begin (begin_is old.now.schema).0 (begin_is old.now.schema).1 count h).0
+pub began_outside : (old new : State) (r : Result ℕ Error) → Executes begin_text [] old new r → OnOk r (old.in_transaction ≡ false)
+began_outside old new (Err e) h = tt
+began_outside old new (Ok count) h = (runs_as begin_text [] old new old.now.schema refl Begin (begin_is old.now.schema).0 (begin_is old.now.schema).1 count h).0
 
 -- what is committed is a transaction that was open
-pub commits_inside : (old new : State) (r : Result ℕ Error) → Executes commit_text [] old new r → OnOk r (IsTrue old.in_transaction)
-commits_inside old new (Err e) h = tt
-commits_inside old new (Ok count) h = (runs_as commit_text [] old new old.now.schema refl Commit (commit_is old.now.schema).0 (commit_is old.now.schema).1 count h).0
+pub committed_inside : (old new : State) (r : Result ℕ Error) → Executes commit_text [] old new r → OnOk r (IsTrue old.in_transaction)
+committed_inside old new (Err e) h = tt
+committed_inside old new (Ok count) h = (runs_as commit_text [] old new old.now.schema refl Commit (commit_is old.now.schema).0 (commit_is old.now.schema).1 count h).0
 
 back : (old new : State) → IsRolledBack old new → IsBack old new
 back old new it = record { was_open = it.was_open; now = λ h. (it.undone h).0; committed = λ h. (it.undone h).1; ended = it.autocommit }

@@ -2,7 +2,7 @@ use Rattle.std.proofs.Common.{rules, Ok, ◌≡◌}
 use Rattle.sqlite.specs.Held.{state}
 use Rattle.sqlite.proofs.StateLemmas.{survives_weaker}
 use Rattle.catalogue_store.proofs.Errors.{stops}
-use Rattle.catalogue_store.proofs.Transactions.{commits, commits_inside, commit_cause, commit_commits}
+use Rattle.catalogue_store.proofs.Transactions.{commits, committed_inside, commit_cause, commit_commits}
 use Rattle.catalogue_store.proofs.transaction.commit.Goals as goal
 
 pub returns-in_err-execute-clause-stopped : goal.returns-in_err-execute-clause-stopped
@@ -15,7 +15,7 @@ returns-in_err-execute-clause-crash g c =
     survives_weaker (state g.S.Store c.args.conn.now) (state g.S.Store c.execute.new.self) _ (λ db. db ≡ (state g.S.Store c.args.conn.now).now.trees) (λ _ db h. commit_commits (state g.S.Store c.args.conn.now) db h) c.execute.ensures.survives
 
 pub returns-clause-inside : goal.returns-clause-inside
-returns-clause-inside g c clean = commits_inside (state g.S.Store c.args.conn.now) (state g.S.Store c.execute.new.self) (Ok c.in_ok-execute.field-0) (c.in_ok-execute.ensures.runs clean)
+returns-clause-inside g c clean = committed_inside (state g.S.Store c.args.conn.now) (state g.S.Store c.execute.new.self) (Ok c.in_ok-execute.field-0) (c.in_ok-execute.ensures.runs clean)
 
 pub returns-clause-committed : goal.returns-clause-committed
 returns-clause-committed g c clean = commits (state g.S.Store c.args.conn.now) (state g.S.Store c.execute.new.self) (Ok c.in_ok-execute.field-0) (c.in_ok-execute.ensures.runs clean)
