@@ -1,5 +1,5 @@
 -- What BEGIN, COMMIT and ROLLBACK do, as text.
-use Rattle.std.proofs.Common.{◌≡◌, inl, inr, ℕ, List, [], codes, true, false, None, Ok, Err, Result, OnOk, IsTrue, lit≤, refl, sym, ap, subst, subst₂, ◌∙◌, append-nil}
+use Rattle.std.proofs.Common.{◌≡◌, ◌⊎◌, inl, inr, ℕ, List, [], codes, true, false, None, Ok, Err, Result, OnOk, IsTrue, lit≤, refl, sym, ap, subst, subst₂, ◌∙◌, append-nil}
 use Rattle.sqlite.specs.Schema.{Schema}
 use Rattle.sqlite.specs.Tree.{Trees}
 use Rattle.sqlite.specs.Command.{Command}
@@ -11,6 +11,8 @@ use Rattle.sqlite.specs.State.{State, Executes, Shows, IsRolledBack, CommitsBy, 
 use Rattle.sqlite.proofs.Callers.{IsPlain, command_of, statement_of, runs_as}
 use Rattle.sqlite.specs.State.{IsMisplaced}
 use Rattle.catalogue_store.specs.Transactions.{Committed, IsStopped}
+use Rattle.catalogue_store.specs.Faults.{fault_of, HasCause}
+use Rattle.catalogue_store.proofs.Causes.{failed_cause}
 use Rattle.catalogue_store.proofs.Failures.{IsWhole, fails_as}
 use Rattle.catalogue_store.proofs.Errors.{stops}
 use Rattle.catalogue_store.specs.Step.{IsBack}
@@ -56,6 +58,16 @@ commits old new (Ok count) h =
     let it = runs_as commit_text [] old new old.now.schema refl Commit (commit_is old.now.schema).0 (commit_is old.now.schema).1 count h in
     record { was_open = it.1.was_open; is_open = it.1.is_open; now = it.1.now_is; committed = it.1.committed_is; ended = it.1.mode }
 
+-- a transaction begins where none is open
+pub began_outside : (old new : State) (r : Result ℕ Error) → Executes begin_text [] old new r → OnOk r (old.in_transaction ≡ false)
+began_outside old new (Err e) h = tt
+began_outside old new (Ok count) h = (runs_as begin_text [] old new old.now.schema refl Begin (begin_is old.now.schema).0 (begin_is old.now.schema).1 count h).0
+
+-- what is committed is a transaction that was open
+pub committed_inside : (old new : State) (r : Result ℕ Error) → Executes commit_text [] old new r → OnOk r (IsTrue old.in_transaction)
+committed_inside old new (Err e) h = tt
+committed_inside old new (Ok count) h = (runs_as commit_text [] old new old.now.schema refl Commit (commit_is old.now.schema).0 (commit_is old.now.schema).1 count h).0
+
 back : (old new : State) → IsRolledBack old new → IsBack old new
 back old new it = record { was_open = it.was_open; now = λ h. (it.undone h).0; committed = λ h. (it.undone h).1; ended = it.autocommit }
 
@@ -63,16 +75,48 @@ roll_back_whole : (schema : Schema) → IsWhole 8 0 (understood schema roll_back
 unfolding understood everything
 roll_back_whole schema = (lit≤ tt, refl, refl)
 
-misplaced : (old : State) (e : Error) → IsTrue old.in_transaction → IsMisplaced old Rollback e → ⊥
-misplaced old e inside (inl (state, inl begin)) = let h = begin.0 in cc
-misplaced old e inside (inl (state, inr end)) = let h = end.1 in cc
-misplaced old e inside (inr h) = elim h.2 [ inl k ↦ cc | inr k ↦ cc ]
+begin_whole : (schema : Schema) → IsWhole 5 0 (understood schema begin_text)
+unfolding understood everything
+begin_whole schema = (lit≤ tt, refl, refl)
+
+commit_whole : (schema : Schema) → IsWhole 6 0 (understood schema commit_text)
+unfolding understood everything
+commit_whole schema = (lit≤ tt, refl, refl)
+
+-- no transaction is begun in another
+begins_outside : (old : State) (e : Error) → old.in_transaction ≡ false → IsMisplaced old Begin e → ⊥
+begins_outside old e outside (inl (state, inl begin)) = let h = begin.1 in cc
+begins_outside old e outside (inl (state, inr end)) = elim end.0 [ inl k ↦ cc | inr k ↦ cc ]
+begins_outside old e outside (inr h) = elim h.2 [ inl k ↦ cc | inr k ↦ cc ]
+
+-- a transaction that is open can end
+ends_inside : (old : State) (command : Command) (e : Error) → (command ≡ Commit) ⊎ (command ≡ Rollback) → IsTrue old.in_transaction → IsMisplaced old command e → ⊥
+ends_inside old command e ends inside (inl (state, inl begin)) = let h = begin.0 in elim ends [ inl k ↦ cc | inr k ↦ cc ]
+ends_inside old command e ends inside (inl (state, inr end)) = let h = end.1 in cc
+ends_inside old command e ends inside (inr h) = elim ends [
+  | inl k ↦ elim h.2 [ inl release ↦ cc | inr back ↦ cc ]
+  | inr k ↦ elim h.2 [ inl release ↦ cc | inr back ↦ cc ]
+]
 
 pub rolls_back : (old new : State) (r : Result ℕ Error) → Executes roll_back_text [] old new r → IsTrue old.in_transaction → IsBack old new
 rolls_back old new (Ok count) h inside = back old new (runs_as roll_back_text [] old new old.now.schema refl Rollback (roll_back_is old.now.schema).0 (roll_back_is old.now.schema).1 count h).1
 rolls_back old new (Err e) h inside = elim (fails_as roll_back_text [] old new old.now.schema refl Rollback (roll_back_is old.now.schema).0 (roll_back_is old.now.schema).1 (roll_back_whole old.now.schema) refl e h) [
-  | inl refused ↦ absurd (elim refused.why [ inl out ↦ misplaced old e inside out | inr write ↦ write.0 ])
+  | inl refused ↦ absurd (elim refused.why [ inl out ↦ ends_inside old Rollback e (inr refl) inside out | inr write ↦ write.0 ])
   | inr failed ↦ back old new failed.1.3
+]
+
+-- a begin outside a transaction fails with the store alone
+pub begin_cause : (old new : State) (e : Error) → Executes begin_text [] old new (Err e) → old.in_transaction ≡ false → HasCause old new (fault_of e)
+begin_cause old new e h outside = elim (fails_as begin_text [] old new old.now.schema refl Begin (begin_is old.now.schema).0 (begin_is old.now.schema).1 (begin_whole old.now.schema) refl e h) [
+  | inl refused ↦ absurd (elim refused.why [ inl out ↦ begins_outside old e outside out | inr write ↦ write.0 ])
+  | inr failed ↦ failed_cause old new e failed.1
+]
+
+-- a commit inside a transaction fails with the store alone
+pub commit_cause : (old new : State) (e : Error) → Executes commit_text [] old new (Err e) → IsTrue old.in_transaction → HasCause old new (fault_of e)
+commit_cause old new e h inside = elim (fails_as commit_text [] old new old.now.schema refl Commit (commit_is old.now.schema).0 (commit_is old.now.schema).1 (commit_whole old.now.schema) refl e h) [
+  | inl refused ↦ absurd (elim refused.why [ inl out ↦ ends_inside old Commit e (inl refl) inside out | inr write ↦ write.0 ])
+  | inr failed ↦ failed_cause old new e failed.1
 ]
 
 pub begin_commits : (s : State) (db : Trees) → CommitsBy begin_text [] s db → ⊥
