@@ -1,10 +1,11 @@
 -- What each of the causes 1 to 5 says where one row of a small sound office is changed.
-use Rattle.std.specs.Prelude.{◌≡◌, ℕ, pos, [], ◌∷◌, Option, Some, None, codes, replicate}
+use Rattle.std.specs.Prelude.{◌≡◌, ℕ, zero, suc, pos, List, [], ◌∷◌, Option, Some, None, codes, replicate}
+use Rattle.tree_core.specs.declared.rows.Link.{Link}
 use Rattle.tree_core.specs.Worked.{link, span}
 use Rattle.catalogue_store.specs.Schema.{Links, Spans}
 use Rattle.office.specs.Reading.{Rows, LinkRows, SpanRows, ElementRow, ContainerRow, HousingRow}
 use Rattle.office.specs.Causes.{cause}
-use Rattle.office.specs.DeskCausesRows.{sound as office_rows, plans}
+use Rattle.office.specs.DeskCausesRows.{sound as office_rows, plans, many_units}
 
 -- its unit has a title
 abbrev pub title : ElementRow
@@ -29,6 +30,17 @@ sound = record office_rows { elements = title ∷ [] }
 abbrev pub nested : Rows
 nested = record sound { office = record sound.office { version = 2 }; places = SpanRows (span 1 1 2 ∷ []) }
 
+-- the places of n units one below another: 1 at the top
+abbrev pub way_down : ℕ → List Link
+way_down zero = []
+way_down (suc zero) = link 1 None 1 ∷ []
+way_down (suc (suc n)) = link (suc (suc n)) (Some (suc n)) 1 ∷ way_down (suc n)
+
+-- n units one below another
+abbrev pub deep : ℕ → Rows
+deep n =
+    record sound { office = record sound.office { next_unit = suc n }; units = many_units n; places = LinkRows (way_down n) }
+
 -- what is told of rows of version 1
 abbrev pub told : Rows → Option ℕ
 told t = cause Links t
@@ -39,6 +51,7 @@ pub record Told : Type 0 where
   -- the office
   pub other_version : cause Spans sound ≡ Some 1
   pub no_seats : told (record sound { office = record sound.office { seats = 0 } }) ≡ Some 1
+  pub a_seat_too_many : told (record sound { office = record sound.office { seats = 201 } }) ≡ Some 1
   pub small_letters : told (record sound { office = record sound.office { country = codes "gb" } }) ≡ Some 1
   pub day_after_the_last : told (record sound { office = record sound.office { day = pos 2932897 } }) ≡ Some 1
   pub next_past_the_last : told (record sound { office = record sound.office { next_unit = 100000002 } }) ≡ Some 1
@@ -51,10 +64,14 @@ pub record Told : Type 0 where
   pub unit_without_a_place : told (record sound { places = LinkRows [] }) ≡ Some 3
   pub place_without_a_unit : told (record sound { places = LinkRows (link 1 None 1 ∷ link 2 (Some 1) 1 ∷ []) }) ≡ Some 3
   pub next_is_there : told (record sound { office = record sound.office { next_unit = 1 } }) ≡ Some 3
+  pub unit_without_a_number : told (record sound { units = record plans { id = 0 } ∷ []; places = LinkRows (link 0 None 1 ∷ []); elements = []; housings = [] }) ≡ Some 3
   pub no_source : told (record sound { units = record plans { source = codes "a b" } ∷ [] }) ≡ Some 3
   pub blank_number : told (record sound { units = record plans { legacy = codes " " } ∷ [] }) ≡ Some 3
   pub number_too_long : told (record sound { units = record plans { legacy = replicate 65536 49 } ∷ [] }) ≡ Some 3
+  pub level_too_long : told (record sound { units = record plans { level = replicate 65536 49 } ∷ [] }) ≡ Some 3
   pub closed_until_no_day : told (record sound { units = record plans { until = Some (pos 2932897) } ∷ [] }) ≡ Some 3
+  pub as_deep_as_may_be : told (deep 64) ≡ None
+  pub too_deep : told (deep 65) ≡ Some 3
   -- the elements
   pub level_as_an_element : told (record sound { elements = record title { k = 4 } ∷ [] }) ≡ Some 4
   pub after_the_last : told (record sound { elements = record title { k = 27 } ∷ [] }) ≡ Some 4

@@ -203,8 +203,8 @@ AtTheCounter =
 abbrev pub Depths : Type 0
 Depths =
     Answers
-    (import (chain 65) ∷ import (chain 64) ∷ Import (codes "b") docks ∷ Move 1 (Some 65) ∷ Move 2 (Some 65) ∷ Move 3 (Some 66) ∷ Move 65 (Some 62) ∷ Move 65 (Some 61) ∷ [])
-    (refused (BadFile 66 12) ∷ rows 0 64 0 0 (LacksEssential 2 ∷ []) ∷ rows 0 2 0 0 (LacksEssential 2 ∷ []) ∷ refused TooDeep ∷ Ok (done.Move 2) ∷ Ok (done.Move 3) ∷ refused IntoItself ∷ refused IntoItself ∷ [])
+    (import (chain 65) ∷ import (chain 64) ∷ Import (codes "b") docks ∷ Move 1 (Some 65) ∷ Move 2 (Some 65) ∷ Move 65 (Some 1) ∷ Move 3 (Some 66) ∷ Move 65 (Some 62) ∷ Move 65 (Some 61) ∷ [])
+    (refused (BadFile 66 12) ∷ rows 0 64 0 0 (LacksEssential 2 ∷ []) ∷ rows 0 2 0 0 (LacksEssential 2 ∷ []) ∷ refused TooDeep ∷ Ok (done.Move 2) ∷ refused TooDeep ∷ Ok (done.Move 3) ∷ refused IntoItself ∷ refused IntoItself ∷ [])
 
 -- a ticket has permits for a hundred units and no more, and a later day for one of them is granted all the same
 pub record MostPermits : Type 0 where
