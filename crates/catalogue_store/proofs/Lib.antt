@@ -82,3 +82,4 @@ pub mod BoxCauses
 pub mod UnitCauses
 pub mod MarkCauses
 pub mod ValueCauses
+pub mod WorkedLemmas
