@@ -207,10 +207,5 @@ pub on_ok_both : {X E : Type 0} (r : Result X E) (P Q R : Type 0) → (P → Q �
 on_ok_both (Ok x) P Q R f p q = f p q
 on_ok_both (Err e) P Q R f p q = tt
 
--- what is known of a call that succeeded
-pub on_ok_bind : {X E : Type 0} (r : Result X E) (P Q : Type 0) → (P → OnOk r Q) → OnOk r P → OnOk r Q
-on_ok_bind (Ok x) P Q f p = f p
-on_ok_bind (Err e) P Q f p = tt
-
 pub looks_nowhere : (a : State) → InOffice a → Looks a a
 looks_nowhere a inside = record { goes = goes_nowhere a inside; same = λ clean. refl }

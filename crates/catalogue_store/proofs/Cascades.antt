@@ -141,7 +141,3 @@ module _ (schema : Schema) (keys : Keys) (bare : Work) {A : Type 0} (row : A →
   pub cascade_rows : IsCascade schema keys w old new → new bare.child.tree ≡ map row (filter (λ x. not (is_child x)) xs)
   cascade_rows (no_child are same) = ap (λ (d : Trees). d bare.child.tree) same ∙ left [] are
   cascade_rows (children id ids are applies) = applies.rows ∙ left (id ∷ ids) are
-
-  pub cascade_others : IsCascade schema keys w old new → AllByRecursion (λ t. t.tree ≢ bare.child.tree → new t.tree ≡ old t.tree) schema.tables
-  cascade_others (no_child are same) = all_of (λ t. t.tree ≢ bare.child.tree → new t.tree ≡ old t.tree) (λ t _. ap (λ (d : Trees). d t.tree) same) schema.tables
-  cascade_others (children id ids are applies) = applies.tables

@@ -49,10 +49,6 @@ unfolding joined same_name
 housing_alone Links = refl
 housing_alone Spans = refl
 
-link_alone : is_referred_to (schema Links) 24 ≡ false
-unfolding joined same_name
-link_alone = refl
-
 pub updates_freely : (v : Version) → all_free (schema v) ≡ true
 updates_freely Links = refl
 updates_freely Spans = refl

@@ -1,5 +1,5 @@
 -- count(*) and max(..) over a table of typed records.
-use Rattle.std.proofs.Common.{◌≡◌, ℕ, ℤ, pos, negsuc, List, [], ◌∷◌, length, map, filter, Bool, true, false, Some, refl, sym, ap, ◌∙◌}
+use Rattle.std.proofs.Common.{◌≡◌, ℕ, pos, negsuc, List, [], ◌∷◌, length, map, filter, Bool, false, Some, refl, sym, ap, ◌∙◌}
 use Rattle.std.specs.List.{AllZip, list_all}
 use Rattle.std.specs.List.Sorted.{IsPermutation}
 use Rattle.std.proofs.lemmas.List.{length-map}
@@ -14,8 +14,7 @@ use Rattle.sqlite.specs.Query.{Query, Join, inner, end, IsAnswer, matches}
 use Rattle.sqlite.specs.Program.{overlay}
 use Rattle.sqlite_sql.specs.declared.aggregate.AggregateOp.TheVariants as by
 use Rattle.sqlite_sql.specs.Group.{Aggregate, Grouping, value_over, IsSummary}
-use Rattle.sqlite_sql.proofs.AggregateLemmas.{int_or_null, present, only_one}
-use Rattle.sqlite_sql.proofs.ExtremeLemmas.{extreme, extreme_answer}
+use Rattle.sqlite_sql.proofs.AggregateLemmas.{only_one}
 use Rattle.catalogue_store.specs.Counting.{capped}
 use Rattle.catalogue_store.proofs.Queries.{found}
 
@@ -29,9 +28,6 @@ summary_query from filter a =
 
 abbrev pub count_rows : Aggregate
 count_rows = record { op = by.CountRows; distinct = false; collation = Binary; argument = lit Null }
-
-abbrev pub greatest_of : Term → Aggregate
-greatest_of arg = record { op = by.Max; distinct = false; collation = Binary; argument = arg }
 
 module _ (t : ℕ) (where_terms : List Term) (db : Trees) (params : Row) {A : Type 0} (row : A → Row) (xs : List A) (keep : A → Bool) (stored : db t ≡ map row xs)
     (keeps : (x : A) → list_all (holds (params ∷ row x ∷ [])) where_terms ≡ keep x) where
@@ -61,14 +57,3 @@ module _ (t : ℕ) (where_terms : List Term) (db : Trees) (params : Row) {A : Ty
       let kept = rw (made.having, it) at answer.distinct in
       let ordered = only_one _ answer.ordered (rw kept at answer.same) in
       rw ordered at answer.shown
-
-  -- max of a column that is never NULL
-  pub greatest : (arg : Term) (val : A → ℤ) → ((x : A) → eval arg (params ∷ row x ∷ []) ≡ Int (val x)) → (rows : List Row)
-      → IsAnswer (summary_query (inner t end) where_terms (greatest_of arg)) (overlay db []) params rows → rows ≡ (int_or_null (extreme true (map val (filter keep xs))) ∷ []) ∷ []
-  greatest arg val reads rows answer =
-      extreme_answer true arg (filter keep xs) (λ x. params ∷ row x ∷ []) (λ x. Some (val x)) reads (summary_query (inner t end) where_terms (greatest_of arg)) (overlay db []) params rows refl all refl refl answer
-      ∙ ap (λ ns. (int_or_null (extreme true ns) ∷ []) ∷ []) (presents (filter keep xs))
-    where
-      presents : (ys : List A) → present (map (λ x. Some (val x)) ys) ≡ map val ys
-      presents [] = refl
-      presents (y ∷ ys) = ap (λ l. val y ∷ l) (presents ys)

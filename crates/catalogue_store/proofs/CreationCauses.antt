@@ -1,11 +1,10 @@
 -- Why a definition fails: none that is understood, and whose names are free, is refused.
-use Rattle.std.proofs.Common.{◌≡◌, ◌⊎◌, inl, inr, ℕ, List, [], length, slice_get, Bool, true, false, Ok, Err, Result, Some, None, IsUtf8, IfErr, OnErr, refl, sym, ap, subst, ◌∙◌, arith}
+use Rattle.std.proofs.Common.{◌≡◌, ◌⊎◌, inl, inr, ℕ, List, [], length, slice_get, Bool, true, false, Ok, Err, Result, Some, None, IsUtf8, refl, sym, ap, subst, ◌∙◌, arith}
 use Rattle.std.specs.List.{AllByRecursion}
 use Rattle.std.proofs.lemmas.Bool.{ltb-true}
 use Rattle.std.proofs.lemmas.Str.{IsUtf8-from_is_utf8}
 use Rattle.sqlite.specs.Table.{Table}
 use Rattle.sqlite.specs.Schema.{Schema}
-use Rattle.sqlite.specs.Command.{Command}
 use Rattle.sqlite.specs.Command.TheVariants.{CreateTable, CreateIndex}
 use Rattle.sqlite.specs.Change.{created, indexed, is_used}
 use Rattle.sqlite.specs.declared.error.Error.{Error}
@@ -15,7 +14,7 @@ use Rattle.sqlite.specs.Effect.{Database, IsDatabase, IsNoText}
 use Rattle.sqlite.specs.Listing.{understood}
 use Rattle.sqlite.specs.Rows.{Part, Gives, Then}
 use Rattle.sqlite.proofs.Callers.{IsPlain}
-use Rattle.sqlite.specs.State.{State, HasCleanDisk, Executes, IsMisplaced, IsLive, mode_of}
+use Rattle.sqlite.specs.State.{State, Executes, IsLive, mode_of}
 use Rattle.sqlite_catalog.specs.Calls.{IsBadName, RefusesTable, RefusesIndex}
 use Rattle.sqlite_catalog.specs.declared.error.Refusal.{Refusal}
 use Rattle.sqlite_catalog.specs.declared.error.Refusal.TheVariants.{Invalid, NameTaken, BadName, TooBig, BadKey, BadText, Violates}
@@ -27,13 +26,11 @@ use Rattle.sqlite_schema.specs.Rules.{Keeps}
 use Rattle.sqlite_schema.specs.declared.schema.Constraint.TheVariants.{Unique}
 use Rattle.catalogue_store.specs.Creation.{IsFreeName, DefinesTable, DefinesIndex, HasMade}
 use Rattle.catalogue_store.specs.Faults.{fault_of, HasCause}
-use Rattle.catalogue_store.specs.Step.{Continues, IsCut}
 use Rattle.catalogue_store.specs.Text.{IsAlone}
-use Rattle.catalogue_store.specs.declared.fault.StoreFault.{StoreFault}
-use Rattle.catalogue_store.proofs.Calls.{early, is_write}
-use Rattle.catalogue_store.proofs.Causes.{failed_cause, cause_then}
+use Rattle.catalogue_store.proofs.Causes.{failed_cause}
 use Rattle.catalogue_store.proofs.Failures.{IsWhole, fails_as}
 use Rattle.catalogue_store.proofs.Steps.{same_value}
+use Rattle.catalogue_store.proofs.Refusals.{never_misplaced}
 
 clash : (b : Bool) → b ≡ false → b ≡ true → ⊥
 clash b off on = let it : false ≡ true = sym off ∙ on in cc
@@ -44,18 +41,6 @@ found is h = same_value (sym h ∙ is)
 
 invalid : {A E : Type 0} {spec : Result A E} {made : A} {e : E} → spec ≡ Ok made → spec ≡ Err e → ⊥
 invalid {made} {e} is h = let it : Ok made ≡ Err e = sym is ∙ h in cc
-
--- no definition is in the wrong place
-misplaced : (s : State) (command : Command) (e : Error) → is_write command ≡ true → IsMisplaced s command e → ⊥
-misplaced s command e writes (inl (is, inl begin)) = let it : is_write command ≡ false = ap is_write begin.0 in clash _ it writes
-misplaced s command e writes (inl (is, inr end)) = elim end.0 [
-  | inl commit ↦ let it : is_write command ≡ false = ap is_write commit in clash _ it writes
-  | inr back ↦ let it : is_write command ≡ false = ap is_write back in clash _ it writes
-]
-misplaced s command e writes (inr (is, name, mark, none)) = elim mark [
-  | inl release ↦ let it : is_write command ≡ false = ap is_write release in clash _ it writes
-  | inr back ↦ let it : is_write command ≡ false = ap is_write back in clash _ it writes
-]
 
 whole_of : (text : List ℕ) (c : Result Compiled CompileError) → IsPlain c → IsAlone text c → IsWhole (length text) 0 c
 whole_of text (Ok c) plain alone = (omega (arith, alone.0), sym (ap length alone.1), plain.1)
@@ -117,7 +102,7 @@ module _ (there : List Table) (before after : Schema) (text : List ℕ) (utf8 : 
     table_cause old new has e h =
         elim (fails_as text [] old new before has CreateTable defines.says.is defines.says.plain (whole_of text (understood before text) defines.says.plain defines.says.alone) refl e h) [
           | inl refused ↦ elim refused.why [
-            | inl wrong ↦ absurd (misplaced old CreateTable e refl wrong)
+            | inl wrong ↦ absurd (never_misplaced old CreateTable e refl wrong)
             | inr does ↦ absurd (defines_table (mode_of old) old.now has e (subst (λ t. Does old.step_limit (mode_of old) [] old.now t None CreateTable (Err (Some e))) defines.says.whole does.1))
           ]
           | inr failed ↦ failed_cause old new e failed.1
@@ -156,7 +141,7 @@ module _ (there : List Table) (before after : Schema) (text : List ℕ) (utf8 : 
       let has = made.schema_is in
       elim (fails_as text [] old new before has (CreateIndex defines.at) defines.says.is defines.says.plain (whole_of text (understood before text) defines.says.plain defines.says.alone) refl e h) [
         | inl refused ↦ elim refused.why [
-          | inl wrong ↦ absurd (misplaced old (CreateIndex defines.at) e refl wrong)
+          | inl wrong ↦ absurd (never_misplaced old (CreateIndex defines.at) e refl wrong)
           | inr does ↦
               let placed : slice_get old.now.schema.tables defines.at ≡ Some defines.table = ap (λ (s : Schema). slice_get s.tables defines.at) has ∙ defines.place in
               let it = subst (λ t. Does old.step_limit (mode_of old) [] old.now t None (CreateIndex defines.at) (Err (Some e))) defines.says.whole does.1 in
@@ -165,8 +150,3 @@ module _ (there : List Table) (before after : Schema) (text : List ℕ) (utf8 : 
         ]
         | inr failed ↦ failed_cause old new e failed.1
       ]
-
--- the fault of the last step, whose result is the call's
-pub last_cause : {X : Type 0} (a b c : State) → Continues a b → (r : Result X StoreFault) → OnErr r (IsCut b c) → HasCleanDisk c → (HasCleanDisk b → IfErr r (HasCause b c)) → IfErr r (HasCause a c)
-last_cause a b c p (Ok x) cut clean h = tt
-last_cause a b c p (Err e) cut clean h = let before = early b c _ cut.crash clean in cause_then a b c p before e (h before)

@@ -1,5 +1,5 @@
 -- Why a DELETE fails: no rule of the tables refuses it, nor what it sets off.
-use Rattle.std.proofs.Common.{◌≡◌, ◌≢◌, inl, inr, ℕ, ℤ, zero, suc, List, [], ◌∷◌, ◌++◌, length, slice_get, nat_lt, Bool, true, false, ◌||◌, ◌==◌, Option, Some, None, Ok, Err, Result, refl, sym, ap, subst, ◌∙◌, eqb-true, eq-eqb, append-nil}
+use Rattle.std.proofs.Common.{◌≡◌, ◌≢◌, inl, inr, ℕ, ℤ, zero, suc, List, [], ◌∷◌, ◌++◌, length, slice_get, nat_lt, Bool, true, false, ◌||◌, ◌==◌, Option, Some, None, Ok, Err, refl, sym, ap, subst, ◌∙◌, eqb-true, eq-eqb, append-nil}
 use Rattle.std.proofs.lemmas.Bool.{and_parts, and_from, or_right, not-true, not_from_false, both_ways, cases_eq, cases_Bool, false_from_ne_true}
 use Rattle.std.specs.List.{AllByRecursion, list_any}
 use Rattle.sqlite.specs.Order.{Row}
@@ -38,6 +38,7 @@ use Rattle.catalogue_store.specs.Faults.{fault_of, IsUnlimited, HasCause}
 use Rattle.catalogue_store.proofs.Causes.{failed_cause}
 use Rattle.catalogue_store.proofs.Failures.{IsWhole, Refused, fails_as}
 use Rattle.catalogue_store.proofs.Steps.{is_referred_to, no_works_there, plain, points, went, same_value}
+use Rattle.catalogue_store.proofs.Refusals.{same_error}
 
 -- ---- fewer rows
 
@@ -157,9 +158,6 @@ pub data IsDeleteRefusal (limit : Option ℕ) (mode : Mode) (params : Row) (sche
   by_key : (rows : List Row) → Answers (record { schema = schema; trees = db }) q params rows → (after : Trees) → Writes schema mode.keys db (edit_of db table (ids_of rows) Given 0 []) (Ok after)
       → (Refers (due mode) schema after → ⊥) → IsDeleteRefusal limit mode params schema table q db e
 
-same_stop : {X : Type 0} {a b : Option Error} → ◌≡◌ {A = Result X (Option Error)} (Err a) (Err b) → a ≡ b
-same_stop e = cc
-
 module _ (schema : Schema) (at : ℕ) (any : Table) (is : slice_get schema.tables at ≡ Some (plain any)) where
   delete_refused : (limit : Option ℕ) (mode : Mode) (params : Row) (text : List ℕ) (q : Program) (before : Database) (e : Error) → before.schema ≡ schema
       → Does limit mode params before text None (Delete at q) (Err (Some e)) → IsDeleteRefusal limit mode params schema (plain any) q before.trees e
@@ -186,8 +184,8 @@ module _ (schema : Schema) (at : ℕ) (any : Table) (is : slice_get schema.table
 
       go : OnRows (record { limit = limit; keys = mode.keys; schema = schema; table = plain any; params = params }) mode None (Delete at q) before.trees (Err (Some e))
           → IsDeleteRefusal limit mode params schema (plain any) q before.trees e
-      go (inl (stop, inl (s, refused, p), q)) = queried s refused (sym (same_stop p) ∙ sym (same_stop q))
-      go (inl (stop, inr (rows, answer, inl (s, refused, p)), q)) = edited rows answer s refused (sym (same_stop p) ∙ sym (same_stop q))
+      go (inl (stop, inl (s, refused, p), q)) = queried s refused (sym (same_error p) ∙ sym (same_error q))
+      go (inl (stop, inr (rows, answer, inl (s, refused, p)), q)) = edited rows answer s refused (sym (same_error p) ∙ sym (same_error q))
       go (inl (stop, inr (rows, answer, inr (next, writes, p)), q)) = absurd (cc)
       go (inr (w, deleted, inl (stop, broken, q))) = tested w deleted broken.0
       go (inr (w, deleted, inr (doubt, sound, inl shown))) = absurd (let k = shown.1 in cc)

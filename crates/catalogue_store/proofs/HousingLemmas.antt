@@ -17,7 +17,7 @@ use Rattle.catalogue_store.specs.Rows.{HousingRow, housing_row, counted_from}
 use Rattle.catalogue_store.specs.Shows.{ShowsContainers}
 use Rattle.catalogue_store.specs.Step.{OnlyTouches, PutsRow}
 use Rattle.catalogue_store.proofs.Puts.{put_rows, put_rises, put_more, fresh_key}
-use Rattle.catalogue_store.proofs.BoxNumbers.{all_apart, all_known, distinct_front, keeps_number, one_apart, with_none}
+use Rattle.catalogue_store.proofs.BoxNumbers.{all_apart, all_known, distinct_front, keeps_number, one_apart}
 
 abbrev new_row : Trees → ℕ → ℕ → ℕ → HousingRow
 new_row db unit ord container = record { row = next_rowid (db 20); unit = unit; ord = ord; container = container }
@@ -87,7 +87,3 @@ housing_more boxes seen b place apart is =
     let more : cells_in next (seen ++ b ∷ []) ≡ cells_in next seen ++ (1 + length seen, box_number next b) ∷ [] = ap (map (told next)) (counted_more 1 seen b) ∙ map-append (told next) (counted_from 1 seen) ((1 + length seen, b) ∷ []) in
     let at : place + 1 ≡ 1 + length seen = omega (arith, is) in
     ap₂ (λ l n. l ++ (let c : ℕ × ℕ = (n, box_number next b) in c) ∷ []) (sym same) at ∙ sym more ∙ ap (λ cs. cells_in cs (seen ++ b ∷ [])) (boxes_more boxes seen b apart)
-
--- no container yet
-pub housed_nowhere : (db : Trees) (boxes : List BoxKey) (xs : List HousingRow) → AreHoused db boxes xs → AreHoused db (with_boxes boxes []) xs
-housed_nowhere db boxes xs at = subst (λ cs. AreHoused db cs xs) (sym (with_none boxes at.apart)) at

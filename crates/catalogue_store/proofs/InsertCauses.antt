@@ -10,14 +10,13 @@ use Rattle.sqlite.specs.Table.{Table}
 use Rattle.sqlite.specs.Schema.{Schema}
 use Rattle.sqlite.specs.Term.{Term}
 use Rattle.sqlite.specs.Source.TheVariants.{Values}
-use Rattle.sqlite.specs.Command.{Command}
 use Rattle.sqlite.specs.Command.TheVariants.{Insert}
 use Rattle.sqlite.specs.Tree.{Trees, rowid, put_row, IsAscending}
 use Rattle.sqlite.specs.Edit.{edit_of, is_taken, are_fresh, put_all, IsRefused}
 use Rattle.sqlite.specs.Rowids.TheVariants.{Chosen}
 use Rattle.sqlite.specs.Effect.{RefusesSource, value_rows, edit_error}
 use Rattle.sqlite.specs.Listing.{understood}
-use Rattle.sqlite.specs.State.{State, IsLive, IsMisplaced, Executes, mode_of}
+use Rattle.sqlite.specs.State.{State, IsLive, Executes, mode_of}
 use Rattle.sqlite.specs.declared.error.Error.{Error}
 use Rattle.sqlite.proofs.Callers.{IsPlain, command_of, statement_of}
 use Rattle.sqlite_rules.specs.Keys.{are_unique}
@@ -39,20 +38,11 @@ use Rattle.sqlite_trees.specs.View.{is_int}
 use Rattle.sqlite_value.proofs.OrderLemmas.{value_cmp_total}
 use Rattle.catalogue_store.specs.Faults.{fault_of, IsUnlimited, HasCause}
 use Rattle.catalogue_store.specs.Schema.{Version, Links, Spans, schema}
-use Rattle.catalogue_store.proofs.Calls.{is_write}
 use Rattle.catalogue_store.proofs.Causes.{failed_cause}
 use Rattle.catalogue_store.proofs.Failures.{IsWhole, fails_as}
-use Rattle.catalogue_store.proofs.Refusals.{IsInsertRefusal, by_source, by_rule, by_key, insert_refused}
+use Rattle.catalogue_store.proofs.Refusals.{IsInsertRefusal, by_source, by_rule, by_key, insert_refused, never_misplaced}
 use Rattle.catalogue_store.proofs.Steps.{plain}
 use Rattle.catalogue_store.proofs.Tests.{flag}
-
--- a write of rows is in no wrong place
-pub never_misplaced : (s : State) (command : Command) (e : Error) → is_write command ≡ true → IsMisplaced s command e → ⊥
-never_misplaced s command e write (inl (code, inl begins)) = let h : false ≡ true = sym (ap is_write begins.0) ∙ write in cc
-never_misplaced s command e write (inl (code, inr (inl commits, none))) = let h : false ≡ true = sym (ap is_write commits) ∙ write in cc
-never_misplaced s command e write (inl (code, inr (inr rolls, none))) = let h : false ≡ true = sym (ap is_write rolls) ∙ write in cc
-never_misplaced s command e write (inr (code, name, inl releases, none)) = let h : false ≡ true = sym (ap is_write releases) ∙ write in cc
-never_misplaced s command e write (inr (code, name, inr rolls, none)) = let h : false ≡ true = sym (ap is_write rolls) ∙ write in cc
 
 -- values without a limit are refused for their types alone
 pub values_typed : {A B X : Type 0} → (A × X) ⊎ (B × (let none : Option ℕ = None in IsSome none)) → (X → ⊥) → ⊥

@@ -5,7 +5,6 @@ pub mod Rows
 pub mod Queries
 pub mod Limits
 pub mod Counts
-pub mod Joins
 pub mod Steps
 pub mod Updates
 pub mod ParentUpdates
@@ -82,3 +81,4 @@ pub mod BoxCauses
 pub mod UnitCauses
 pub mod MarkCauses
 pub mod ValueCauses
+pub mod WorkedLemmas

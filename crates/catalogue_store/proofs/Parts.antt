@@ -6,7 +6,7 @@ use Rattle.std.specs.List.Sorted.{IsPermutation}
 use Rattle.std.proofs.lemmas.Bool.{eqb-true, eq-eqb, ne_eqb, eqb-false}
 use Rattle.std.proofs.lemmas.List.{map-append, append_assoc}
 use Rattle.std.proofs.lemmas.List.Elements.{filter-append}
-use Rattle.std.proofs.lemmas.List.Sorted.{IsPermutation-refl, IsPermutation-trans, IsPermutation-map, IsPermutation-append_comm, IsPermutation-append_left, IsPermutation-append_right}
+use Rattle.std.proofs.lemmas.List.Sorted.{IsPermutation-trans, IsPermutation-map, IsPermutation-append_comm, IsPermutation-append_left, IsPermutation-append_right}
 use Rattle.sqlite_trees.proofs.ListLemmas.{all_weaker, all-append, all-filter, all-permutation, filter_all, filter_none, IsPermutation-filter}
 use Rattle.catalogue_store.specs.Adding.{WithCells}
 use Rattle.catalogue_store.proofs.Rows.{filters, same_test}
@@ -22,9 +22,6 @@ module _ {A C : Type 0} (unit_of : A → ℕ) (cell_of : A → C) where
   -- the rows of the other units
   abbrev without : ℕ → List A → List A
   without n xs = filter (λ a. not (nat_eq n (unit_of a))) xs
-
-  pub none_more : (n : ℕ) (xs : List A) → With n [] xs xs
-  none_more n xs = record { more = []; are = IsPermutation-refl xs; tell = IsPermutation-refl []; theirs = tt }
 
   -- some cells, and then others
   pub cells_then : (n : ℕ) (a b : List C) (xs ys zs : List A) → With n a xs ys → With n b ys zs → With n (a ++ b) xs zs

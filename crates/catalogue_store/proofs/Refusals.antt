@@ -1,10 +1,12 @@
--- Why an INSERT is refused, whatever the schema is.
-use Rattle.std.proofs.Common.{◌≡◌, inl, inr, ℕ, zero, suc, List, [], ◌∷◌, ◌++◌, length, slice_get, Option, Some, None, Err, Result, refl, sym, ap, subst, ◌∙◌, append-nil, length-append, arith}
+-- Why a write is refused, whatever the schema is.
+use Rattle.std.proofs.Common.{◌≡◌, inl, inr, ℕ, zero, suc, List, [], ◌∷◌, ◌++◌, length, slice_get, true, false, Option, Some, None, Err, Result, refl, sym, ap, subst, ◌∙◌, append-nil, length-append, arith}
 use Rattle.sqlite.specs.Order.{Row}
 use Rattle.sqlite.specs.Table.{Table}
 use Rattle.sqlite.specs.Schema.{Schema}
 use Rattle.sqlite.specs.Source.{Source}
+use Rattle.sqlite.specs.Command.{Command}
 use Rattle.sqlite.specs.Command.TheVariants.{Insert}
+use Rattle.sqlite.specs.State.{State, IsMisplaced}
 use Rattle.sqlite.specs.Tree.{Trees}
 use Rattle.sqlite.specs.Edit.{Edit, edit_of, taken_by, IsRefused, Applies}
 use Rattle.sqlite.specs.Rowids.TheVariants.{Chosen}
@@ -22,6 +24,15 @@ use Rattle.sqlite.specs.Rows.{Written, Sourced, Edited}
 use Rattle.sqlite.proofs.Callers.{one_step}
 use Rattle.sqlite.specs.declared.run.Mode.{Mode}
 use Rattle.catalogue_store.proofs.Steps.{plain, went, same_value}
+use Rattle.catalogue_store.proofs.Calls.{is_write}
+
+-- a write is in no wrong place
+pub never_misplaced : (s : State) (command : Command) (e : Error) → is_write command ≡ true → IsMisplaced s command e → ⊥
+never_misplaced s command e write (inl (code, inl begins)) = let h : false ≡ true = sym (ap is_write begins.0) ∙ write in cc
+never_misplaced s command e write (inl (code, inr (inl commits, none))) = let h : false ≡ true = sym (ap is_write commits) ∙ write in cc
+never_misplaced s command e write (inl (code, inr (inr rolls, none))) = let h : false ≡ true = sym (ap is_write rolls) ∙ write in cc
+never_misplaced s command e write (inr (code, name, inl releases, none)) = let h : false ≡ true = sym (ap is_write releases) ∙ write in cc
+never_misplaced s command e write (inr (code, name, inr rolls, none)) = let h : false ≡ true = sym (ap is_write rolls) ∙ write in cc
 
 pub data IsInsertRefusal (limit : Option ℕ) (mode : Mode) (params : Row) (schema : Schema) (table : Table) (from : Source) (db : Trees) (e : Error) : Type 0 where
   -- the values do not type, or the limit on steps is reached

@@ -23,7 +23,7 @@ use Rattle.sqlite_tied.specs.Compute.{everything}
 use Rattle.catalogue_store.specs.Schema.{Version, Links, Spans, schema, unit, container}
 use Rattle.catalogue_store.specs.Units.{Unit, is_from}
 use Rattle.atom_csv.specs.Values.{is_same as is_same_box}
-use Rattle.catalogue_store.specs.Rows.{flag, office_row, settings_cells, unit_row, by_number, ElementRow, element_row, container_row, HousingRow, housing_row, link_row, by_id, by_element, by_housing, by_container}
+use Rattle.catalogue_store.specs.Rows.{office_row, settings_cells, unit_row, by_number, ElementRow, element_row, container_row, HousingRow, housing_row, link_row, by_id, by_element, by_housing, by_container}
 use Rattle.catalogue_store.specs.declared.office.OfficeRow.{OfficeRow}
 use Rattle.catalogue_store.proofs.Tests.{only, both, same_number, same_bytes, by_one_int, by_two_ints}
 use Rattle.catalogue_store.specs.Counting.{capped}
@@ -67,35 +67,6 @@ known_rows old new source legacy xs rows v has stored shown =
     answers 14 (op2 (Compare Eq Binary) (col 1 2) (col 0 0) ∷ op2 (Compare Eq Binary) (col 1 3) (col 0 1) ∷ []) (col 1 0 ∷ []) ((col 1 0, ascending Binary) ∷ []) old.now.trees (Text source ∷ Text legacy ∷ [])
     unit_row xs (is_from source legacy) (λ u. Int (pos u.id) ∷ []) (λ (u : Unit). Int (pos u.id) ∷ []) by_number
     stored (λ u. both (same_bytes u.source source) (same_bytes u.legacy legacy)) (λ _. refl) (λ _. refl) (λ a b. by_one_int (pos a.id) (pos b.id)) rows (read.answer Null)
-
-abbrev pub find_unit_text : List ℕ
-find_unit_text = codes "SELECT level, draft, until FROM unit WHERE id = ?1 ORDER BY id"
-
-abbrev pub find_unit_command : Command
-find_unit_command = Select (record { lets = []; body = plain_query (inner 14 end) (op2 (Compare Eq Binary) (col 1 0) (col 0 0) ∷ []) (col 1 4 ∷ col 1 5 ∷ col 1 6 ∷ []) ((col 1 0, ascending Binary) ∷ []) }) (codes "level" ∷ codes "draft" ∷ codes "until" ∷ [])
-
-pub find_unit_is : (v : Version) → command_of (understood (schema v) find_unit_text) ≡ find_unit_command
-unfolding understood everything
-find_unit_is Links = refl
-find_unit_is Spans = refl
-
-pub find_unit_plain : (v : Version) → IsPlain (understood (schema v) find_unit_text)
-unfolding understood everything
-find_unit_plain Links = (refl, refl)
-find_unit_plain Spans = (refl, refl)
-
-pub find_unit_unlisted : (v : Version) → reads_listing (schema v) find_unit_text ≡ false
-unfolding understood everything
-find_unit_unlisted Links = refl
-find_unit_unlisted Spans = refl
-
-pub find_unit_rows : (old new : State) (id : ℕ) (xs : List Unit) (rows : List Row) (v : Version) → old.now.schema ≡ schema v → old.now.trees 14 ≡ map unit_row xs → Shown find_unit_text (Int (pos id) ∷ []) old new rows
-    → (ys : List Unit) × IsPermutation (filter (λ u. nat_eq id u.id) xs) ys × IsSorted by_number ys × (rows ≡ map (λ u. Text u.values.level ∷ Int (flag u.draft) ∷ or_null Int u.until ∷ []) ys)
-find_unit_rows old new id xs rows v has stored shown =
-    let read = reads_as find_unit_text (Int (pos id) ∷ []) old new (schema v) has find_unit_command (find_unit_is v) (find_unit_plain v) (find_unit_unlisted v) rows shown in
-    answers 14 (op2 (Compare Eq Binary) (col 1 0) (col 0 0) ∷ []) (col 1 4 ∷ col 1 5 ∷ col 1 6 ∷ []) ((col 1 0, ascending Binary) ∷ []) old.now.trees (Int (pos id) ∷ [])
-    unit_row xs (λ u. nat_eq id u.id) (λ u. Text u.values.level ∷ Int (flag u.draft) ∷ or_null Int u.until ∷ []) (λ (u : Unit). Int (pos u.id) ∷ []) by_number
-    stored (λ u. only (same_number u.id id)) (λ _. refl) (λ _. refl) (λ a b. by_one_int (pos a.id) (pos b.id)) rows (read.answer Null)
 
 -- ---- elements
 

@@ -8,7 +8,7 @@ use Rattle.std.proofs.lemmas.List.Sorted.{IsPermutation-map}
 use Rattle.std.proofs.lemmas.List.{map-append}
 use Rattle.sqlite.specs.Effect.{Database}
 use Rattle.sqlite.specs.Tree.{Trees}
-use Rattle.sqlite_trees.proofs.ListLemmas.{all-append, ascending-map, ascending_weaker}
+use Rattle.sqlite_trees.proofs.ListLemmas.{all-append, ascending-map, ascending_weaker, all_weaker}
 use Rattle.tree_core.specs.Forest.{Forest, Empty, Node, nodes, each, has, tree, branch}
 use Rattle.catalogue_store.specs.Bounds.{IsBounded}
 use Rattle.catalogue_store.specs.Schema.{Version}
@@ -36,10 +36,6 @@ any_map g p q same (x ∷ xs) = ap₂ ◌||◌ (same x) (any_map g p q same xs)
 pub all_map : {A B : Type 0} (g : A → B) (P : B → Type 0) (Q : A → Type 0) → ((x : A) → Q x → P (g x)) → (xs : List A) → AllByRecursion Q xs → AllByRecursion P (map g xs)
 all_map g P Q f [] h = tt
 all_map g P Q f (x ∷ xs) h = (f x h.0, all_map g P Q f xs h.1)
-
-pub all_same : {A : Type 0} (P Q : A → Type 0) → ((x : A) → P x → Q x) → (xs : List A) → AllByRecursion P xs → AllByRecursion Q xs
-all_same P Q f [] h = tt
-all_same P Q f (x ∷ xs) h = (f x h.0, all_same P Q f xs h.1)
 
 -- units that keep their numbers, and units that keep their values too
 module _ (g : Unit → Unit) (same_id : (u : Unit) → (g u).id ≡ u.id) where
@@ -76,7 +72,7 @@ module _ (g : Unit → Unit) (same_id : (u : Unit) → (g u).id ≡ u.id) where
               are = subst (AllByRecursion (λ (u : Unit). IsPermutation (element_cells u.values) (elements_of u.id at.elements.elements))) (sym (nodes_each g f))
                   (all_map g (λ (u : Unit). IsPermutation (element_cells u.values) (elements_of u.id at.elements.elements)) (λ (u : Unit). IsPermutation (element_cells u.values) (elements_of u.id at.elements.elements))
                   (λ u h. rw (same_id u, same_values u) h) (nodes f) at.elements.are);
-              others = all_same (λ (e : ElementRow). has (has_id e.unit) f ≡ true) (λ (e : ElementRow). has (has_id e.unit) (each g f) ≡ true) (λ e h. still_there f e.unit ∙ h) at.elements.elements at.elements.others;
+              others = all_weaker (λ (e : ElementRow). has (has_id e.unit) f ≡ true) (λ (e : ElementRow). has (has_id e.unit) (each g f) ≡ true) (λ e h. still_there f e.unit ∙ h) at.elements.elements at.elements.others;
             };
             containers = kept.1.1.1.1.1.1.1.1.1.1.0 refl ∙ at.containers;
             housings = record {
@@ -86,7 +82,7 @@ module _ (g : Unit → Unit) (same_id : (u : Unit) → (g u).id ≡ u.id) where
               are = subst (AllByRecursion (λ (u : Unit). IsPermutation (housing_cells c.containers u.values) (housings_of u.id at.housings.housings))) (sym (nodes_each g f))
                   (all_map g (λ (u : Unit). IsPermutation (housing_cells c.containers u.values) (housings_of u.id at.housings.housings)) (λ (u : Unit). IsPermutation (housing_cells c.containers u.values) (housings_of u.id at.housings.housings))
                   (λ u h. rw (same_id u, same_values u) h) (nodes f) at.housings.are);
-              others = all_same (λ (h : HousingRow). has (has_id h.unit) f ≡ true) (λ (h : HousingRow). has (has_id h.unit) (each g f) ≡ true) (λ e h. still_there f e.unit ∙ h) at.housings.housings at.housings.others;
+              others = all_weaker (λ (h : HousingRow). has (has_id h.unit) f ≡ true) (λ (h : HousingRow). has (has_id h.unit) (each g f) ≡ true) (λ e h. still_there f e.unit ∙ h) at.housings.housings at.housings.others;
             };
           };
           shown = same old.trees new.trees (each (λ (u : Unit). u.id) (each g f)) (kept.1.1.1.1.1.1.1.1.1.1.1.1.0 refl)

@@ -1,7 +1,7 @@
 -- What the conditions of the statements test.
 use Rattle.std.proofs.Common.{◌≡◌, ℕ, ℤ, List, [], ◌∷◌, Bool, true, false, ◌&&◌, Option, Some, None, refl, ap, ap₂, ◌∙◌}
 use Rattle.std.proofs.Common.{pos, nat_eq, arith}
-use Rattle.std.specs.Ordering.{is_eq, is_lt, is_ge, int_cmp, ordering_then}
+use Rattle.std.specs.Ordering.{is_eq, int_cmp, ordering_then}
 use Rattle.std.specs.Cmp.{both_ways, tied_itself, int_cmp_total}
 use Rattle.std.specs.Str.{bytes_eq}
 use Rattle.std.specs.FinMap.{int_cmp-IsAntisymmetric}
@@ -16,9 +16,9 @@ use Rattle.sqlite.specs.Collation.TheVariants.{Binary}
 use Rattle.sqlite.specs.Ops.{binary, is_true, from_truth}
 use Rattle.sqlite.specs.Values.{or_null}
 use Rattle.sqlite_sql.specs.declared.ops.BinaryOp.TheVariants.{Compare, Is}
-use Rattle.sqlite_sql.specs.declared.ops.CompareOp.TheVariants.{Eq, Ge, Lt}
+use Rattle.sqlite_sql.specs.declared.ops.CompareOp.TheVariants.{Eq}
 use Rattle.sqlite_value.proofs.OrderLemmas.{value_cmp-Int, value_cmp-Text, value_cmp-Null, value_cmp-apart}
-use Rattle.catalogue_store.specs.Tests.{same_int, at_least, below, same_text, same_maybe}
+use Rattle.catalogue_store.specs.Tests.{same_int, same_text, same_maybe}
 
 pub flag : (b : Bool) → is_true (from_truth (Some b)) ≡ b
 flag true = refl
@@ -34,14 +34,6 @@ both e f = ap₂ ◌&&◌ e (only f)
 pub eq_ints : (a b : ℤ) → is_true (binary (Compare Eq Binary) (Int a) (Int b)) ≡ same_int a b
 unfolding binary
 eq_ints a b = flag _ ∙ ap is_eq (value_cmp-Int a b)
-
-pub ge_ints : (a b : ℤ) → is_true (binary (Compare Ge Binary) (Int a) (Int b)) ≡ at_least a b
-unfolding binary
-ge_ints a b = flag _ ∙ ap is_ge (value_cmp-Int a b)
-
-pub lt_ints : (a b : ℤ) → is_true (binary (Compare Lt Binary) (Int a) (Int b)) ≡ below a b
-unfolding binary
-lt_ints a b = flag _ ∙ ap is_lt (value_cmp-Int a b)
 
 pub eq_texts : (a b : List ℕ) → is_true (binary (Compare Eq Binary) (Text a) (Text b)) ≡ same_text a b
 unfolding binary

@@ -111,7 +111,8 @@ one_number (c ∷ cs) a b n p q = at (is_same c a) (is_same c b) refl refl p q (
         let y = one_less (number_in cs b) n q in
         later x.0 x.1 (y.1 ∙ ap Some (omega (arith, x.2, y.2)))
 
-numbered : (cs : List BoxKey) (b : BoxKey) → list_any (is_same b) cs ≡ true → (n : ℕ) × (number_in cs b ≡ Some n)
+-- a container that is known has a number
+pub numbered : (cs : List BoxKey) (b : BoxKey) → list_any (is_same b) cs ≡ true → (n : ℕ) × (number_in cs b ≡ Some n)
 numbered cs b there = at (number_in cs b) refl
   where
     at : (o : Option ℕ) → number_in cs b ≡ o → (n : ℕ) × (number_in cs b ≡ Some n)

@@ -13,7 +13,6 @@ use Rattle.sqlite.specs.Tree.{Trees, rowid, put_row, with_tree, IsAscending}
 use Rattle.sqlite.specs.Cast.{cast_row}
 use Rattle.sqlite.specs.Edit.{Edit, id_in, edit_of, edited, left_by, taken_by, are_fresh, Applies, IsRefused}
 use Rattle.sqlite.specs.Rowids.TheVariants.{Given}
-use Rattle.sqlite.specs.Command.{Command}
 use Rattle.sqlite.specs.Command.TheVariants.{Update}
 use Rattle.sqlite.specs.declared.error.Error.{Error}
 use Rattle.sqlite.specs.declared.run.Mode.{Mode}
@@ -21,7 +20,7 @@ use Rattle.sqlite.specs.Effect.{Database, Answers, RefusesQuery, edit_error}
 use Rattle.sqlite.specs.Does.{Does, AtPlace, OnRows, due}
 use Rattle.sqlite.specs.Rows.{Queried, Written}
 use Rattle.sqlite.specs.Listing.{understood}
-use Rattle.sqlite.specs.State.{State, IsLive, IsMisplaced, Executes, mode_of}
+use Rattle.sqlite.specs.State.{State, IsLive, Executes, mode_of}
 use Rattle.sqlite.proofs.Callers.{IsPlain, command_of, statement_of, one_step}
 use Rattle.sqlite_rules.specs.Action.{works}
 use Rattle.sqlite_rules.specs.Calls.{ids_of}
@@ -43,10 +42,9 @@ use Rattle.sqlite_trees.specs.View.{is_int}
 use Rattle.sqlite_schema.specs.Rules.{guards, references_fit, passes_checks, Keeps, Obeys, Refers}
 use Rattle.catalogue_store.specs.Faults.{fault_of, IsUnlimited, HasCause}
 use Rattle.catalogue_store.specs.Order.{Rises}
-use Rattle.catalogue_store.proofs.Calls.{is_write}
 use Rattle.catalogue_store.proofs.Causes.{failed_cause}
 use Rattle.catalogue_store.proofs.Failures.{IsWhole, fails_as}
-use Rattle.catalogue_store.proofs.Refusals.{same_error, edit_refused}
+use Rattle.catalogue_store.proofs.Refusals.{same_error, edit_refused, never_misplaced}
 use Rattle.catalogue_store.proofs.Rows.{by_key, by_key_total, same_key, removed, eq_from, had, has_map, map_has, compared}
 use Rattle.catalogue_store.proofs.Sorted.{once, none_like, none_from, fewer}
 use Rattle.catalogue_store.proofs.Steps.{plain, went, same_value, is_referred_to, no_works_there}
@@ -104,14 +102,6 @@ module _ (schema : Schema) (at : ℕ) (any : Table) (is : slice_get schema.table
 
 -- ---- the cause
 
--- a write stands at its place in any transaction
-pub not_misplaced : (s : State) (command : Command) (e : Error) → is_write command ≡ true → IsMisplaced s command e → ⊥
-not_misplaced s command e w (inl h) = elim h.1 [
-  | inl begin ↦ let k = sym w ∙ ap is_write begin.0 in cc
-  | inr end ↦ elim end.0 [ inl c ↦ (let k = sym w ∙ ap is_write c in cc) | inr r ↦ (let k = sym w ∙ ap is_write r in cc) ]
-]
-not_misplaced s command e w (inr h) = elim h.2 [ inl r ↦ (let k = sym w ∙ ap is_write r in cc) | inr b ↦ (let k = sym w ∙ ap is_write b in cc) ]
-
 -- the rows that the query answers break no rule, and leave no row without its parent
 pub record Accepts (schema : Schema) (table : Table) (db : Trees) (rows : List Row) : Type 0 where
   pub rules : (why : Refusal) → IsRefused schema Enforced db (edit_of db table (ids_of rows) Given 1 rows) why → why ≡ NoRowid
@@ -126,7 +116,7 @@ module _ (sql : List ℕ) (params : Row) (old new : State) (schema : Schema) (ha
   update_cause free live idle typed accepts e h = elim (fails_as sql params old new schema has (Update at q) is bare whole refl e h) [
     | inr failed ↦ failed_cause old new e failed.1
     | inl refused ↦ elim refused.why [
-      | inl misplaced ↦ absurd (not_misplaced old (Update at q) e refl misplaced)
+      | inl misplaced ↦ absurd (never_misplaced old (Update at q) e refl misplaced)
       | inr does ↦
           let obeys : Obeys schema old.now.trees = subst (λ s. Obeys s old.now.trees) has (live refused.same.0.was_open).0.obeys in
           why obeys (update_refused schema at any there old.step_limit (mode_of old) params (statement_of sql (understood schema sql)) q old.now e has idle does.1)

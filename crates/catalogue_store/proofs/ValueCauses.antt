@@ -21,9 +21,9 @@ use Rattle.catalogue_store.specs.Merging.{number_in, box_number}
 use Rattle.catalogue_store.specs.Rows.{counted_from, ElementRow}
 use Rattle.catalogue_store.specs.Shows.{ShowsElements, texts_from, element_number, element_cells, elements_of}
 use Rattle.catalogue_store.specs.Units.{Unit, has_id}
-use Rattle.catalogue_store.proofs.BoxNumbers.{unknown_unnumbered}
 use Rattle.catalogue_store.proofs.BoxReads.{later}
 use Rattle.catalogue_store.proofs.Rows.{had, has_map, map_has}
+use Rattle.catalogue_store.proofs.Untold.{numbered}
 
 -- a call that does not fail
 pub never_fails : {X E : Type 0} (r : Result X E) (Q : E → Type 0) → IsOk r → IfErr r Q
@@ -66,13 +66,6 @@ place_there values long c there =
 
 -- ---- containers
 
-number_known : (cs : List BoxKey) (b : BoxKey) → list_any (is_same b) cs ≡ true → (n : ℕ) × (number_in cs b ≡ Some n)
-number_known cs b there = found (number_in cs b) refl
-  where
-    found : (o : Option ℕ) → number_in cs b ≡ o → (n : ℕ) × (number_in cs b ≡ Some n)
-    found (Some n) is = (n, is)
-    found None is = absurd (let clash : true ≡ false = sym there ∙ unknown_unnumbered cs b is in cc)
-
 counted_there : (k : ℕ) (cs : List BoxKey) (b : BoxKey) (n : ℕ) → number_in cs b ≡ Some n → (x : ℕ × BoxKey) × Has (counted_from (k + 1) cs) x × (x.0 ≡ k + n) × (n ≤ length cs)
 counted_there k [] b n is = absurd (let clash : None ≡ Some n = is in cc)
 counted_there k (c ∷ cs) b n is = elim (cases_Bool (is_same c b)) [
@@ -89,7 +82,7 @@ counted_there k (c ∷ cs) b n is = elim (cases_Bool (is_same c b)) [
 -- a container that is known has a row under its number
 pub row_there : (cs : List BoxKey) (b : BoxKey) → list_any (is_same b) cs ≡ true → (x : ℕ × BoxKey) × Has (counted_from 1 cs) x × (x.0 ≡ box_number cs b) × (x.0 ≤ length cs)
 row_there cs b there =
-    let n = number_known cs b there in
+    let n = numbered cs b there in
     let x = counted_there 0 cs b n.0 n.1 in
     (x.0, x.1, omega (arith, x.2, ap (λ (o : Option ℕ). unwrap_or o 0) n.1), omega (arith, x.2, x.3))
 

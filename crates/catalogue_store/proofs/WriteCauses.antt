@@ -257,16 +257,6 @@ disk_then a b c p clean fault.Memory h = tt
 disk_then a b c p clean fault.Disk h = cause_then a b c p clean fault.Disk h
 disk_then a b c p clean fault.Schema h = tt
 
-pub if_disk_then : {X : Type 0} (a b c : State) → Continues a b → HasCleanDisk b → (r : Result X StoreFault) → IfErr r (BlamesDisk b c) → IfErr r (BlamesDisk a c)
-if_disk_then a b c p clean (Ok x) h = tt
-if_disk_then a b c p clean (Err e) h = disk_then a b c p clean e h
-
--- a fault that has its cause is fair
-pub disk_of : (a b : State) (e : StoreFault) → HasCause a b e → BlamesDisk a b e
-disk_of a b fault.Memory h = tt
-disk_of a b fault.Disk h = h
-disk_of a b fault.Schema h = tt
-
 -- the fault of the last step, whose result is the call's
 pub last_disk : {X : Type 0} (a b c : State) → Continues a b → (r : Result X StoreFault) → OnErr r (IsCut b c) → HasCleanDisk c → IfErr r (BlamesDisk b c) → IfErr r (BlamesDisk a c)
 last_disk a b c p (Ok x) cut clean h = tt

@@ -26,3 +26,4 @@ pub mod Marking
 pub mod Marked
 pub mod OpenMarks
 pub mod Bounds
+pub mod Worked

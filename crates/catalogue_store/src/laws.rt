@@ -1,10 +1,34 @@
 //! Laws of the definitions, each the contract of a function that does nothing.
 
+ghost use Rattle.std.specs.Prelude.{ℕ, Option};
+ghost use Rattle.isad_core.specs.declared.values.Values.{Values};
+ghost use Rattle.catalogue_store.specs.Bounds.{IsKept};
+ghost use Rattle.catalogue_store.specs.Describing.{KnowsItsContainers, HasAllPlaces, with_unit, with_values};
+ghost use Rattle.catalogue_store.specs.Merging.{Catalogue};
 ghost use Rattle.catalogue_store.specs.OpenMarks.{OpenByMarks, MarksSayClean, NumbersTellNothing};
+ghost use Rattle.catalogue_store.specs.Schema.{Links};
+ghost use Rattle.catalogue_store.specs.Shows.{Shows, ShowsLinkRows};
+ghost use Rattle.catalogue_store.specs.Units.{«Unit» as Described};
+ghost use Rattle.catalogue_store.specs.Worked.{settings, tables, worked};
 
 /// When a container is open to the public, by the marks of the units that name it.
 pub fn open_by_marks()
     ensures open { OpenByMarks }
     ensures clean { MarksSayClean }
     ensures numbers { NumbersTellNothing }
+{}
+
+/// A catalogue of two units is within the limits, and tables show it: a call can meet what the
+/// clauses on the catalogue ask.
+pub fn worked_catalogue()
+    ensures kept { IsKept worked }
+    ensures known { KnowsItsContainers worked }
+    ensures places { HasAllPlaces worked }
+    ensures shown { Shows ShowsLinkRows Links tables settings worked }
+{}
+
+/// A catalogue that knows its containers knows them after a unit is added or takes other values.
+pub fn containers_known()
+    ensures added { (c : Catalogue) (parent : Option ℕ) (unit : Described) → KnowsItsContainers c → KnowsItsContainers (with_unit parent unit c) }
+    ensures valued { (c : Catalogue) (id : ℕ) (values : Values) → KnowsItsContainers c → KnowsItsContainers (with_values id values c) }
 {}

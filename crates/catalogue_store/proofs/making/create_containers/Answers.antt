@@ -6,8 +6,8 @@ use Rattle.catalogue_store.specs.Schema.{desk_tables}
 use Rattle.catalogue_store.proofs.Creations.{s3, s4, s5, s6, container_defined, housing_defined, housing_indexed}
 use Rattle.catalogue_store.proofs.Calls.{cut_then, continues_then, on_ok_then, on_err_then, early}
 use Rattle.catalogue_store.proofs.Causes.{cause_then}
-use Rattle.catalogue_store.proofs.CreationCauses.{last_cause}
 use Rattle.catalogue_store.proofs.WriteCauses.{disk_then, last_disk}
+use Rattle.catalogue_store.proofs.LaterCauses.{last_cause}
 use Rattle.catalogue_store.proofs.making.create_containers.Goals as goal
 
 pub returns-in_err-create_table-clause-cut : goal.returns-in_err-create_table-clause-cut

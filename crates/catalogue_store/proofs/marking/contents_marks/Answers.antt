@@ -7,10 +7,10 @@ use Rattle.catalogue_store.specs.Shows.{Shows}
 use Rattle.catalogue_store.specs.Step.{IsCut, Looks}
 use Rattle.catalogue_store.specs.Units.{Unit}
 use Rattle.catalogue_store.proofs.Calls.{early, office_of}
-use Rattle.catalogue_store.proofs.MarkForests.{if_ok_with}
 use Rattle.catalogue_store.specs.Faults.{IsUnlimited, HasCause}
 use Rattle.catalogue_store.proofs.Causes.{if_cause_then, still_unlimited}
 use Rattle.catalogue_store.proofs.MarkCauses.{if_err_with, attached_low}
+use Rattle.catalogue_store.proofs.Outcomes.{if_ok_by}
 use Rattle.catalogue_store.proofs.marking.contents_marks.Goals as goal
 
 pub attached_units-requires-clause-inside : goal.attached_units-requires-clause-inside
@@ -22,7 +22,7 @@ returns-clause-answers g c clean o k it =
     let b = state g.S.Store c.attached_units.new.conn in
     let d = state g.S.Store c.marks_of_each.new.conn in
     let ids = λ (units : List Unit). map (λ (u : Unit). u.id) units in
-    if_ok_with c.marks_of_each.result (Looks b d) (λ found. (units : List Unit) × AreAttached k c.args.container units × AreMarksOfEach k.forest (ids units) found.items)
+    if_ok_by c.marks_of_each.result (Looks b d) (λ found. (units : List Unit) × AreAttached k c.args.container units × AreMarksOfEach k.forest (ids units) found.items)
     (λ last.
     let before = early b d _ last.goes.on.crash clean in
     let still = sym (c.in_ok-units.ensures.looks.same before) in

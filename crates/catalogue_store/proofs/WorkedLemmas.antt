@@ -1,0 +1,80 @@
+-- The worked catalogue is within the limits, and its tables show it.
+use Rattle.std.proofs.Common.{◌≡◌, ℕ, zero, suc, [], ◌∷◌, true, Option, Some, None, replicate, codes, lit≤, IfSome, IsUtf8, refl, arith}
+use Rattle.std.specs.List.{AllByRecursion, IsDistinct}
+use Rattle.std.specs.Str.{is_utf8, chars}
+use lib.Utf8.{encode}
+use Rattle.std.proofs.lemmas.List.Sorted.{IsPermutation-refl}
+use Rattle.std.proofs.lemmas.Str.{IsUtf8-from_is_utf8}
+use Rattle.isad_core.specs.Texts.{Bytes}
+use Rattle.tree_core.specs.Forest.{each}
+use Rattle.tree_core.specs.declared.rows.Link.{Link}
+use Rattle.tree_core.proofs.LinkPaths.{length-path}
+use Rattle.catalogue_store.specs.Bounds.{IsKept, IsLegibleUnit}
+use Rattle.catalogue_store.specs.Describing.{KnowsItsContainers, HasAllPlaces}
+use Rattle.catalogue_store.specs.Schema.{Links}
+use Rattle.catalogue_store.specs.Shows.{Shows, ShowsLinkRows}
+use Rattle.catalogue_store.specs.Units.{Unit}
+use Rattle.catalogue_store.specs.Worked.{box, fonds, series, worked, settings, element_rows, housing_rows, link_rows, tables}
+use Rattle.catalogue_store.proofs.Puts.{not_falling}
+
+-- texts that are not there
+no_texts : (n : ℕ) → AllByRecursion (λ (text : Option Bytes). IfSome text IsUtf8) (replicate n None)
+no_texts zero = tt
+no_texts (suc n) = (tt, no_texts n)
+
+-- a text that is there
+text : (t : Bytes) → is_utf8 t ≡ true → IsUtf8 t
+text = IsUtf8-from_is_utf8
+
+legible_fonds : IsLegibleUnit fonds
+unfolding is_utf8 chars encode
+legible_fonds = record { level = text (codes "Fonds") refl; texts = (text (codes "HUL") refl, (text (codes "Hull Dock Company") refl, no_texts 23)); until = tt }
+
+legible_series : IsLegibleUnit series
+unfolding is_utf8 chars encode
+legible_series = record { level = text (codes "Series") refl; texts = (tt, (text (codes "Minutes") refl, (tt, (text (codes "2 m") refl, no_texts 21)))); until = refl }
+
+pub worked_kept : IsKept worked
+unfolding is_utf8 chars encode
+worked_kept = record {
+  places = record {
+    few = lit≤ tt;
+    low = (lit≤ tt, (lit≤ tt, tt));
+    shallow = λ id. let short = length-path id (each (λ (u : Unit). u.id) worked.forest) in omega (arith, short);
+  };
+  units = (legible_fonds, (legible_series, tt));
+  boxes = (record { name = text box.name refl; location = text box.location refl; kind = text box.kind refl }, tt);
+  few_boxes = lit≤ tt;
+}
+
+pub worked_known : KnowsItsContainers worked
+worked_known = record { apart = refl; known = (refl, (refl, tt)) }
+
+pub worked_places : HasAllPlaces worked
+worked_places = (refl, (refl, tt))
+
+pub worked_shown : Shows ShowsLinkRows Links tables settings worked
+unfolding IsDistinct
+worked_shown = record {
+  catalogue = record {
+    schema_is = refl;
+    office = refl;
+    next = refl;
+    units = record { units = fonds ∷ series ∷ []; rows = refl; rise = ((refl, tt), (tt, tt)); are = IsPermutation-refl _ };
+    elements = record {
+      elements = element_rows;
+      rows = refl;
+      rise = ((refl, (refl, (refl, tt))), ((refl, (refl, tt)), ((refl, tt), (tt, tt))));
+      are = (IsPermutation-refl _, (IsPermutation-refl _, tt));
+      others = (refl, (refl, (refl, (refl, tt))));
+    };
+    containers = refl;
+    housings = record { housings = housing_rows; rows = refl; rise = (tt, tt); are = (IsPermutation-refl _, (IsPermutation-refl _, tt)); others = (refl, tt) };
+  };
+  shown = record {
+    links = link_rows;
+    rows = refl;
+    rise = ((refl, tt), (tt, tt));
+    are = record { distinct = ((refl, tt), (tt, tt)); rows = IsPermutation-refl _; ascending = not_falling (λ (l : Link). l.id) link_rows ((refl, tt), (tt, tt)) };
+  };
+}
