@@ -1,5 +1,5 @@
 -- The worked catalogue is within the limits, and its tables show it.
-use Rattle.std.proofs.Common.{◌≡◌, ℕ, zero, suc, [], ◌∷◌, true, Option, Some, None, replicate, codes, lit≤, IfSome, IsUtf8, refl, arith}
+use Rattle.std.proofs.Common.{◌≡◌, ℕ, zero, suc, [], ◌∷◌, true, Option, None, replicate, codes, lit≤, IfSome, IsUtf8, refl, arith}
 use Rattle.std.specs.List.{AllByRecursion, IsDistinct}
 use Rattle.std.specs.Str.{is_utf8, chars}
 use lib.Utf8.{encode}

@@ -35,7 +35,7 @@ use Rattle.sqlite.specs.declared.run.Mode.{Mode}
 use Rattle.sqlite.specs.State.{State, HasCleanDisk, shows_rows, ExecutesIn, Executes, IsNotRun, IsNoStatement, IsMisplaced, RunsCommand, Fails, MayChange, store_error, text_of, mode_of}
 use Rattle.sqlite.specs.State as state
 use Rattle.sqlite.proofs.Callers.{IsPlain, command_of}
-use Rattle.catalogue_store.specs.Faults.{fault_of, HasCause, BlamesDisk}
+use Rattle.catalogue_store.specs.Faults.{fault_of, BlamesDisk}
 use Rattle.catalogue_store.specs.Step.{Continues, IsCut}
 use Rattle.catalogue_store.specs.declared.fault.StoreFault.{StoreFault}
 use Rattle.catalogue_store.specs.declared.fault.StoreFault.TheVariants as fault

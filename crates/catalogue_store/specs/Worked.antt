@@ -1,14 +1,13 @@
 -- A catalogue of two units, written out, and tables that show it.
-use Rattle.std.specs.Prelude.{ℕ, pos, ◌==◌, true, false, if◌then◌else◌, List, [], ◌∷◌, Some, None, codes, map, replicate}
+use Rattle.std.specs.Prelude.{pos, ◌==◌, true, false, if◌then◌else◌, List, [], ◌∷◌, Some, None, codes, map, replicate}
 use Rattle.sqlite.specs.Effect.{Database}
-use Rattle.sqlite.specs.Order.{Row}
 use Rattle.sqlite.specs.Tree.{Trees}
 use Rattle.isad_core.specs.declared.values.BoxKey.{BoxKey}
-use Rattle.tree_core.specs.Forest.{Forest, Empty, Node}
+use Rattle.tree_core.specs.Forest.{Empty, Node}
 use Rattle.tree_core.specs.declared.rows.Link.{Link}
 use Rattle.catalogue_store.specs.Merging.{Catalogue}
 use Rattle.catalogue_store.specs.Rows.{office_row, unit_row, ElementRow, element_row, container_row, HousingRow, housing_row, link_row}
-use Rattle.catalogue_store.specs.Schema.{Version, Links, schema}
+use Rattle.catalogue_store.specs.Schema.{Links, schema}
 use Rattle.catalogue_store.specs.Units.{Unit}
 use Rattle.catalogue_store.specs.declared.office.OfficeRow.{OfficeRow}
 

@@ -9,7 +9,7 @@ use Rattle.catalogue_store.specs.Step.{InTransaction, Continues, Goes, IsCut, Pu
 use Rattle.catalogue_store.proofs.Calls.{early, cut_then, continues_then, on_ok_then, on_ok_both, on_err_then}
 use Rattle.catalogue_store.proofs.Beginning.{shows_beginning, desk_kept}
 use Rattle.catalogue_store.proofs.Causes.{cause_then, still_unlimited}
-use Rattle.catalogue_store.proofs.CreationCauses.{last_cause}
+use Rattle.catalogue_store.proofs.LaterCauses.{last_cause}
 use Rattle.catalogue_store.proofs.WriteCauses.{disk_then, last_disk}
 use Rattle.catalogue_store.proofs.catalogue.create.Goals as goal
 

@@ -6,7 +6,7 @@ use Rattle.catalogue_store.specs.Schema.{desk_schema, desk_tables}
 use Rattle.catalogue_store.proofs.Creations.{s1, s2, s3, office_defined, unit_defined, element_defined}
 use Rattle.catalogue_store.proofs.Calls.{cut_then, continues_then, on_ok_then, on_err_then, early}
 use Rattle.catalogue_store.proofs.Causes.{cause_then}
-use Rattle.catalogue_store.proofs.CreationCauses.{last_cause}
+use Rattle.catalogue_store.proofs.LaterCauses.{last_cause}
 use Rattle.catalogue_store.proofs.WriteCauses.{disk_then, last_disk}
 use Rattle.catalogue_store.proofs.making.create_units.Goals as goal
 
