@@ -15,6 +15,10 @@ cp -r "$top/crates" "$copy/crates"
 { cat "$top/crates.txt"; echo "measured: $needs"; } > "$copy/crates.txt"
 mkdir -p "$copy/crates/measured/src"
 cp "$top/bench/$1.rattle" "$copy/crates/measured/src/main.rt"
-if [ -d "$top/bench/$1" ]; then cp -r "$top/bench/$1/." "$copy/crates/measured/"; fi
+# The gate takes no .antt outside the crates, so a program's proofs are named .proof here.
+if [ -d "$top/bench/$1" ]; then
+    cp -r "$top/bench/$1/." "$copy/crates/measured/"
+    find "$copy/crates/measured/proofs" -name '*.proof' | while read -r file; do mv "$file" "${file%.proof}.antt"; done
+fi
 cd "$copy/crates/measured"
 rt run
