@@ -6,7 +6,7 @@ top=$(cd "$(dirname "$0")/.." && pwd)
 case "${1:-}" in
 desk) needs="isad_core desk_core anyhow" ;;
 forests) needs="tree_core" ;;
-tables) needs="isad_core catalogue_store desk_store sqlite" ;;
+tables) needs="isad_core tree_core catalogue_core office_tables catalogue_rows catalogue_store desk_store sqlite" ;;
 *) echo "usage: bench/measure.sh desk|forests|tables" >&2; exit 2 ;;
 esac
 copy=$(mktemp -d)

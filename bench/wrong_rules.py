@@ -2,11 +2,11 @@
 """Wrong rules, one at a time, in a copy of the repository: each has to be refused by a law or a worked row.
 
 bench/wrong_rules.py [WORD ..]: tries those rules whose label has one of the words, or all of them. It edits one
-definition at a time in a copy and checks the office. Build the libraries first (rt check in crates/office)."""
+definition at a time in a copy and checks the office. Build the libraries first (rt check in crates/office_rows)."""
 import os, re, subprocess, sys, tempfile, time
 SRC=os.path.dirname(os.path.dirname(os.path.abspath(__file__)))
 W=os.path.join(tempfile.mkdtemp(),'copy')
-O='crates/office/specs/'; C='crates/catalogue_store/specs/'
+O='crates/office_core/specs/'; C='crates/catalogue_core/specs/'; R='crates/office_rows/specs/'
 E=[
 # seats and tickets
 ('a ticket expires on its last day',O+'State.antt','int_lt reader.until s.day','int_le reader.until s.day'),
@@ -110,34 +110,34 @@ E=[
 ('no remark on tops',O+'Intake.antt','remark_if (lacks_essential top.values) (LacksEssential row)','[]'),
 ('a status comes with the file',C+'Merging.antt','    then record unit { values','    then record unit { draft = not unit.draft; values'),
 # rows of doubtful origin: the desk's causes
-('tickets in any numbers',O+'DeskCauses.antt','are_numbered_from (λ (row : ReaderRow). row.ticket) 1 t.readers &&','true &&'),
-('a reader with any name',O+'DeskCauses.antt','is_name row.name && is_day_number row.until','is_day_number row.until'),
-('a ticket for ever',O+'DeskCauses.antt','is_name row.name && is_day_number row.until','is_name row.name'),
-('a seat that the office has not',O+'DeskCauses.antt','is_between 1 t.office.seats row.seat &&','true &&'),
-('a stranger on a seat',O+'DeskCauses.antt','is_between 1 t.office.seats row.seat && is_registered t row.ticket','is_between 1 t.office.seats row.seat'),
-('a permit of a stranger',O+'DeskCauses.antt','is_registered t row.ticket && (is_unit_there t row.unit','true && (is_unit_there t row.unit'),
-('a permit for no unit',O+'DeskCauses.antt','(is_unit_there t row.unit &&','(true &&'),
-('permits without a limit',O+'DeskCauses.antt','nat_le (count_by (λ (other : PermitRow). nat_eq other.ticket row.ticket) t.permits) most_permits','true'),
-('orders in any numbers',O+'DeskCauses.antt','are_numbered_from (λ (row : OrderRow). row.id) 1 t.orders','true'),
-('an order of a stranger',O+'DeskCauses.antt','is_registered t row.ticket && (is_container_there','true && (is_container_there'),
-('an order for no container',O+'DeskCauses.antt','(is_container_there t row.container && (is_between 1 4','(true && (is_between 1 4'),
-('an order in a fifth state',O+'DeskCauses.antt','is_between 1 4 row.state','is_between 1 5 row.state'),
-('an order of tomorrow',O+'DeskCauses.antt','(int_le row.day t.office.day\n    && (nat_le (count_by (is_of_the_day','(true\n    && (nat_le (count_by (is_of_the_day'),
-('orders of a day without a limit',O+'DeskCauses.antt','nat_le (count_by (is_of_the_day row) t.orders) t.office.daily','true'),
-('an order twice',O+'DeskCauses.antt','not (list_any (are_twice row) t.orders)','true'),
-('a done order counts as live',O+'DeskCauses.antt','is_live row = is_between 1 2 row.state','is_live row = is_between 1 3 row.state'),
-('a holding of no container',O+'DeskCauses.antt','is_container_there t row.container && (is_at_desk row','true && (is_at_desk row'),
-('an order named at the desk',O+'DeskCauses.antt','nat_eq row.place 1 && is_none row.held_by','nat_eq row.place 1'),
-('a done order holds a container',O+'DeskCauses.antt','nat_eq row.id o && (nat_eq row.container c && nat_eq row.state 2)','nat_eq row.id o && nat_eq row.container c'),
-('out with an order for another container',O+'DeskCauses.antt','nat_eq row.id o && (nat_eq row.container c && nat_eq row.state 2)','nat_eq row.id o && nat_eq row.state 2'),
-('an order that is out without its container',O+'DeskCauses.antt','list_all (is_good_holding t) t.holdings && list_all (has_its_holding t) t.orders','list_all (is_good_holding t) t.holdings'),
-('runs in any numbers',O+'DeskCauses.antt','are_numbered_from (λ (row : RunRow). row.id) 1 t.runs &&','true &&'),
-('a run of nothing',O+'DeskCauses.antt','is_between 1 t.office.run_size (count_by','is_between 0 t.office.run_size (count_by'),
-('a line of no run',O+'DeskCauses.antt','list_any (λ (row : RunRow). nat_eq row.id line.run) t.runs &&','true &&'),
-('a line of another ticket',O+'DeskCauses.antt','(nat_eq row.container line.container && nat_eq row.ticket line.ticket)','nat_eq row.container line.container'),
-('a holder without a seat',O+'DeskCauses.antt','is_seated s ticket && (nat_le','true && (nat_le'),
-('hands without a limit',O+'DeskCauses.antt','nat_le (held s ticket) s.settings.hands && opens','true && opens'),
-('closed to its holder',O+'DeskCauses.antt','(nat_le (held s ticket) s.settings.hands && opens s ticket c)','(nat_le (held s ticket) s.settings.hands)'),
+('tickets in any numbers',R+'DeskCauses.antt','are_numbered_from (λ (row : ReaderRow). row.ticket) 1 t.readers &&','true &&'),
+('a reader with any name',R+'DeskCauses.antt','is_name row.name && is_day_number row.until','is_day_number row.until'),
+('a ticket for ever',R+'DeskCauses.antt','is_name row.name && is_day_number row.until','is_name row.name'),
+('a seat that the office has not',R+'DeskCauses.antt','is_between 1 t.office.seats row.seat &&','true &&'),
+('a stranger on a seat',R+'DeskCauses.antt','is_between 1 t.office.seats row.seat && is_registered t row.ticket','is_between 1 t.office.seats row.seat'),
+('a permit of a stranger',R+'DeskCauses.antt','is_registered t row.ticket && (is_unit_there t row.unit','true && (is_unit_there t row.unit'),
+('a permit for no unit',R+'DeskCauses.antt','(is_unit_there t row.unit &&','(true &&'),
+('permits without a limit',R+'DeskCauses.antt','nat_le (count_by (λ (other : PermitRow). nat_eq other.ticket row.ticket) t.permits) most_permits','true'),
+('orders in any numbers',R+'DeskCauses.antt','are_numbered_from (λ (row : OrderRow). row.id) 1 t.orders','true'),
+('an order of a stranger',R+'DeskCauses.antt','is_registered t row.ticket && (is_container_there','true && (is_container_there'),
+('an order for no container',R+'DeskCauses.antt','(is_container_there t row.container && (is_between 1 4','(true && (is_between 1 4'),
+('an order in a fifth state',R+'DeskCauses.antt','is_between 1 4 row.state','is_between 1 5 row.state'),
+('an order of tomorrow',R+'DeskCauses.antt','(int_le row.day t.office.day\n    && (nat_le (count_by (is_of_the_day','(true\n    && (nat_le (count_by (is_of_the_day'),
+('orders of a day without a limit',R+'DeskCauses.antt','nat_le (count_by (is_of_the_day row) t.orders) t.office.daily','true'),
+('an order twice',R+'DeskCauses.antt','not (list_any (are_twice row) t.orders)','true'),
+('a done order counts as live',R+'DeskCauses.antt','is_live row = is_between 1 2 row.state','is_live row = is_between 1 3 row.state'),
+('a holding of no container',R+'DeskCauses.antt','is_container_there t row.container && (is_at_desk row','true && (is_at_desk row'),
+('an order named at the desk',R+'DeskCauses.antt','nat_eq row.place 1 && is_none row.held_by','nat_eq row.place 1'),
+('a done order holds a container',R+'DeskCauses.antt','nat_eq row.id o && (nat_eq row.container c && nat_eq row.state 2)','nat_eq row.id o && nat_eq row.container c'),
+('out with an order for another container',R+'DeskCauses.antt','nat_eq row.id o && (nat_eq row.container c && nat_eq row.state 2)','nat_eq row.id o && nat_eq row.state 2'),
+('an order that is out without its container',R+'DeskCauses.antt','list_all (is_good_holding t) t.holdings && list_all (has_its_holding t) t.orders','list_all (is_good_holding t) t.holdings'),
+('runs in any numbers',R+'DeskCauses.antt','are_numbered_from (λ (row : RunRow). row.id) 1 t.runs &&','true &&'),
+('a run of nothing',R+'DeskCauses.antt','is_between 1 t.office.run_size (count_by','is_between 0 t.office.run_size (count_by'),
+('a line of no run',R+'DeskCauses.antt','list_any (λ (row : RunRow). nat_eq row.id line.run) t.runs &&','true &&'),
+('a line of another ticket',R+'DeskCauses.antt','(nat_eq row.container line.container && nat_eq row.ticket line.ticket)','nat_eq row.container line.container'),
+('a holder without a seat',R+'DeskCauses.antt','is_seated s ticket && (nat_le','true && (nat_le'),
+('hands without a limit',R+'DeskCauses.antt','nat_le (held s ticket) s.settings.hands && opens','true && opens'),
+('closed to its holder',R+'DeskCauses.antt','(nat_le (held s ticket) s.settings.hands && opens s ticket c)','(nat_le (held s ticket) s.settings.hands)'),
 # what is shown
 ('closed units are shown whole',O+'Queries.antt','public_of s.day s.forest','public_of (Rattle.std.specs.Prelude.pos 4000000) s.forest'),
 ('every element is found above',O+'Pages.antt','cond (is_found_above element) (nearest_value element higher) None','nearest_value element higher'),
@@ -149,33 +149,33 @@ E=[
 ('ended orders are listed',O+'Queries.antt','is_by s t o && (waits s o || is_out_now s o)','is_by s t o'),
 ('keys of an import in another order',O+'Json.antt','((codes "changed", count changed)\n    ∷ (codes "new", count new)','((codes "new", count new)\n    ∷ (codes "changed", count changed)'),
 # rows of doubtful origin: the catalogue's causes
-('rows of another version',O+'CatalogueCauses.antt','nat_eq row.version (version_number version) && (is_country','true && (is_country'),
-('an office of any country',O+'CatalogueCauses.antt','is_country row.country','true'),
-('an office of 201 seats',O+'CatalogueCauses.antt','is_between 1 200 row.seats','is_between 1 201 row.seats'),
-('an office on no day',O+'CatalogueCauses.antt','(is_day_number row.day &&','(true &&'),
-('a next unit past the last',O+'CatalogueCauses.antt','is_between 1 (most_unit_numbers + 1) row.next_unit','nat_le 1 row.next_unit'),
-('links with a fault',O+'CatalogueCauses.antt','are_good_places Links (LinkRows links) = not (is_some (link_fault links))','are_good_places Links (LinkRows links) = true'),
-('spans with a fault',O+'CatalogueCauses.antt','are_good_places Spans (SpanRows spans) = not (is_some (span_fault spans))','are_good_places Spans (SpanRows spans) = true'),
-('places of the other version',O+'CatalogueCauses.antt','are_good_places _ _ = false','are_good_places _ _ = true'),
-('a unit with the next number',O+'CatalogueCauses.antt','nat_lt row.id next','nat_le row.id next'),
-('a unit with the number 0',O+'CatalogueCauses.antt','nat_le 1 row.id &&','true &&'),
-('a unit from anywhere',O+'CatalogueCauses.antt','(is_source row.source &&','(true &&'),
-('a unit without a number in its source',O+'CatalogueCauses.antt','(not (is_blank_text row.legacy)','(true'),
-('a level as long as may be',O+'CatalogueCauses.antt','nat_le (length row.level) most_bytes','true'),
-('a closure until no day',O+'CatalogueCauses.antt','is_some_day (Some day) = is_day_number day','is_some_day (Some day) = true'),
-('a unit without a place',O+'CatalogueCauses.antt','all_stand_in (place_numbers t.places) (unit_numbers t) &&','true &&'),
-('a place without a unit',O+'CatalogueCauses.antt','all_stand_in (unit_numbers t) (place_numbers t.places)','true'),
-('units as deep as may be',O+'CatalogueCauses.antt','nat_le (height (state_of t).forest) most_deep','true'),
-('a level among the elements',O+'CatalogueCauses.antt','(not (nat_eq row.k 4) &&','(true &&'),
-('a blank element',O+'CatalogueCauses.antt','(not (is_blank_text row.value) &&','(true &&'),
-('an element of no unit',O+'CatalogueCauses.antt','stands row.unit units)','true)'),
-('containers in any numbers',O+'CatalogueCauses.antt','are_numbered_from (λ (row : ContainerRow). row.id) 1 rows &&','true &&'),
-('a container without a name',O+'CatalogueCauses.antt','list_all (λ (row : ContainerRow). not (is_blank_text row.name)) rows','true'),
-('something in no container',O+'CatalogueCauses.antt','is_between 1 (length t.containers) row.container','true'),
-('containers of a unit with a gap',O+'CatalogueCauses.antt','is_between 1 (length (housings_of row.unit t.housings)) row.ord','nat_le 1 row.ord'),
-('the second cause before the first',O+'CatalogueCauses.antt','office_is_bad version t ∷ places_are_bad version t ∷','places_are_bad version t ∷ office_is_bad version t ∷'),
+('rows of another version',R+'CatalogueCauses.antt','nat_eq row.version (version_number version) && (is_country','true && (is_country'),
+('an office of any country',R+'CatalogueCauses.antt','is_country row.country','true'),
+('an office of 201 seats',R+'CatalogueCauses.antt','is_between 1 200 row.seats','is_between 1 201 row.seats'),
+('an office on no day',R+'CatalogueCauses.antt','(is_day_number row.day &&','(true &&'),
+('a next unit past the last',R+'CatalogueCauses.antt','is_between 1 (most_unit_numbers + 1) row.next_unit','nat_le 1 row.next_unit'),
+('links with a fault',R+'CatalogueCauses.antt','are_good_places Links (LinkRows links) = not (is_some (link_fault links))','are_good_places Links (LinkRows links) = true'),
+('spans with a fault',R+'CatalogueCauses.antt','are_good_places Spans (SpanRows spans) = not (is_some (span_fault spans))','are_good_places Spans (SpanRows spans) = true'),
+('places of the other version',R+'CatalogueCauses.antt','are_good_places _ _ = false','are_good_places _ _ = true'),
+('a unit with the next number',R+'CatalogueCauses.antt','nat_lt row.id next','nat_le row.id next'),
+('a unit with the number 0',R+'CatalogueCauses.antt','nat_le 1 row.id &&','true &&'),
+('a unit from anywhere',R+'CatalogueCauses.antt','(is_source row.source &&','(true &&'),
+('a unit without a number in its source',R+'CatalogueCauses.antt','(not (is_blank_text row.legacy)','(true'),
+('a level as long as may be',R+'CatalogueCauses.antt','nat_le (length row.level) most_bytes','true'),
+('a closure until no day',R+'CatalogueCauses.antt','is_some_day (Some day) = is_day_number day','is_some_day (Some day) = true'),
+('a unit without a place',R+'CatalogueCauses.antt','all_stand_in (place_numbers t.places) (unit_numbers t) &&','true &&'),
+('a place without a unit',R+'CatalogueCauses.antt','all_stand_in (unit_numbers t) (place_numbers t.places)','true'),
+('units as deep as may be',R+'CatalogueCauses.antt','nat_le (height (state_of t).forest) most_deep','true'),
+('a level among the elements',R+'CatalogueCauses.antt','(not (nat_eq row.k 4) &&','(true &&'),
+('a blank element',R+'CatalogueCauses.antt','(not (is_blank_text row.value) &&','(true &&'),
+('an element of no unit',R+'CatalogueCauses.antt','stands row.unit units)','true)'),
+('containers in any numbers',R+'CatalogueCauses.antt','are_numbered_from (λ (row : ContainerRow). row.id) 1 rows &&','true &&'),
+('a container without a name',R+'CatalogueCauses.antt','list_all (λ (row : ContainerRow). not (is_blank_text row.name)) rows','true'),
+('something in no container',R+'CatalogueCauses.antt','is_between 1 (length t.containers) row.container','true'),
+('containers of a unit with a gap',R+'CatalogueCauses.antt','is_between 1 (length (housings_of row.unit t.housings)) row.ord','nat_le 1 row.ord'),
+('the second cause before the first',R+'CatalogueCauses.antt','office_is_bad version t ∷ places_are_bad version t ∷','places_are_bad version t ∷ office_is_bad version t ∷'),
 ]
-ROWS=['worked_rows','worked_answers','worked_catalogue_causes','worked_desk_causes']  # the functions of office::worked whose rows are looked at first
+ROWS=['office_core::worked::worked_rows','office_core::worked::worked_answers','office_rows::worked::worked_catalogue_causes','office_rows::worked::worked_desk_causes']  # the functions whose rows are looked at first
 def run(cmd,cwd):
     p=subprocess.run(cmd,cwd=cwd,capture_output=True,text=True); return p.stdout+p.stderr
 def errors(out):
@@ -184,7 +184,7 @@ def rows_say(office):
     """What the worked rows alone say: the names of those that fail, or none. They are quick."""
     out=''
     for row in ROWS:
-        out=run(['rt','check','--jobs','1','--allow-holes','--only','office::worked::'+row],office)
+        out=run(['rt','check','--jobs','1','--allow-holes','--only',row],W+'/crates/'+row.split('::')[0])
         if 'error' in out: break
     return out
 def proofs_say(office):
@@ -192,8 +192,8 @@ def proofs_say(office):
 def tried(label,f,office):
     t=time.time()
     if f.startswith(C):
-        out=run(['rt','lib'],W+'/crates/catalogue_store')
-        if 'logic=proved' not in out: return f'refused {time.time()-t:4.1f}s | {label} | catalogue_store: {", ".join(errors(out))}',False
+        out=run(['rt','lib'],W+'/crates/catalogue_core')
+        if 'logic=proved' not in out: return f'refused {time.time()-t:4.1f}s | {label} | catalogue_core: {", ".join(errors(out))}',False
     out=rows_say(office)
     if 'error' not in out: out=proofs_say(office)
     spec=[l for l in out.split('\n') if 'error' in l and '/specs/' in l]
@@ -204,7 +204,7 @@ def tried(label,f,office):
 if __name__=='__main__':
     only=sys.argv[1:]
     subprocess.run(['cp','-a',SRC,W])
-    kept=W+'/crates/catalogue_store/out'
+    kept=W+'/crates/catalogue_core/out'
     subprocess.run(['cp','-a',kept,kept+'.kept'])
     passed=[]; n=0
     for label,f,old,new in E:
@@ -212,7 +212,7 @@ if __name__=='__main__':
         p=W+'/'+f; orig=open(p).read()
         if orig.count(old)!=1: print(f'NOT APPLIED | {label}',flush=True); continue
         open(p,'w').write(orig.replace(old,new,1)); n+=1
-        line,through=tried(label,f,W+'/crates/office')
+        line,through=tried(label,f,W+'/crates/office_rows')
         print(line,flush=True)
         if through: passed.append(label)
         open(p,'w').write(orig)

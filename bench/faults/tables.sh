@@ -1,9 +1,9 @@
 #!/usr/bin/env bash
 # Refuses each allocation of each test of the tables in turn, and counts how the tests end. shim.c is loaded before the
-# C library. First: cd crates/desk_store && rt test
+# C library. First: cd crates/house_tests && rt test
 set -euo pipefail
 top=$(cd "$(dirname "$0")/../.." && pwd)
-tests=${1:-"$top/crates/desk_store/out/desk_store_tests"}
+tests=${1:-"$top/crates/house_tests/out/house_tests_tests"}
 room=$(mktemp -d)
 trap 'rm -r "$room"' EXIT
 cc -shared -fPIC -O2 -o "$room/shim.so" "$top/bench/faults/shim.c" -ldl

@@ -5,12 +5,13 @@ use Rattle.sqlite.specs.Effect.{Database}
 use Rattle.sqlite.specs.Change.{KeepsRows}
 use Rattle.sqlite.specs.Tree.{Trees, put_row}
 use Rattle.tree_core.specs.Forest.{Forest, Empty}
-use Rattle.catalogue_store.specs.Creation.{HasMade}
-use Rattle.catalogue_store.specs.Schema.{Version, schema, desk_tables}
-use Rattle.catalogue_store.specs.Rows.{office_row}
-use Rattle.catalogue_store.specs.Shows.{Shows}
-use Rattle.catalogue_store.specs.Step.{PutsRow}
-use Rattle.catalogue_store.specs.declared.office.OfficeRow.{OfficeRow}
+use Rattle.office_tables.specs.Creation.{HasMade}
+use Rattle.tree_core.specs.Versions.{Version}
+use Rattle.office_tables.specs.Schema.{schema, desk_tables}
+use Rattle.catalogue_rows.specs.Rows.{office_row}
+use Rattle.catalogue_rows.specs.Shows.{Shows}
+use Rattle.office_tables.specs.Step.{PutsRow}
+use Rattle.catalogue_rows.specs.declared.office.OfficeRow.{OfficeRow}
 
 pub shows_beginning : (v : Version) (shows : Trees → Forest ℕ → Type 0) → ((old new : Trees) (f : Forest ℕ) → new 24 ≡ old 24 → shows old f → shows new f)
     → (start mid new : Database) (o : OfficeRow) → HasMade desk_tables (schema v) start mid → new.schema ≡ mid.schema → PutsRow 13 (office_row v o) mid new → shows mid.trees Empty

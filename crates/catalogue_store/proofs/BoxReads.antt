@@ -7,10 +7,10 @@ use Rattle.sqlite_rules.specs.Lists.{Has}
 use Rattle.sqlite_rules.proofs.ListLemmas.{has_filtered, has_last}
 use Rattle.isad_core.specs.declared.values.BoxKey.{BoxKey}
 use Rattle.atom_csv.specs.Values.{is_same}
-use Rattle.catalogue_store.specs.Merging.{number_in, box_number}
-use Rattle.catalogue_store.specs.Rows.{counted_from}
-use Rattle.catalogue_store.proofs.BoxNumbers.{same_box}
-use Rattle.catalogue_store.proofs.Rows.{had, map_has}
+use Rattle.catalogue_core.specs.Merging.{number_in, box_number}
+use Rattle.catalogue_rows.specs.Rows.{counted_from}
+use Rattle.catalogue_rows.proofs.BoxNumbers.{same_box}
+use Rattle.office_tables.proofs.Rows.{had, map_has}
 
 from_its_number : (n : ℕ) (cs : List BoxKey) → (x : ℕ × BoxKey) → Has (counted_from (n + 1) cs) x → n < x.0
 from_its_number n [] x h = absurd h

@@ -7,13 +7,12 @@ use Rattle.isad_core.specs.declared.values.BoxKey.{BoxKey}
 use Rattle.isad_core.specs.declared.values.Values.{Values}
 use Rattle.atom_csv.specs.Values.{distinct, is_same}
 use Rattle.tree_core.specs.Forest.{Forest, Empty, Node, nodes, join, put_below, add}
-use Rattle.catalogue_store.specs.Adding.{with_boxes}
-use Rattle.catalogue_store.specs.Describing.{KnowsItsContainers, with_unit, with_values}
-use Rattle.catalogue_store.specs.Merging.{Catalogue}
-use Rattle.catalogue_store.specs.Units.{Unit, has_id}
-use Rattle.catalogue_store.proofs.BoxNumbers.{all_apart, all_known, still_known}
-use Rattle.catalogue_store.proofs.NodeLemmas.{nodes_join}
-use Rattle.catalogue_store.proofs.Statuses.{nodes_each, all_map}
+use Rattle.catalogue_core.specs.Describing.{with_boxes, KnowsItsContainers, with_unit, with_values}
+use Rattle.catalogue_core.specs.Merging.{Catalogue}
+use Rattle.catalogue_core.specs.Units.{Unit, has_id}
+use Rattle.catalogue_rows.proofs.BoxNumbers.{all_apart, all_known, still_known}
+use Rattle.catalogue_core.proofs.NodeLemmas.{nodes_join}
+use Rattle.catalogue_rows.proofs.Statuses.{nodes_each, all_map}
 
 module _ {A : Type 0} (P : A → Type 0) where
   both : (xs ys : List A) → AllByRecursion P (xs ++ ys) → AllByRecursion P xs × AllByRecursion P ys

@@ -11,15 +11,16 @@ use Rattle.sqlite_rules.proofs.ListLemmas.{all_has, has_filtered, has_kept}
 use Rattle.sqlite_trees.proofs.ListLemmas.{all-get_or, all-permutation, all_from_map}
 use Rattle.tree_core.specs.Forest.{Forest, nodes}
 use Rattle.tree_core.specs.declared.rows.Span.{Span}
-use Rattle.catalogue_store.specs.Bounds.{IsKept, IsLegibleUnit}
-use Rattle.catalogue_store.specs.Marking.{AreAttached, names}
-use Rattle.catalogue_store.specs.Merging.{Catalogue}
-use Rattle.catalogue_store.specs.Shows.{ShowsUnits}
-use Rattle.catalogue_store.specs.Units.{Unit}
-use Rattle.catalogue_store.specs.declared.answer.Status.{Status}
+use Rattle.catalogue_core.specs.Bounds.{IsKept, IsLegibleUnit}
+use Rattle.catalogue_store.specs.Attaching.{AreAttached}
+use Rattle.catalogue_core.specs.Marking.{names}
+use Rattle.catalogue_core.specs.Merging.{Catalogue}
+use Rattle.catalogue_rows.specs.Shows.{ShowsUnits}
+use Rattle.catalogue_core.specs.Units.{Unit}
+use Rattle.catalogue_rows.specs.declared.answer.Status.{Status}
 use Rattle.catalogue_store.proofs.MarkReads.{blank_unit}
-use Rattle.catalogue_store.proofs.Rows.{had}
-use Rattle.catalogue_store.proofs.Statuses.{nodes_each}
+use Rattle.office_tables.proofs.Rows.{had}
+use Rattle.catalogue_rows.proofs.Statuses.{nodes_each}
 
 -- why a last call fails, which leaves this
 pub if_err_with : {X E : Type 0} (r : Result X E) (P : Type 0) (Q : E → Type 0) → (P → IfErr r Q) → OnErr r P → IfErr r Q

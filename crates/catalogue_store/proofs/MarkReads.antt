@@ -6,7 +6,7 @@ use Rattle.std.specs.Ordering.{int_cmp}
 use Rattle.std.specs.Cmp.{tied_itself, int_cmp_total}
 use Rattle.std.proofs.lemmas.Bool.{eq-eqb, ne_eqb, eqb-true, cases_Bool}
 use Rattle.std.proofs.lemmas.List.{length-map, take_more, take_all, length-take-le, get_or-map}
-use Rattle.std.proofs.lemmas.List.Sorted.{length_permutation}
+use Rattle.std.proofs.lemmas.List.Sorted.{length_permutation, IsPermutation-sym}
 use Rattle.sqlite.specs.Tree.{Trees}
 use Rattle.sqlite_rules.specs.Lists.{Has}
 use Rattle.sqlite_rules.proofs.ListLemmas.{all_has}
@@ -14,19 +14,18 @@ use Rattle.isad_core.specs.declared.values.BoxKey.{BoxKey}
 use Rattle.tree_core.specs.Forest.{Forest, nodes}
 use Rattle.tree_core.specs.declared.marks.Mark.{Mark}
 use Rattle.tree_core.specs.declared.rows.Span.{Span}
-use Rattle.catalogue_store.specs.Housing.{is_some_there}
-use Rattle.catalogue_store.specs.Marked.{mark_at, marks_at}
-use Rattle.catalogue_store.specs.Merging.{box_number}
-use Rattle.catalogue_store.specs.Order.{Rises}
-use Rattle.catalogue_store.specs.Rows.{by_number, counted_from, HousingRow}
-use Rattle.catalogue_store.specs.Shows.{ShowsUnits, ShowsHousings, housing_cells, housings_of}
-use Rattle.catalogue_store.specs.Units.{Unit}
-use Rattle.catalogue_store.specs.declared.answer.Status.{Status}
-use Rattle.catalogue_store.proofs.Offices.{length-counted}
-use Rattle.catalogue_store.proofs.Rows.{had}
-use Rattle.catalogue_store.proofs.Reading.{first_kept}
+use Rattle.catalogue_core.specs.Housing.{is_some_there}
+use Rattle.catalogue_core.specs.Marked.{mark_at, marks_at}
+use Rattle.catalogue_core.specs.Merging.{box_number}
+use Rattle.office_tables.specs.Order.{Rises}
+use Rattle.catalogue_rows.specs.Rows.{by_number, counted_from, HousingRow}
+use Rattle.catalogue_rows.specs.Shows.{ShowsUnits, ShowsHousings, housing_cells, housings_of}
+use Rattle.catalogue_core.specs.Units.{Unit}
+use Rattle.catalogue_rows.specs.declared.answer.Status.{Status}
+use Rattle.catalogue_rows.proofs.Offices.{length-counted}
+use Rattle.office_tables.proofs.Rows.{had}
+use Rattle.office_tables.proofs.Reading.{first_kept}
 use Rattle.catalogue_store.proofs.Climbing.{first_of}
-use Rattle.std.proofs.lemmas.List.Sorted.{IsPermutation-sym}
 
 -- ---- the status
 

@@ -5,14 +5,14 @@ use Rattle.sqlite.specs.Tree.{Trees}
 use Rattle.sqlite_trees.proofs.ListLemmas.{ascending-filter}
 use Rattle.isad_core.specs.declared.values.BoxKey.{BoxKey}
 use Rattle.isad_core.specs.declared.values.Values.{Values}
-use Rattle.catalogue_store.specs.Adding.{AreElements, AreHoused, IsDescribed, with_boxes}
-use Rattle.catalogue_store.specs.Describing.{KnowsItsContainers}
-use Rattle.catalogue_store.specs.Merging.{Catalogue}
-use Rattle.catalogue_store.specs.Order.{Rises}
-use Rattle.catalogue_store.specs.Rows.{ElementRow, HousingRow}
-use Rattle.catalogue_store.specs.Schema.{Version}
-use Rattle.catalogue_store.specs.Shows.{ShowsCatalogue}
-use Rattle.catalogue_store.specs.declared.office.OfficeRow.{OfficeRow}
+use Rattle.catalogue_rows.specs.Adding.{AreElements, AreHoused, IsDescribed}
+use Rattle.catalogue_core.specs.Describing.{with_boxes, KnowsItsContainers}
+use Rattle.catalogue_core.specs.Merging.{Catalogue}
+use Rattle.office_tables.specs.Order.{Rises}
+use Rattle.catalogue_rows.specs.Rows.{ElementRow, HousingRow}
+use Rattle.tree_core.specs.Versions.{Version}
+use Rattle.catalogue_rows.specs.Shows.{ShowsCatalogue}
+use Rattle.catalogue_rows.specs.declared.office.OfficeRow.{OfficeRow}
 use Rattle.sqlite.specs.Effect.{Database}
 
 pub same_elements : (old new : Trees) (xs : List ElementRow) → new 16 ≡ old 16 → AreElements old xs → AreElements new xs

@@ -15,15 +15,15 @@ use Rattle.isad_core.specs.declared.values.BoxKey.{BoxKey}
 use Rattle.isad_core.specs.declared.values.Values.{Values}
 use Rattle.atom_csv.specs.Values.{is_same}
 use Rattle.tree_core.specs.Forest.{Forest, nodes, has}
-use Rattle.catalogue_store.specs.Bounds.{IsLegibleUnit}
-use Rattle.catalogue_store.specs.Legible.{IsLegibleBox}
-use Rattle.catalogue_store.specs.Merging.{number_in, box_number}
-use Rattle.catalogue_store.specs.Rows.{counted_from, ElementRow}
-use Rattle.catalogue_store.specs.Shows.{ShowsElements, texts_from, element_number, element_cells, elements_of}
-use Rattle.catalogue_store.specs.Units.{Unit, has_id}
+use Rattle.catalogue_core.specs.Bounds.{IsLegibleUnit}
+use Rattle.isad_core.specs.Legible.{IsLegibleBox}
+use Rattle.catalogue_core.specs.Merging.{number_in, box_number}
+use Rattle.catalogue_rows.specs.Rows.{counted_from, ElementRow}
+use Rattle.catalogue_rows.specs.Shows.{ShowsElements, texts_from, element_number, element_cells, elements_of}
+use Rattle.catalogue_core.specs.Units.{Unit, has_id}
 use Rattle.catalogue_store.proofs.BoxReads.{later}
-use Rattle.catalogue_store.proofs.Rows.{had, has_map, map_has}
-use Rattle.catalogue_store.proofs.Untold.{numbered}
+use Rattle.office_tables.proofs.Rows.{had, has_map, map_has}
+use Rattle.catalogue_rows.proofs.Untold.{numbered}
 
 -- a call that does not fail
 pub never_fails : {X E : Type 0} (r : Result X E) (Q : E → Type 0) → IsOk r → IfErr r Q

@@ -11,17 +11,17 @@ use Rattle.isad_core.specs.declared.values.BoxKey.{BoxKey}
 use Rattle.isad_core.specs.declared.values.Values.{Values}
 use Rattle.atom_csv.specs.Values.{is_same}
 use Rattle.tree_core.specs.Forest.{Forest, nodes, each, has}
-use Rattle.catalogue_store.specs.Adding.{WithTexts, cell_of, WithHousings, housing_cell, IsDescribed, with_boxes}
-use Rattle.catalogue_store.specs.Describing.{with_values, KnowsItsContainers}
-use Rattle.catalogue_store.specs.Merging.{Catalogue}
-use Rattle.catalogue_store.specs.Rows.{unit_row, ElementRow, HousingRow}
-use Rattle.catalogue_store.specs.Schema.{Version}
-use Rattle.catalogue_store.specs.Shows.{Shows, element_cells, elements_of, housing_cells, housings_of}
-use Rattle.catalogue_store.specs.Units.{Unit, has_id}
-use Rattle.catalogue_store.specs.declared.office.OfficeRow.{OfficeRow}
-use Rattle.catalogue_store.proofs.HousingLemmas.{same_cells}
-use Rattle.catalogue_store.proofs.Parts.{own_cells, others_cells, all_theirs}
-use Rattle.catalogue_store.proofs.Statuses.{nodes_each, each_each, all_map, kept_by, rising, still_there}
+use Rattle.catalogue_rows.specs.Adding.{WithTexts, cell_of, WithHousings, housing_cell, IsDescribed}
+use Rattle.catalogue_core.specs.Describing.{with_boxes, with_values, KnowsItsContainers}
+use Rattle.catalogue_core.specs.Merging.{Catalogue}
+use Rattle.catalogue_rows.specs.Rows.{unit_row, ElementRow, HousingRow}
+use Rattle.tree_core.specs.Versions.{Version}
+use Rattle.catalogue_rows.specs.Shows.{Shows, element_cells, elements_of, housing_cells, housings_of}
+use Rattle.catalogue_core.specs.Units.{Unit, has_id}
+use Rattle.catalogue_rows.specs.declared.office.OfficeRow.{OfficeRow}
+use Rattle.catalogue_rows.proofs.HousingLemmas.{same_cells}
+use Rattle.catalogue_rows.proofs.Parts.{own_cells, others_cells, all_theirs}
+use Rattle.catalogue_rows.proofs.Statuses.{nodes_each, each_each, all_map, kept_by, rising, still_there}
 
 -- what tells the unit's values in the tables is what tells these, and all else is as it was
 pub record HasValued (old new : Database) (unit : ℕ) (values : Values) (units : List Unit) (elements : List ElementRow) (housings : List HousingRow) (boxes : List BoxKey) : Type 0 where

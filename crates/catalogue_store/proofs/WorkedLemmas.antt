@@ -9,13 +9,13 @@ use Rattle.isad_core.specs.Texts.{Bytes}
 use Rattle.tree_core.specs.Forest.{each}
 use Rattle.tree_core.specs.declared.rows.Link.{Link}
 use Rattle.tree_core.proofs.LinkPaths.{length-path}
-use Rattle.catalogue_store.specs.Bounds.{IsKept, IsLegibleUnit}
-use Rattle.catalogue_store.specs.Describing.{KnowsItsContainers, HasAllPlaces}
-use Rattle.catalogue_store.specs.Schema.{Links}
-use Rattle.catalogue_store.specs.Shows.{Shows, ShowsLinkRows}
-use Rattle.catalogue_store.specs.Units.{Unit}
+use Rattle.catalogue_core.specs.Bounds.{IsKept, IsLegibleUnit}
+use Rattle.catalogue_core.specs.Describing.{KnowsItsContainers, HasAllPlaces}
+use Rattle.tree_core.specs.Versions.{Links}
+use Rattle.catalogue_rows.specs.Shows.{Shows, ShowsLinkRows}
+use Rattle.catalogue_core.specs.Units.{Unit}
 use Rattle.catalogue_store.specs.Worked.{box, fonds, series, worked, settings, element_rows, housing_rows, link_rows, tables}
-use Rattle.catalogue_store.proofs.Puts.{not_falling}
+use Rattle.office_tables.proofs.Puts.{not_falling}
 
 -- texts that are not there
 no_texts : (n : ℕ) → AllByRecursion (λ (text : Option Bytes). IfSome text IsUtf8) (replicate n None)

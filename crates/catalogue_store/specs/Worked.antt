@@ -5,11 +5,12 @@ use Rattle.sqlite.specs.Tree.{Trees}
 use Rattle.isad_core.specs.declared.values.BoxKey.{BoxKey}
 use Rattle.tree_core.specs.Forest.{Empty, Node}
 use Rattle.tree_core.specs.declared.rows.Link.{Link}
-use Rattle.catalogue_store.specs.Merging.{Catalogue}
-use Rattle.catalogue_store.specs.Rows.{office_row, unit_row, ElementRow, element_row, container_row, HousingRow, housing_row, link_row}
-use Rattle.catalogue_store.specs.Schema.{Links, schema}
-use Rattle.catalogue_store.specs.Units.{Unit}
-use Rattle.catalogue_store.specs.declared.office.OfficeRow.{OfficeRow}
+use Rattle.catalogue_core.specs.Merging.{Catalogue}
+use Rattle.catalogue_rows.specs.Rows.{office_row, unit_row, ElementRow, element_row, container_row, HousingRow, housing_row, link_row}
+use Rattle.tree_core.specs.Versions.{Links}
+use Rattle.office_tables.specs.Schema.{schema}
+use Rattle.catalogue_core.specs.Units.{Unit}
+use Rattle.catalogue_rows.specs.declared.office.OfficeRow.{OfficeRow}
 
 -- ---- the catalogue
 

@@ -2,21 +2,15 @@
 
 ghost use Rattle.std.specs.Prelude.{ℕ, Option};
 ghost use Rattle.isad_core.specs.declared.values.Values.{Values};
-ghost use Rattle.catalogue_store.specs.Bounds.{IsKept};
-ghost use Rattle.catalogue_store.specs.Describing.{KnowsItsContainers, HasAllPlaces, with_unit, with_values};
-ghost use Rattle.catalogue_store.specs.Merging.{Catalogue};
-ghost use Rattle.catalogue_store.specs.OpenMarks.{OpenByMarks, MarksSayClean, NumbersTellNothing};
-ghost use Rattle.catalogue_store.specs.Schema.{Links};
-ghost use Rattle.catalogue_store.specs.Shows.{Shows, ShowsLinkRows};
-ghost use Rattle.catalogue_store.specs.Units.{«Unit» as Described};
+ghost use Rattle.catalogue_core.specs.Bounds.{IsKept};
+ghost use Rattle.catalogue_core.specs.Describing.{KnowsItsContainers, HasAllPlaces, with_unit, with_values};
+ghost use Rattle.catalogue_core.specs.Merging.{Catalogue};
+ghost use Rattle.tree_core.specs.Versions.{Links};
+ghost use Rattle.catalogue_rows.specs.Shows.{Shows, ShowsLinkRows};
+ghost use Rattle.catalogue_core.specs.Units.{«Unit» as Described};
 ghost use Rattle.catalogue_store.specs.Worked.{settings, tables, worked};
 
-/// When a container is open to the public, by the marks of the units that name it.
-pub fn open_by_marks()
-    ensures open { OpenByMarks }
-    ensures clean { MarksSayClean }
-    ensures numbers { NumbersTellNothing }
-{}
+pub use catalogue_core::laws::open_by_marks;
 
 /// A catalogue of two units is within the limits, and tables show it: a call can meet what the
 /// clauses on the catalogue ask.

@@ -1,39 +1,26 @@
 //! Units, containers and places: what an office knows of its archives, in tables.
 #![tactic(auto)]
 
-mod answer;
 mod catalogue;
 mod closing;
-mod containers;
 mod describing;
-mod elements;
-mod fault;
-mod housing;
 pub mod laws;
-mod link_reads;
-mod link_rows;
 mod links;
-mod making;
 mod marking;
 mod marks;
 mod moving;
 mod office;
 mod places;
-mod transaction;
 mod unit_values;
-mod units;
-mod value;
 
 pub use catalogue::{create, known};
+pub use catalogue_rows::{NewUnit, OfficeRow};
 pub use closing::{set_closure, set_status};
 pub use describing::{add_unit, replace_values};
-pub use fault::StoreFault;
 pub use links::LinkPlaces;
-pub use making::{create_index, create_table};
 pub use marking::{Attached, branch_marks, contents_marks, path_marks};
 pub use moving::{move_unit, remove_branch};
-pub use office::{Office, OfficeRow, office_row};
+pub use office::{Office, office_row};
+pub use office_tables::{StoreFault, begin, commit, create_index, create_table, roll_back};
 pub use places::Places;
-pub use transaction::{begin, commit, roll_back};
 pub use unit_values::{UnitValues, values};
-pub use units::NewUnit;

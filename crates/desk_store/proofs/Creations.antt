@@ -6,9 +6,9 @@ use Rattle.sqlite.specs.Change.{created, indexed}
 use Rattle.sqlite.specs.Listing.{understood}
 use Rattle.sqlite_tied.specs.Compute.{everything}
 use Rattle.sqlite_schema.specs.declared.schema.Index.{Index}
-use Rattle.catalogue_store.proofs.Creations.{naming}
-use Rattle.catalogue_store.specs.Creation.{DefinesTable, DefinesIndex}
-use Rattle.catalogue_store.specs.Schema.{no_schema, desk_schema, reader, seat, orders, holding, run, run_line, permit, orders_by_container, orders_by_ticket, permit_by_unit}
+use Rattle.office_tables.proofs.Creations.{naming}
+use Rattle.office_tables.specs.Creation.{DefinesTable, DefinesIndex}
+use Rattle.office_tables.specs.Schema.{no_schema, desk_schema, reader, seat, orders, holding, run, run_line, permit, orders_by_container, orders_by_ticket, permit_by_unit}
 
 abbrev pub reader_text : List ℕ
 reader_text = codes "CREATE TABLE reader (ticket INTEGER PRIMARY KEY, name TEXT NOT NULL, until INTEGER NOT NULL) STRICT"

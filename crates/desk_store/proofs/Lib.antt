@@ -1,2 +1,1 @@
 pub mod Creations
-pub mod Going

@@ -2,7 +2,7 @@
 use Rattle.std.specs.Prelude.{[], ◌∷◌}
 use Rattle.sqlite.specs.Schema.{Schema}
 use Rattle.sqlite_catalog.specs.Listing.{automatic}
-use Rattle.catalogue_store.specs.Schema.{reader, seat, orders, holding, run, run_line, orders_by_container, orders_by_ticket}
+use Rattle.office_tables.specs.Schema.{reader, seat, orders, holding, run, run_line, orders_by_container, orders_by_ticket}
 
 abbrev pub reader_schema : Schema
 reader_schema = record { tables = reader ∷ seat ∷ []; indexes = automatic seat 0 (2 ∷ []) 2 ∷ []; views = [] }

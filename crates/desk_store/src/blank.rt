@@ -2,7 +2,7 @@
 
 ghost use Rattle.std.specs.Prelude.{◌≡◌, ◌↔◌, IsTrue};
 ghost use Rattle.sqlite.specs.Held.{state};
-ghost use Rattle.catalogue_store.specs.Schema.{no_schema};
+ghost use Rattle.office_tables.specs.Schema.{no_schema};
 
 use sqlite::{Alter, Connection};
 

@@ -6,6 +6,3 @@ mod making;
 
 pub use blank::is_blank;
 pub use making::create_desk;
-
-#[cfg(test)]
-mod tests;

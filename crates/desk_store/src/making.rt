@@ -4,14 +4,14 @@ ghost use Rattle.std.specs.Prelude.{◌≡◌, [], Err, OnOk, OnErr, IfErr};
 ghost use Rattle.sqlite.specs.Held.{state};
 ghost use Rattle.sqlite.specs.Effect.{Database};
 ghost use Rattle.sqlite.specs.State.{HasCleanDisk};
-ghost use Rattle.catalogue_store.specs.Creation.{IsMaking};
-ghost use Rattle.catalogue_store.specs.Faults.{HasCause};
-ghost use Rattle.catalogue_store.specs.Schema.{no_schema, desk_schema};
-ghost use Rattle.catalogue_store.specs.Step.{Continues, IsCut};
+ghost use Rattle.office_tables.specs.Creation.{IsMaking};
+ghost use Rattle.office_tables.specs.Faults.{HasCause};
+ghost use Rattle.office_tables.specs.Schema.{no_schema, desk_schema};
+ghost use Rattle.office_tables.specs.Step.{Continues, IsCut};
 ghost use Rattle.desk_store.specs.Making.{reader_schema, order_schema, run_schema};
 
 use crate::blank::is_blank;
-use catalogue_store::{StoreFault, create_index, create_table};
+use office_tables::{StoreFault, create_index, create_table};
 use sqlite::{Alter, Connection};
 
 /// Makes the tables of the readers and of the seats that are taken.

@@ -6,3 +6,4 @@ pub mod Printed
 pub mod Texts
 pub mod Values
 pub mod Worked
+pub mod Legible

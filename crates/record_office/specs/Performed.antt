@@ -5,7 +5,7 @@ use Rattle.std.specs.Io.KnownBytes.{Appends, Consumes, IsAtEnd}
 use Rattle.clap.specs.Simple.{subcommand_of}
 use Rattle.clap.specs.Takes.{takes}
 use Rattle.clap.specs.Walk.{Text}
-use Rattle.office.specs.Preview.{preview_of}
+use Rattle.finding_aids.specs.Preview.{preview_of}
 use Rattle.record_office.specs.CommandLine.{program}
 use Rattle.record_office.specs.Faults.{bad_file_line, message_of, status_of}
 use Rattle.record_office.specs.Streams.{IsFront}

@@ -1,3 +1,4 @@
+pub mod Worked
 pub mod Forest
 pub mod Links
 pub mod LastPlace
@@ -8,4 +9,4 @@ pub mod Marks
 pub mod SpanFaults
 pub mod LinkFaults
 pub mod Steps
-pub mod Worked
+pub mod Versions

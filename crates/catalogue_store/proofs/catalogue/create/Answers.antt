@@ -2,15 +2,15 @@ use Rattle.std.proofs.Common.{rules, []}
 use Rattle.sqlite.specs.Held.{state}
 use Rattle.sqlite.specs.Change.{KeepsRows}
 use Rattle.tree_core.specs.Forest.{Empty}
-use Rattle.catalogue_store.specs.Schema.{desk_tables}
-use Rattle.catalogue_store.specs.Rows.{office_row}
-use Rattle.catalogue_store.specs.Shows.{Shows}
-use Rattle.catalogue_store.specs.Step.{InTransaction, Continues, Goes, IsCut, PutsRow}
-use Rattle.catalogue_store.proofs.Calls.{early, cut_then, continues_then, on_ok_then, on_ok_both, on_err_then}
+use Rattle.office_tables.specs.Schema.{desk_tables}
+use Rattle.catalogue_rows.specs.Rows.{office_row}
+use Rattle.catalogue_rows.specs.Shows.{Shows}
+use Rattle.office_tables.specs.Step.{InTransaction, Continues, Goes, IsCut, PutsRow}
+use Rattle.office_tables.proofs.Calls.{early, cut_then, continues_then, on_ok_then, on_ok_both, on_err_then}
 use Rattle.catalogue_store.proofs.Beginning.{shows_beginning, desk_kept}
-use Rattle.catalogue_store.proofs.Causes.{cause_then, still_unlimited}
-use Rattle.catalogue_store.proofs.LaterCauses.{last_cause}
-use Rattle.catalogue_store.proofs.WriteCauses.{disk_then, last_disk}
+use Rattle.office_tables.proofs.Causes.{cause_then, still_unlimited}
+use Rattle.office_tables.proofs.LaterCauses.{last_cause}
+use Rattle.office_tables.proofs.WriteCauses.{disk_then, last_disk}
 use Rattle.catalogue_store.proofs.catalogue.create.Goals as goal
 
 pub returns-in_err-create_containers-clause-cut : goal.returns-in_err-create_containers-clause-cut

@@ -1,7 +1,7 @@
 use Rattle.std.proofs.Common.{rules, ap, ◌≡◌, subst, sym, ◌∙◌, map, slice_get}
-use Rattle.catalogue_store.specs.Units.{Unit, is_from}
-use Rattle.catalogue_store.specs.Finding.{Finds}
-use Rattle.catalogue_store.proofs.Finding.{finds_first}
+use Rattle.catalogue_core.specs.Units.{Unit, is_from}
+use Rattle.catalogue_core.specs.Finding.{Finds}
+use Rattle.catalogue_rows.proofs.Finding.{finds_first}
 use Rattle.catalogue_store.proofs.catalogue.known.Goals as goal
 
 pub returns-clause-finds : goal.returns-clause-finds

@@ -1,12 +1,12 @@
 use Rattle.std.proofs.Common.{refl, map, if◌then◌else◌, [], ◌∷◌}
 use Rattle.sqlite.specs.Held.{state}
-use Rattle.catalogue_store.specs.Units.{Unit, has_id}
-use Rattle.catalogue_store.specs.Rows.{unit_row}
-use Rattle.catalogue_store.specs.Shows.{Shows}
-use Rattle.catalogue_store.specs.Statuses.{with_closure}
-use Rattle.catalogue_store.specs.Step.{Goes, HasRows, OnlyTouches}
-use Rattle.catalogue_store.proofs.Calls.{on_ok_both, on_ok_then, office_of}
-use Rattle.catalogue_store.proofs.Statuses.{shows_changed, kept_by}
+use Rattle.catalogue_core.specs.Units.{Unit, has_id}
+use Rattle.catalogue_rows.specs.Rows.{unit_row}
+use Rattle.catalogue_rows.specs.Shows.{Shows}
+use Rattle.catalogue_core.specs.Statuses.{with_closure}
+use Rattle.office_tables.specs.Step.{Goes, HasRows, OnlyTouches}
+use Rattle.office_tables.proofs.Calls.{on_ok_both, on_ok_then, office_of}
+use Rattle.catalogue_rows.proofs.Statuses.{shows_changed, kept_by}
 use Rattle.catalogue_store.proofs.closing.set_closure.Goals as goal
 
 pub set_until-requires-clause-inside : goal.set_until-requires-clause-inside

@@ -1,15 +1,15 @@
 use Rattle.std.proofs.Common.{rules, ℕ, List, [], ◌∷◌, take, get_or, sym, subst, arith}
 use Rattle.std.proofs.lemmas.List.{take_more, take_all}
 use Rattle.sqlite.specs.Held.{state}
-use Rattle.catalogue_store.specs.Merging.{Catalogue}
-use Rattle.catalogue_store.specs.Shows.{Shows}
-use Rattle.catalogue_store.specs.Statuses.{with_status}
-use Rattle.catalogue_store.specs.Step.{IsCut}
-use Rattle.catalogue_store.proofs.Calls.{early, goes_nowhere, goes_then, cut_then, office_of}
-use Rattle.catalogue_store.proofs.Causes.{cause_then, still_unlimited}
-use Rattle.catalogue_store.proofs.Statuses.{draft_step, status_of_none}
-use Rattle.catalogue_store.proofs.Touching.{nothing_touched, touched_again}
-use Rattle.catalogue_store.proofs.WriteCauses.{disk_then}
+use Rattle.catalogue_core.specs.Merging.{Catalogue}
+use Rattle.catalogue_rows.specs.Shows.{Shows}
+use Rattle.catalogue_core.specs.Statuses.{with_status}
+use Rattle.office_tables.specs.Step.{IsCut}
+use Rattle.office_tables.proofs.Calls.{early, goes_nowhere, goes_then, cut_then, office_of}
+use Rattle.office_tables.proofs.Causes.{cause_then, still_unlimited}
+use Rattle.catalogue_rows.proofs.Statuses.{draft_step, status_of_none}
+use Rattle.office_tables.proofs.Touching.{nothing_touched, touched_again}
+use Rattle.office_tables.proofs.WriteCauses.{disk_then}
 use Rattle.catalogue_store.proofs.closing.set_drafts.Goals as goal
 
 pub loop-unit-init : goal.loop-unit-init

@@ -1,11 +1,11 @@
 use Rattle.std.proofs.Common.{take, [], ◌∷◌}
 use Rattle.sqlite.specs.Held.{state}
 use Rattle.sqlite.specs.State.{HasCleanDisk}
-use Rattle.catalogue_store.specs.Merging.{Catalogue}
-use Rattle.catalogue_store.specs.Shows.{Shows}
-use Rattle.catalogue_store.specs.Statuses.{with_status}
-use Rattle.catalogue_store.specs.Step.{InTransaction, Goes, OnlyTouches}
-use Rattle.catalogue_store.specs.declared.office.OfficeRow.{OfficeRow}
+use Rattle.catalogue_core.specs.Merging.{Catalogue}
+use Rattle.catalogue_rows.specs.Shows.{Shows}
+use Rattle.catalogue_core.specs.Statuses.{with_status}
+use Rattle.office_tables.specs.Step.{InTransaction, Goes, OnlyTouches}
+use Rattle.catalogue_rows.specs.declared.office.OfficeRow.{OfficeRow}
 use Rattle.catalogue_store.proofs.closing.set_drafts.Given as goal
 
 abbrev pub invariant-loop-unit : goal.invariant-loop-unit

@@ -3,13 +3,13 @@ use Rattle.std.specs.List.{AllByRecursion}
 use Rattle.sqlite.specs.Effect.{Database}
 use Rattle.sqlite.specs.Held.{state}
 use Rattle.tree_core.specs.Forest.{each}
-use Rattle.catalogue_store.specs.Units.{Unit}
-use Rattle.catalogue_store.specs.Shows.{Shows}
-use Rattle.catalogue_store.specs.Statuses.{with_status}
-use Rattle.catalogue_store.specs.Step.{OnlyTouches}
-use Rattle.catalogue_store.proofs.Calls.{early}
-use Rattle.catalogue_store.proofs.Causes.{cause_then, still_unlimited}
-use Rattle.catalogue_store.proofs.Statuses.{low_chosen}
+use Rattle.catalogue_core.specs.Units.{Unit}
+use Rattle.catalogue_rows.specs.Shows.{Shows}
+use Rattle.catalogue_core.specs.Statuses.{with_status}
+use Rattle.office_tables.specs.Step.{OnlyTouches}
+use Rattle.office_tables.proofs.Calls.{early}
+use Rattle.office_tables.proofs.Causes.{cause_then, still_unlimited}
+use Rattle.catalogue_rows.proofs.Statuses.{low_chosen}
 use Rattle.catalogue_store.proofs.closing.set_status.Goals as goal
 
 pub returns-clause-shows : goal.returns-clause-shows

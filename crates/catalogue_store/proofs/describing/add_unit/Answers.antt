@@ -3,20 +3,20 @@ use Rattle.std.proofs.lemmas.List.Sorted.{list_any-IsPermutation}
 use Rattle.sqlite.specs.Held.{state}
 use Rattle.tree_core.specs.Forest.{add, each, nodes}
 use Rattle.tree_core.proofs.EachLemmas.{has_place-each, has-each}
-use Rattle.catalogue_store.specs.Added.{unit_of}
-use Rattle.catalogue_store.specs.Describing.{with_unit}
-use Rattle.catalogue_store.specs.Rows.{ElementRow, HousingRow, office_row}
-use Rattle.catalogue_store.specs.Shows.{Shows}
-use Rattle.catalogue_store.specs.Step.{Goes, HasRows, IsCut, OnlyTouches}
-use Rattle.catalogue_store.specs.Units.{Unit, has_id, is_from}
-use Rattle.catalogue_store.proofs.Calls.{cut_then, early, goes_then, office_of, on_err_then, on_ok_then, still_office}
-use Rattle.catalogue_store.proofs.NewUnits.{no_unit, shows_added}
-use Rattle.catalogue_store.proofs.Outcomes.{on_ok_by}
+use Rattle.catalogue_rows.specs.Added.{unit_of}
+use Rattle.catalogue_core.specs.Describing.{with_unit}
+use Rattle.catalogue_rows.specs.Rows.{ElementRow, HousingRow, office_row}
+use Rattle.catalogue_rows.specs.Shows.{Shows}
+use Rattle.office_tables.specs.Step.{Goes, HasRows, IsCut, OnlyTouches}
+use Rattle.catalogue_core.specs.Units.{Unit, has_id, is_from}
+use Rattle.office_tables.proofs.Calls.{cut_then, early, goes_then, office_of, on_err_then, on_ok_then, still_office}
+use Rattle.catalogue_rows.proofs.NewUnits.{no_unit, shows_added}
+use Rattle.office_tables.proofs.Outcomes.{on_ok_by}
 use Rattle.catalogue_store.proofs.Telling.{elements_shown, housed_shown, same_described, same_elements, same_housed}
-use Rattle.catalogue_store.proofs.Touching.{touched_then}
-use Rattle.catalogue_store.proofs.Causes.{cause_then, still_unlimited}
-use Rattle.catalogue_store.proofs.LaterCauses.{last_cause}
-use Rattle.catalogue_store.proofs.Untold.{none_yet, unit_added}
+use Rattle.office_tables.proofs.Touching.{touched_then}
+use Rattle.office_tables.proofs.Causes.{cause_then, still_unlimited}
+use Rattle.office_tables.proofs.LaterCauses.{last_cause}
+use Rattle.catalogue_rows.proofs.Untold.{none_yet, unit_added}
 use Rattle.catalogue_store.proofs.describing.add_unit.Goals as goal
 
 pub insert_unit-requires-clause-inside : goal.insert_unit-requires-clause-inside

@@ -1,10 +1,10 @@
 use Rattle.std.proofs.Common.{map, filter, not, nat_eq, refl, ◌∙◌}
 use Rattle.sqlite.specs.Held.{state}
-use Rattle.catalogue_store.specs.Adding.{AreElements, AreHoused}
-use Rattle.catalogue_store.specs.Rows.{ElementRow, HousingRow, housing_row}
-use Rattle.catalogue_store.specs.Step.{Goes, HasRows}
-use Rattle.catalogue_store.proofs.Calls.{early, on_ok_then}
-use Rattle.catalogue_store.proofs.Outcomes.{on_ok_by}
+use Rattle.catalogue_rows.specs.Adding.{AreElements, AreHoused}
+use Rattle.catalogue_rows.specs.Rows.{ElementRow, HousingRow, housing_row}
+use Rattle.office_tables.specs.Step.{Goes, HasRows}
+use Rattle.office_tables.proofs.Calls.{early, on_ok_then}
+use Rattle.office_tables.proofs.Outcomes.{on_ok_by}
 use Rattle.catalogue_store.proofs.Telling.{same_elements, same_housed, elements_rise, housings_rise}
 use Rattle.catalogue_store.proofs.describing.clear.Goals as goal
 

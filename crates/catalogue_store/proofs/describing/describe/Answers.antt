@@ -1,11 +1,12 @@
 use Rattle.std.proofs.Common.{List, refl, [], ◌∷◌}
 use Rattle.sqlite.specs.Held.{state}
-use Rattle.catalogue_store.specs.Adding.{AreHoused, IsDescribed, WithHousings, with_boxes}
-use Rattle.catalogue_store.specs.Rows.{HousingRow}
-use Rattle.catalogue_store.specs.Shows.{housing_cells}
-use Rattle.catalogue_store.specs.Step.{Goes, OnlyTouches}
-use Rattle.catalogue_store.proofs.Calls.{early, on_ok_both}
-use Rattle.catalogue_store.proofs.Outcomes.{on_ok_by}
+use Rattle.catalogue_rows.specs.Adding.{AreHoused, IsDescribed, WithHousings}
+use Rattle.catalogue_core.specs.Describing.{with_boxes}
+use Rattle.catalogue_rows.specs.Rows.{HousingRow}
+use Rattle.catalogue_rows.specs.Shows.{housing_cells}
+use Rattle.office_tables.specs.Step.{Goes, OnlyTouches}
+use Rattle.office_tables.proofs.Calls.{early, on_ok_both}
+use Rattle.office_tables.proofs.Outcomes.{on_ok_by}
 use Rattle.catalogue_store.proofs.Telling.{same_elements, same_housed}
 use Rattle.catalogue_store.proofs.describing.describe.Goals as goal
 

@@ -2,20 +2,20 @@ use Rattle.std.proofs.Common.{[], ◌∷◌, filter, not, nat_eq, refl, sym, ◌
 use Rattle.std.proofs.lemmas.List.Sorted.{list_any-IsPermutation}
 use Rattle.tree_core.specs.Forest.{nodes}
 use Rattle.sqlite.specs.Held.{state}
-use Rattle.catalogue_store.specs.Adding.{IsDescribed}
-use Rattle.catalogue_store.specs.Describing.{with_values}
-use Rattle.catalogue_store.specs.Rows.{ElementRow, HousingRow}
-use Rattle.catalogue_store.specs.Shows.{Shows}
-use Rattle.catalogue_store.specs.Units.{has_id}
-use Rattle.catalogue_store.specs.Step.{Goes, OnlyTouches}
-use Rattle.catalogue_store.proofs.Calls.{early, goes_then, office_of, on_ok_both, still_office}
-use Rattle.catalogue_store.proofs.Outcomes.{on_ok_by}
+use Rattle.catalogue_rows.specs.Adding.{IsDescribed}
+use Rattle.catalogue_core.specs.Describing.{with_values}
+use Rattle.catalogue_rows.specs.Rows.{ElementRow, HousingRow}
+use Rattle.catalogue_rows.specs.Shows.{Shows}
+use Rattle.catalogue_core.specs.Units.{has_id}
+use Rattle.office_tables.specs.Step.{Goes, OnlyTouches}
+use Rattle.office_tables.proofs.Calls.{early, goes_then, office_of, on_ok_both, still_office}
+use Rattle.office_tables.proofs.Outcomes.{on_ok_by}
 use Rattle.catalogue_store.proofs.Telling.{elements_shown, housed_shown, same_elements, same_housed}
-use Rattle.catalogue_store.proofs.Touching.{touched_then}
+use Rattle.office_tables.proofs.Touching.{touched_then}
 use Rattle.catalogue_store.proofs.Valued.{shows_valued}
-use Rattle.catalogue_store.proofs.Causes.{still_unlimited}
-use Rattle.catalogue_store.proofs.LaterCauses.{last_cause}
-use Rattle.catalogue_store.proofs.Untold.{none_left, unit_valued}
+use Rattle.office_tables.proofs.Causes.{still_unlimited}
+use Rattle.office_tables.proofs.LaterCauses.{last_cause}
+use Rattle.catalogue_rows.proofs.Untold.{none_left, unit_valued}
 use Rattle.catalogue_store.proofs.describing.replace_values.Goals as goal
 
 pub set_level-requires-clause-inside : goal.set_level-requires-clause-inside

@@ -2,15 +2,15 @@ use Rattle.std.proofs.Common.{rules, List, ℕ, map, sym, subst, ◌∙◌}
 use Rattle.std.proofs.lemmas.Result.{IfOk-weaker}
 use Rattle.sqlite.specs.Held.{state}
 use Rattle.sqlite.specs.Effect.{Database}
-use Rattle.catalogue_store.specs.Marking.{AreAttached, AreMarksOfEach}
-use Rattle.catalogue_store.specs.Shows.{Shows}
-use Rattle.catalogue_store.specs.Step.{IsCut, Looks}
-use Rattle.catalogue_store.specs.Units.{Unit}
-use Rattle.catalogue_store.proofs.Calls.{early, office_of}
-use Rattle.catalogue_store.specs.Faults.{IsUnlimited, HasCause}
-use Rattle.catalogue_store.proofs.Causes.{if_cause_then, still_unlimited}
+use Rattle.catalogue_store.specs.Attaching.{AreAttached, AreMarksOfEach}
+use Rattle.catalogue_rows.specs.Shows.{Shows}
+use Rattle.office_tables.specs.Step.{IsCut, Looks}
+use Rattle.catalogue_core.specs.Units.{Unit}
+use Rattle.office_tables.proofs.Calls.{early, office_of}
+use Rattle.office_tables.specs.Faults.{IsUnlimited, HasCause}
+use Rattle.office_tables.proofs.Causes.{if_cause_then, still_unlimited}
 use Rattle.catalogue_store.proofs.MarkCauses.{if_err_with, attached_low}
-use Rattle.catalogue_store.proofs.Outcomes.{if_ok_by}
+use Rattle.office_tables.proofs.Outcomes.{if_ok_by}
 use Rattle.catalogue_store.proofs.marking.contents_marks.Goals as goal
 
 pub attached_units-requires-clause-inside : goal.attached_units-requires-clause-inside

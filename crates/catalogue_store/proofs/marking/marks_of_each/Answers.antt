@@ -3,14 +3,14 @@ use Rattle.std.proofs.lemmas.List.{take_more, take_all}
 use Rattle.sqlite.specs.Held.{state}
 use Rattle.sqlite_trees.proofs.ListLemmas.{all-get_or}
 use Rattle.sqlite.specs.Effect.{Database}
-use Rattle.catalogue_store.specs.Marking.{AreMarksOfEach}
-use Rattle.catalogue_store.specs.Shows.{Shows}
-use Rattle.catalogue_store.specs.Step.{IsCut}
+use Rattle.catalogue_store.specs.Attaching.{AreMarksOfEach}
+use Rattle.catalogue_rows.specs.Shows.{Shows}
+use Rattle.office_tables.specs.Step.{IsCut}
 use Rattle.catalogue_store.specs.declared.marking.Attached.{Attached}
-use Rattle.catalogue_store.proofs.Calls.{early, looks_nowhere, looks_then, cut_then, cut_after, office_of}
+use Rattle.office_tables.proofs.Calls.{early, looks_nowhere, looks_then, cut_then, cut_after, office_of}
 use Rattle.catalogue_store.proofs.MarkForests.{each_more}
-use Rattle.catalogue_store.specs.Faults.{IsUnlimited}
-use Rattle.catalogue_store.proofs.Causes.{cause_then, still_unlimited}
+use Rattle.office_tables.specs.Faults.{IsUnlimited}
+use Rattle.office_tables.proofs.Causes.{cause_then, still_unlimited}
 use Rattle.catalogue_store.proofs.marking.marks_of_each.Goals as goal
 
 pub loop-unit-init : goal.loop-unit-init

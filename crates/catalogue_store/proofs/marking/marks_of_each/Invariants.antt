@@ -1,11 +1,11 @@
 use Rattle.std.proofs.Common.{take}
 use Rattle.sqlite.specs.Held.{state}
 use Rattle.sqlite.specs.State.{HasCleanDisk}
-use Rattle.catalogue_store.specs.Marking.{AreMarksOfEach}
-use Rattle.catalogue_store.specs.Merging.{Catalogue}
-use Rattle.catalogue_store.specs.Shows.{Shows}
-use Rattle.catalogue_store.specs.Step.{InTransaction, Looks}
-use Rattle.catalogue_store.specs.declared.office.OfficeRow.{OfficeRow}
+use Rattle.catalogue_store.specs.Attaching.{AreMarksOfEach}
+use Rattle.catalogue_core.specs.Merging.{Catalogue}
+use Rattle.catalogue_rows.specs.Shows.{Shows}
+use Rattle.office_tables.specs.Step.{InTransaction, Looks}
+use Rattle.catalogue_rows.specs.declared.office.OfficeRow.{OfficeRow}
 use Rattle.catalogue_store.proofs.marking.marks_of_each.Given as goal
 
 abbrev pub invariant-loop-unit : goal.invariant-loop-unit

@@ -1,16 +1,16 @@
-use Rattle.std.proofs.Common.{rules, ◌≡◌, length, arith, ap, sym, ◌∙◌}
+use Rattle.std.proofs.Common.{rules, ◌≡◌, length, arith, ap, sym, ◌∙◌, refl}
 use Rattle.sqlite.specs.Effect.{Database}
 use Rattle.sqlite.specs.Held.{state}
-use Rattle.std.proofs.Common.{refl}
 use Rattle.std.proofs.lemmas.List.Sorted.{length_permutation}
 use Rattle.tree_core.specs.Forest.{nodes}
-use Rattle.catalogue_store.specs.Counting.{capped}
-use Rattle.catalogue_store.specs.Rows.{counted_from}
-use Rattle.catalogue_store.proofs.Offices.{last_of, length-nodes, length-counted, same_number, not_refused}
-use Rattle.catalogue_store.specs.Step.{IsCut}
-use Rattle.catalogue_store.proofs.Calls.{early, cut_after, office_of, still_office, goes_then, looks_then, cut_then}
-use Rattle.catalogue_store.specs.Faults.{IsUnlimited}
-use Rattle.catalogue_store.proofs.Causes.{cause_then, still_unlimited}
+use Rattle.office_tables.specs.Counting.{capped}
+use Rattle.catalogue_rows.specs.Rows.{counted_from}
+use Rattle.catalogue_rows.proofs.Offices.{last_of, length-counted, same_number, not_refused}
+use Rattle.catalogue_core.proofs.NodeLemmas.{length-nodes}
+use Rattle.office_tables.specs.Step.{IsCut}
+use Rattle.office_tables.proofs.Calls.{early, cut_after, office_of, still_office, goes_then, looks_then, cut_then}
+use Rattle.office_tables.specs.Faults.{IsUnlimited}
+use Rattle.office_tables.proofs.Causes.{cause_then, still_unlimited}
 use Rattle.catalogue_store.proofs.office.office_row.Goals as goal
 
 pub office_rows-requires : goal.office_rows-requires

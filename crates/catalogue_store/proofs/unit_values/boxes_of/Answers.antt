@@ -3,11 +3,11 @@ use Rattle.std.proofs.lemmas.List.{get_or-map, length-map, take_more}
 use Rattle.sqlite.specs.Effect.{Database}
 use Rattle.sqlite.specs.Held.{state}
 use Rattle.isad_core.specs.declared.values.BoxKey.{BoxKey}
-use Rattle.catalogue_store.specs.Merging.{box_number}
-use Rattle.catalogue_store.specs.Shows.{ShowsContainers}
-use Rattle.catalogue_store.proofs.Calls.{early, looks_then}
-use Rattle.catalogue_store.specs.Faults.{IsUnlimited}
-use Rattle.catalogue_store.proofs.Causes.{cause_then, still_unlimited}
+use Rattle.catalogue_core.specs.Merging.{box_number}
+use Rattle.catalogue_rows.specs.Shows.{ShowsContainers}
+use Rattle.office_tables.proofs.Calls.{early, looks_then}
+use Rattle.office_tables.specs.Faults.{IsUnlimited}
+use Rattle.office_tables.proofs.Causes.{cause_then, still_unlimited}
 use Rattle.catalogue_store.proofs.ValueCauses.{box_at}
 use Rattle.catalogue_store.proofs.unit_values.boxes_of.Goals as goal
 

@@ -2,9 +2,9 @@ use Rattle.std.proofs.Common.{◌≡◌, List, map, take}
 use Rattle.sqlite.specs.Held.{state}
 use Rattle.sqlite.specs.State.{HasCleanDisk}
 use Rattle.isad_core.specs.declared.values.BoxKey.{BoxKey}
-use Rattle.catalogue_store.specs.Merging.{box_number}
-use Rattle.catalogue_store.specs.Shows.{ShowsContainers}
-use Rattle.catalogue_store.specs.Step.{InOffice, Looks}
+use Rattle.catalogue_core.specs.Merging.{box_number}
+use Rattle.catalogue_rows.specs.Shows.{ShowsContainers}
+use Rattle.office_tables.specs.Step.{InOffice, Looks}
 use Rattle.catalogue_store.proofs.unit_values.boxes_of.Given as goal
 
 abbrev pub invariant-loop-number : goal.invariant-loop-number

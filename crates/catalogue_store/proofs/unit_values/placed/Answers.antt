@@ -1,12 +1,11 @@
 use Rattle.std.proofs.Common.{◌≡◌, ℕ, length, List, [], ◌∷◌, map, rules, refl, sym, ap, subst, ◌∙◌}
 use Rattle.std.proofs.lemmas.Iterator.Adapters.{YieldsList-from_vec}
-use Rattle.std.proofs.lemmas.Iterator.Consumers.{YieldsList-end}
+use Rattle.std.proofs.lemmas.Iterator.Consumers.{YieldsList-end, YieldsList-turn}
 use Rattle.sqlite_rules.specs.Lists.{Has}
 use Rattle.sqlite_rules.proofs.ListLemmas.{has_at}
 use Rattle.isad_core.specs.Texts.{Bytes}
-use Rattle.catalogue_store.proofs.Rows.{has_map}
-use Rattle.catalogue_store.proofs.TextReads.{AreTold, cell_of, all_told, one_told}
-use Rattle.std.proofs.lemmas.Iterator.Consumers.{YieldsList-turn}
+use Rattle.office_tables.proofs.Rows.{has_map}
+use Rattle.catalogue_rows.proofs.TextReads.{AreTold, cell_of, all_told, one_told}
 use Rattle.catalogue_store.proofs.ValueCauses.{place_there}
 use Rattle.catalogue_store.proofs.unit_values.placed.Goals as goal
 

@@ -1,13 +1,13 @@
 use Rattle.std.proofs.Common.{rules, map, ap, ◌∙◌}
 use Rattle.sqlite_trees.proofs.ListLemmas.{map-map}
-use Rattle.catalogue_store.specs.Adding.{cell_of}
-use Rattle.catalogue_store.specs.Rows.{ElementRow}
-use Rattle.catalogue_store.specs.Shows.{element_cells}
-use Rattle.catalogue_store.specs.declared.answer.Element.{Element}
-use Rattle.catalogue_store.proofs.CellReads.{cells_read, elements_in_order}
-use Rattle.catalogue_store.proofs.TextReads.{cell_of as told_of}
+use Rattle.catalogue_rows.specs.Adding.{cell_of}
+use Rattle.catalogue_rows.specs.Rows.{ElementRow}
+use Rattle.catalogue_rows.specs.Shows.{element_cells}
+use Rattle.catalogue_rows.specs.declared.answer.Element.{Element}
+use Rattle.catalogue_rows.proofs.CellReads.{cells_read, elements_in_order}
+use Rattle.catalogue_rows.proofs.TextReads.{cell_of as told_of}
 use Rattle.sqlite.specs.Held.{state}
-use Rattle.catalogue_store.specs.Faults.{HasCause}
+use Rattle.office_tables.specs.Faults.{HasCause}
 use Rattle.catalogue_store.proofs.ValueCauses.{never_fails}
 use Rattle.catalogue_store.proofs.unit_values.texts_of.Goals as goal
 

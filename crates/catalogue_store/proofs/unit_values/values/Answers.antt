@@ -6,17 +6,17 @@ use Rattle.sqlite.specs.Effect.{Database}
 use Rattle.sqlite.specs.Held.{state}
 use Rattle.sqlite_rules.proofs.ListLemmas.{all_has}
 use Rattle.tree_core.specs.Forest.{nodes}
-use Rattle.catalogue_store.specs.Merging.{box_number}
-use Rattle.catalogue_store.specs.Shows.{ShowsContainers, element_cells, elements_of, housing_cells, housings_of}
-use Rattle.catalogue_store.specs.Step.{IsCut}
-use Rattle.catalogue_store.specs.Units.{Unit}
+use Rattle.catalogue_core.specs.Merging.{box_number}
+use Rattle.catalogue_rows.specs.Shows.{ShowsContainers, element_cells, elements_of, housing_cells, housings_of}
+use Rattle.office_tables.specs.Step.{IsCut}
+use Rattle.catalogue_core.specs.Units.{Unit}
 use Rattle.catalogue_store.specs.declared.unit_values.UnitValues.{UnitValues}
-use Rattle.catalogue_store.proofs.Calls.{cut_then, early, goes_then, looks_then}
-use Rattle.catalogue_store.proofs.FoundUnits.{none_found, one_found}
+use Rattle.office_tables.proofs.Calls.{cut_then, early, goes_then, looks_then}
+use Rattle.catalogue_rows.proofs.FoundUnits.{none_found, one_found}
 use Rattle.std.specs.List.{list_any, list_all}
 use Rattle.atom_csv.specs.Values.{is_same}
-use Rattle.catalogue_store.specs.Faults.{IsUnlimited}
-use Rattle.catalogue_store.proofs.Causes.{cause_then, still_unlimited}
+use Rattle.office_tables.specs.Faults.{IsUnlimited}
+use Rattle.office_tables.proofs.Causes.{cause_then, still_unlimited}
 use Rattle.catalogue_store.proofs.MarkCauses.{legible_units}
 use Rattle.catalogue_store.proofs.ValueCauses.{legible_elements}
 use Rattle.catalogue_store.proofs.unit_values.values.Goals as goal

@@ -1,11 +1,11 @@
 use Rattle.std.proofs.Common.{rules, []}
 use Rattle.sqlite.specs.Held.{state}
-use Rattle.catalogue_store.specs.Step.{Continues, IsCut}
-use Rattle.catalogue_store.specs.Creation.{IsMaking}
+use Rattle.office_tables.specs.Step.{Continues, IsCut}
+use Rattle.office_tables.specs.Creation.{IsMaking}
 use Rattle.desk_store.proofs.Creations.{orders_by_container_indexed, orders_by_ticket_indexed, orders_defined, s2, s3, s4, s5}
-use Rattle.catalogue_store.proofs.Calls.{cut_then, continues_then, on_ok_then, on_err_then, early}
-use Rattle.catalogue_store.proofs.Causes.{cause_then}
-use Rattle.catalogue_store.proofs.LaterCauses.{last_cause}
+use Rattle.office_tables.proofs.Calls.{cut_then, continues_then, on_ok_then, on_err_then, early}
+use Rattle.office_tables.proofs.Causes.{cause_then}
+use Rattle.office_tables.proofs.LaterCauses.{last_cause}
 use Rattle.desk_store.proofs.making.create_orders.Goals as goal
 
 pub returns-in_err-create_table-clause-cut : goal.returns-in_err-create_table-clause-cut

@@ -1,11 +1,11 @@
 use Rattle.std.proofs.Common.{rules, []}
 use Rattle.sqlite.specs.Held.{state}
-use Rattle.catalogue_store.specs.Step.{Continues, IsCut}
-use Rattle.catalogue_store.specs.Creation.{IsMaking}
-use Rattle.catalogue_store.specs.Schema.{desk_schema}
+use Rattle.office_tables.specs.Step.{Continues, IsCut}
+use Rattle.office_tables.specs.Creation.{IsMaking}
+use Rattle.office_tables.specs.Schema.{desk_schema}
 use Rattle.desk_store.proofs.Creations.{permit_by_unit_indexed, permit_defined, s8, s9}
-use Rattle.catalogue_store.proofs.Calls.{cut_then, continues_then, on_ok_then, on_err_then}
-use Rattle.catalogue_store.proofs.LaterCauses.{last_cause}
+use Rattle.office_tables.proofs.Calls.{cut_then, continues_then, on_ok_then, on_err_then}
+use Rattle.office_tables.proofs.LaterCauses.{last_cause}
 use Rattle.desk_store.proofs.making.create_permits.Goals as goal
 
 pub returns-in_err-create_table-clause-cut : goal.returns-in_err-create_table-clause-cut

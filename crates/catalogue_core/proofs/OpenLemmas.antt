@@ -1,0 +1,352 @@
+-- Marks of what a container is attached to decide whether it is open.
+use Rattle.std.proofs.Common.{◌≡◌, inl, inr, ℕ, ℤ, Bool, true, false, cond, not, ◌&&◌, ◌||◌, List, [], ◌∷◌, ◌++◌, map, filter, Some, None, nat_eq, refl, sym, ap, ap₂, subst, ◌∙◌, append_assoc}
+use Rattle.std.specs.List.{list_any, list_all}
+use Rattle.std.proofs.lemmas.Bool.{eq-eqb, cases_Bool, false≢true}
+use Rattle.std.proofs.lemmas.List.{map-append}
+use Rattle.std.proofs.lemmas.List.Elements.{filter-append}
+use Rattle.catalogue_core.proofs.Members.{Has, some_from, has_filtered}
+use Rattle.isad_core.specs.declared.values.BoxKey.{BoxKey}
+use Rattle.atom_csv.specs.Values.{is_same as is_same_box}
+use Rattle.tree_core.specs.Forest.{Forest, Empty, Node, nodes, each, has, path, tree, HasDistinctIds}
+use Rattle.tree_core.specs.Marks.{is_closed as is_mark_closed, withholds, contents_paths, IsNumbered}
+use Rattle.tree_core.specs.Withheld.{sharing_paths}
+use Rattle.tree_core.specs.declared.marks.Mark.{Mark}
+use Rattle.tree_core.proofs.EachLemmas.{has-each}
+use Rattle.tree_core.proofs.LinkPaths.{parts, other_id}
+use Rattle.tree_core.proofs.Lists.{list_any-map, any_agree}
+use Rattle.tree_core.proofs.MarkWalks.{list_all-append}
+use Rattle.tree_core.proofs.Sharing.{open_by_paths}
+use Rattle.catalogue_core.specs.Housing.{own_or, housed_below, housed, paths_below, is_withheld_from, is_some_there, is_open}
+use Rattle.catalogue_core.specs.Marking.{mark_of, unnumbered}
+use Rattle.std.proofs.lemmas.List.Folds.{list_any-append}
+use Rattle.catalogue_core.specs.OpenMarks.{is_clean, OpenByMarks, NumbersTellNothing, MarksSayClean}
+use Rattle.catalogue_core.specs.Units.{Unit, has_id, is_closed}
+
+-- ---- lists
+
+all_map : {A B : Type 0} (p : B → Bool) (g : A → B) (xs : List A) → list_all p (map g xs) ≡ list_all (λ x. p (g x)) xs
+all_map p g [] = refl
+all_map p g (x ∷ xs) = ap (λ b. p (g x) && b) (all_map p g xs)
+
+all_agree : {A : Type 0} (p q : A → Bool) (xs : List A) → ((x : A) → Has xs x → p x ≡ q x) → list_all p xs ≡ list_all q xs
+all_agree p q [] h = refl
+all_agree p q (x ∷ xs) h = ap₂ ◌&&◌ (h x (inl refl)) (all_agree p q xs (λ y i. h y (inr i)))
+
+-- one element more, where a test lets it pass
+all_kept : {A : Type 0} (p : A → Bool) (b : Bool) (x : A) (xs : List A) → list_all p (cond b (x ∷ xs) xs) ≡ (cond b (p x) true && list_all p xs)
+all_kept p true x xs = refl
+all_kept p false x xs = refl
+
+some_kept : {A : Type 0} (b : Bool) (x : A) (xs : List A) → is_some_there (cond b (x ∷ xs) xs) ≡ (b || is_some_there xs)
+some_kept true x xs = refl
+some_kept false x xs = refl
+
+some_append : {A : Type 0} (xs ys : List A) → is_some_there (xs ++ ys) ≡ (is_some_there xs || is_some_there ys)
+some_append [] ys = refl
+some_append (x ∷ xs) ys = refl
+
+-- ---- the containers of the last unit of a path
+
+housed_more : (above : List BoxKey) (A : List Unit) (u : Unit) → housed_below above (A ++ u ∷ []) ≡ own_or u.values.boxes (housed_below above A)
+housed_more above [] u = refl
+housed_more above (x ∷ A) u = housed_more (own_or x.values.boxes above) A u
+
+-- ---- what shares containers, below a path
+
+abbrev boxed : Unit → Bool
+boxed u = is_some_there u.values.boxes
+
+sharing_above : (A B : List Unit) (f : Forest Unit) → sharing_paths boxed (A ++ B) f ≡ map (λ way. A ++ way) (sharing_paths boxed B f)
+sharing_above A B Empty = refl
+sharing_above A B (Node u c o) =
+    elim (boxed u) as (λ b. cond b (sharing_paths boxed (A ++ B) o) (((A ++ B) ++ u ∷ []) ∷ (sharing_paths boxed ((A ++ B) ++ u ∷ []) c ++ sharing_paths boxed (A ++ B) o))
+    ≡ map (λ way. A ++ way) (cond b (sharing_paths boxed B o) ((B ++ u ∷ []) ∷ (sharing_paths boxed (B ++ u ∷ []) c ++ sharing_paths boxed B o)))) [
+      | true ↦ sharing_above A B o
+      | false ↦
+          ap (λ w. w ∷ (sharing_paths boxed w c ++ sharing_paths boxed (A ++ B) o)) (append_assoc A B (u ∷ []))
+          ∙ ap (λ l. (A ++ (B ++ u ∷ [])) ∷ l)
+          (ap₂ ◌++◌ (sharing_above A (B ++ u ∷ []) c) (sharing_above A B o) ∙ sym (map-append (λ way. A ++ way) (sharing_paths boxed (B ++ u ∷ []) c) (sharing_paths boxed B o)))
+    ]
+
+abbrev boxed_mark : Mark → Bool
+boxed_mark m = m.boxed
+
+sharing_marks : (A : List Unit) (f : Forest Unit) → sharing_paths boxed_mark (map mark_of A) (each mark_of f) ≡ map (map mark_of) (sharing_paths boxed A f)
+sharing_marks A Empty = refl
+sharing_marks A (Node u c o) =
+    elim (boxed u) as (λ b. cond b (sharing_paths boxed_mark (map mark_of A) (each mark_of o)) ((map mark_of A ++ mark_of u ∷ []) ∷ (sharing_paths boxed_mark (map mark_of A ++ mark_of u ∷ []) (each mark_of c) ++ sharing_paths boxed_mark (map mark_of A) (each mark_of o)))
+    ≡ map (map mark_of) (cond b (sharing_paths boxed A o) ((A ++ u ∷ []) ∷ (sharing_paths boxed (A ++ u ∷ []) c ++ sharing_paths boxed A o)))) [
+      | true ↦ sharing_marks A o
+      | false ↦
+          ap (λ w. w ∷ (sharing_paths boxed_mark w (each mark_of c) ++ sharing_paths boxed_mark (map mark_of A) (each mark_of o))) (sym (map-append mark_of A (u ∷ [])))
+          ∙ ap (λ l. map mark_of (A ++ u ∷ []) ∷ l)
+          (ap₂ ◌++◌ (sharing_marks (A ++ u ∷ []) c) (sharing_marks A o) ∙ sym (map-append (map mark_of) (sharing_paths boxed (A ++ u ∷ []) c) (sharing_paths boxed A o)))
+    ]
+
+none_permitted : (A : List Unit) → list_any (λ (mark : Mark). mark.permit) (map mark_of A) ≡ false
+none_permitted [] = refl
+none_permitted (u ∷ A) = none_permitted A
+
+-- ---- truths
+
+four : (p s a t b : Bool) → (p && ((s && a) && (t && b))) ≡ ((p && (s && t)) && (a && b))
+four false s a t b = refl
+four true false a t b = refl
+four true true a false false = and_false a
+  where
+    and_false : (a : Bool) → (a && false) ≡ false
+    and_false true = refl
+    and_false false = refl
+four true true a false true = and_false a
+  where
+    and_false : (a : Bool) → (a && false) ≡ false
+    and_false true = refl
+    and_false false = refl
+four true true a true b = refl
+
+own : (b h p s a t o : Bool) → (cond b p true && ((cond b s true && a) && (cond h t true && o))) ≡ (cond h t true && (cond b (p && s) true && (a && o)))
+own true h p s a t o = four p s a (cond h t true) o ∙ turn p s (cond h t true) a o
+  where
+    turn : (p s t a o : Bool) → ((p && (s && t)) && (a && o)) ≡ (t && ((p && s) && (a && o)))
+    turn false s true a o = refl
+    turn false s false a o = refl
+    turn true false true a o = refl
+    turn true false false a o = refl
+    turn true true true a o = refl
+    turn true true false a o = refl
+own false h p s a t o = turn a (cond h t true) o
+  where
+    turn : (a t o : Bool) → (a && (t && o)) ≡ (t && (a && o))
+    turn true t o = refl
+    turn false true o = refl
+    turn false false o = refl
+
+handed : (h p s a t o : Bool) → (cond h p true && ((cond h s true && a) && (cond h t true && o))) ≡ (cond h (p && (s && t)) true && (a && o))
+handed true p s a t o = four p s a t o
+handed false p s a t o = refl
+
+module _ (box : BoxKey) (today : ℤ) where
+  abbrev in_it : List BoxKey → Bool
+  in_it boxes = list_any (is_same_box box) boxes
+
+  abbrev names_it : Unit → Bool
+  names_it u = in_it u.values.boxes
+
+  abbrev seen : List Unit → Bool
+  seen way = not (is_withheld_from (λ _. false) today way)
+
+  abbrev lies_there : List Unit → Bool
+  lies_there way = in_it (housed way)
+
+  -- ---- marks of a way
+
+  same_closed : (u : Unit) → is_mark_closed today (mark_of u) ≡ is_closed today u
+  same_closed u = elim u.until as (λ o. is_mark_closed today (record (mark_of u) { until = o }) ≡ is_closed today (record u { until = o })) [ None ↦ refl | Some day ↦ refl ]
+
+  none_open : (way : List Unit) → list_any (λ (u : Unit). false) way ≡ false
+  none_open [] = refl
+  none_open (u ∷ way) = none_open way
+
+  seen_marks : (way : List Unit) → not (withholds today false (map mark_of way)) ≡ seen way
+  seen_marks way =
+      ap not (ap₂ ◌||◌ (list_any-map (λ (m : Mark). m.draft) mark_of way)
+      (ap₂ ◌&&◌ (list_any-map (is_mark_closed today) mark_of way ∙ any_agree (λ u. is_mark_closed today (mark_of u)) (is_closed today) way same_closed)
+      (ap (λ b. not (false || b)) (none_permitted way ∙ sym (none_open way)))))
+
+  -- whether nothing is withheld of a unit and of what shares its containers, each by its whole path
+  abbrev clean_there : List Unit → Unit → Forest Unit → Bool
+  clean_there A u c = list_all seen ((A ++ u ∷ []) ∷ sharing_paths boxed (A ++ u ∷ []) c)
+
+  clean_marks : (A : List Unit) (u : Unit) (c : Forest Unit) → is_clean today (map mark_of (A ++ u ∷ [])) (Node (mark_of u) (each mark_of c) Empty) ≡ clean_there A u c
+  clean_marks A u c =
+      let M = map mark_of A in
+      let ways = contents_paths (mark_of u) (each mark_of c) in
+      let own_ways = (u ∷ []) ∷ sharing_paths boxed (u ∷ []) c in
+      let free = none_permitted A in
+      let are : ways ≡ map (map mark_of) own_ways = ap (λ l. (mark_of u ∷ []) ∷ l) (sharing_marks (u ∷ []) c) in
+      ap (λ l. not (withholds today false l) && list_all (λ way. not (withholds today false way)) ways) (map-append mark_of A (u ∷ []))
+      ∙ ap (λ b. not (withholds today false (M ++ mark_of u ∷ [])) && list_all (λ way. not (withholds today b way)) ways) (sym free)
+      ∙ open_by_paths today M (mark_of u) (each mark_of c)
+      ∙ ap (list_all (λ way. not (withholds today false (M ++ way)))) are
+      ∙ all_map (λ way. not (withholds today false (M ++ way))) (map mark_of) own_ways
+      ∙ all_agree (λ way. not (withholds today false (M ++ map mark_of way))) (λ way. seen (A ++ way)) own_ways (λ way h. ap (λ l. not (withholds today false l)) (sym (map-append mark_of A way)) ∙ seen_marks (A ++ way))
+      ∙ sym (all_map seen (λ way. A ++ way) own_ways)
+      ∙ ap (λ l. list_all seen ((A ++ u ∷ []) ∷ l)) (sym (sharing_above A (u ∷ []) c))
+
+  -- ---- what lies in the container, unit by unit that names it
+
+  abbrev clean_all : List Unit → Forest Unit → Bool
+  clean_all A Empty = true
+  clean_all A (Node u c o) = cond (names_it u) (clean_there A u c) true && (clean_all (A ++ u ∷ []) c && clean_all A o)
+
+  below_it : List Unit → Forest Unit → List (List Unit)
+  below_it A g = filter lies_there (paths_below A g)
+
+  parted : (A : List Unit) (u : Unit) (c o : Forest Unit)
+      → list_all seen (below_it A (Node u c o)) ≡ (cond (lies_there (A ++ u ∷ [])) (seen (A ++ u ∷ [])) true && (list_all seen (below_it (A ++ u ∷ []) c) && list_all seen (below_it A o)))
+  unfolding below_it
+  parted A u c o =
+      let B = A ++ u ∷ [] in
+      all_kept seen (lies_there B) B (filter lies_there (paths_below B c ++ paths_below A o))
+      ∙ ap (λ l. cond (lies_there B) (seen B) true && list_all seen l) (filter-append lies_there (paths_below B c) (paths_below A o))
+      ∙ ap (λ b. cond (lies_there B) (seen B) true && b) (list_all-append seen (filter lies_there (paths_below B c)) (filter lies_there (paths_below A o)))
+
+  abbrev shared : List Unit → Forest Unit → Bool
+  shared A g = list_all seen (sharing_paths boxed A g)
+
+  -- what is seen of a unit with what lies below and beside it, where it lies in the container or not, names it or not,
+  -- and names any or none
+  abbrev Agrees : List Unit → Unit → Forest Unit → Forest Unit → Bool → Bool → Bool → Type 0
+  Agrees A u c o lies names some =
+      (cond lies (seen (A ++ u ∷ [])) true && ((cond lies (shared (A ++ u ∷ []) c) true && clean_all (A ++ u ∷ []) c) && (cond (lies_there A) (shared A o) true && clean_all A o)))
+      ≡ (cond (lies_there A) (list_all seen (cond some (sharing_paths boxed A o) ((A ++ u ∷ []) ∷ (sharing_paths boxed (A ++ u ∷ []) c ++ sharing_paths boxed A o)))) true
+      && (cond names (clean_there A u c) true && (clean_all (A ++ u ∷ []) c && clean_all A o)))
+
+  by_boxes : (A : List Unit) (u : Unit) (c o : Forest Unit) (boxes : List BoxKey) → housed (A ++ u ∷ []) ≡ own_or boxes (housed A) → Agrees A u c o (lies_there (A ++ u ∷ [])) (in_it boxes) (is_some_there boxes)
+  by_boxes A u c o [] e =
+      subst (λ b. Agrees A u c o b false false) (sym (ap in_it e))
+      (handed (lies_there A) (seen (A ++ u ∷ [])) (shared (A ++ u ∷ []) c) (clean_all (A ++ u ∷ []) c) (shared A o) (clean_all A o)
+      ∙ ap (λ s. cond (lies_there A) (seen (A ++ u ∷ []) && s) true && (clean_all (A ++ u ∷ []) c && clean_all A o)) (sym (list_all-append seen (sharing_paths boxed (A ++ u ∷ []) c) (sharing_paths boxed A o))))
+  by_boxes A u c o (b ∷ boxes) e =
+      subst (λ l. Agrees A u c o l (in_it (b ∷ boxes)) true) (sym (ap in_it e))
+      (own (in_it (b ∷ boxes)) (lies_there A) (seen (A ++ u ∷ [])) (shared (A ++ u ∷ []) c) (clean_all (A ++ u ∷ []) c) (shared A o) (clean_all A o))
+
+  nothing_below : (h : Bool) → true ≡ (cond h true true && true)
+  nothing_below true = refl
+  nothing_below false = refl
+
+  unit_by_unit : (A : List Unit) (g : Forest Unit) → list_all seen (below_it A g) ≡ (cond (lies_there A) (shared A g) true && clean_all A g)
+  unfolding below_it
+  unit_by_unit A Empty = nothing_below (lies_there A)
+  unit_by_unit A (Node u c o) =
+      let B = A ++ u ∷ [] in
+      parted A u c o
+      ∙ ap (λ b. cond (lies_there B) (seen B) true && b) (ap₂ ◌&&◌ (unit_by_unit B c) (unit_by_unit A o))
+      ∙ by_boxes A u c o u.values.boxes (housed_more [] A u)
+
+  -- ---- and some unit names it where something lies in it
+
+  some_names : (A : List Unit) (g : Forest Unit) → lies_there A ≡ false → is_some_there (below_it A g) ≡ is_some_there (filter names_it (nodes g))
+  unfolding below_it
+  some_names A Empty h = refl
+  some_names A (Node u c o) h =
+      let B = A ++ u ∷ [] in
+      some_kept (lies_there B) B (filter lies_there (paths_below B c ++ paths_below A o))
+      ∙ ap (λ l. lies_there B || is_some_there l) (filter-append lies_there (paths_below B c) (paths_below A o))
+      ∙ ap (λ b. lies_there B || b) (some_append (filter lies_there (paths_below B c)) (filter lies_there (paths_below A o)) ∙ ap (λ b. is_some_there (below_it B c) || b) (some_names A o h))
+      ∙ by_test (λ e. some_names B c e) u.values.boxes (housed_more [] A u)
+      ∙ sym (some_kept (names_it u) u (filter names_it (nodes c ++ nodes o)) ∙ ap (λ l. names_it u || is_some_there l) (filter-append names_it (nodes c) (nodes o))
+      ∙ ap (λ b. names_it u || b) (some_append (filter names_it (nodes c)) (filter names_it (nodes o))))
+    where
+      rest : (lies_there (A ++ u ∷ []) ≡ false → is_some_there (below_it (A ++ u ∷ []) c) ≡ is_some_there (filter names_it (nodes c))) → (b : Bool) → lies_there (A ++ u ∷ []) ≡ b
+          → (lies_there (A ++ u ∷ []) || (is_some_there (below_it (A ++ u ∷ []) c) || is_some_there (filter names_it (nodes o)))) ≡ (b || (is_some_there (filter names_it (nodes c)) || is_some_there (filter names_it (nodes o))))
+      rest ih true e = ap (λ l. l || (is_some_there (below_it (A ++ u ∷ []) c) || is_some_there (filter names_it (nodes o)))) e
+      rest ih false e = ap₂ (λ l s. l || (s || is_some_there (filter names_it (nodes o)))) e (ih e)
+
+      by_test : (lies_there (A ++ u ∷ []) ≡ false → is_some_there (below_it (A ++ u ∷ []) c) ≡ is_some_there (filter names_it (nodes c))) → (boxes : List BoxKey) → housed (A ++ u ∷ []) ≡ own_or boxes (housed A)
+          → (lies_there (A ++ u ∷ []) || (is_some_there (below_it (A ++ u ∷ []) c) || is_some_there (filter names_it (nodes o)))) ≡ (in_it boxes || (is_some_there (filter names_it (nodes c)) || is_some_there (filter names_it (nodes o))))
+      by_test ih [] e = rest ih false (ap in_it e ∙ h)
+      by_test ih (b ∷ boxes) e = rest ih (in_it (b ∷ boxes)) (ap in_it e)
+
+  -- ---- by the numbers of the units
+
+  clean_of : List Unit → Forest Unit → Unit → Bool
+  clean_of A g u = is_clean today (map mark_of (A ++ path (has_id u.id) g)) (each mark_of (tree (has_id u.id) g))
+
+  by_numbers : (A : List Unit) (g : Forest Unit) → HasDistinctIds (each (λ (u : Unit). u.id) g) → clean_all A g ≡ list_all (clean_of A g) (filter names_it (nodes g))
+  unfolding clean_of
+  by_numbers A Empty d = refl
+  by_numbers A (Node a c o) d =
+      let p = parts a.id (each (λ (u : Unit). u.id) c) (each (λ (u : Unit). u.id) o) d in
+      let g = Node a c o in
+      let B = A ++ a ∷ [] in
+      let here : clean_there A a c ≡ clean_of A g a = sym (clean_marks A a c) ∙ sym (rw (eq-eqb a.id a.id refl) refl) in
+      let below : clean_all B c ≡ list_all (clean_of A g) (filter names_it (nodes c)) =
+      by_numbers B c p.children_distinct ∙ all_agree (clean_of B c) (clean_of A g) (filter names_it (nodes c)) (λ u h.
+      let there = in_part u c (has_filtered names_it (nodes c) u h).0 in
+      let not_a = other_id a.id u.id (each (λ (u : Unit). u.id) c) p.not_below (has-each (nat_eq u.id) (λ (u : Unit). u.id) c ∙ there) in
+      sym (rw (not_a, there) (ap (λ l. is_clean today (map mark_of l) (each mark_of (tree (has_id u.id) c))) (sym (append_assoc A (a ∷ []) (path (has_id u.id) c)))))) in
+      let beside : clean_all A o ≡ list_all (clean_of A g) (filter names_it (nodes o)) =
+      by_numbers A o p.others_distinct ∙ all_agree (clean_of A o) (clean_of A g) (filter names_it (nodes o)) (λ u h.
+      let there = in_part u o (has_filtered names_it (nodes o) u h).0 in
+      let there' = has-each (nat_eq u.id) (λ (u : Unit). u.id) o ∙ there in
+      let not_a = other_id a.id u.id (each (λ (u : Unit). u.id) o) p.not_beside there' in
+      let not_c : has (has_id u.id) c ≡ false = sym (has-each (nat_eq u.id) (λ (u : Unit). u.id) c) ∙ not_first u.id (each (λ (u : Unit). u.id) c) (each (λ (u : Unit). u.id) o) p.apart there' in
+      sym (rw (not_a, not_c) refl)) in
+      ap₂ (λ x y. cond (names_it a) x true && y) here (ap₂ ◌&&◌ below beside)
+      ∙ sym (all_kept (clean_of A g) (names_it a) a (filter names_it (nodes c ++ nodes o))
+      ∙ ap (λ l. cond (names_it a) (clean_of A g a) true && list_all (clean_of A g) l) (filter-append names_it (nodes c) (nodes o))
+      ∙ ap (λ b. cond (names_it a) (clean_of A g a) true && b) (list_all-append (clean_of A g) (filter names_it (nodes c)) (filter names_it (nodes o))))
+    where
+      in_part : (u : Unit) (g : Forest Unit) → Has (nodes g) u → has (has_id u.id) g ≡ true
+      in_part u g h = some_from (has_id u.id) (nodes g) u h (eq-eqb u.id u.id refl)
+
+      not_first : (x : ℕ) (c o : Forest ℕ) → ((y : ℕ) → has (nat_eq y) c ≡ true → has (nat_eq y) o ≡ false) → has (nat_eq x) o ≡ true → has (nat_eq x) c ≡ false
+      not_first x c o apart h = elim (cases_Bool (has (nat_eq x) c)) [ inl t ↦ absurd (false≢true (sym (apart x t) ∙ h)) | inr n ↦ n ]
+
+pub open_by_marks : OpenByMarks
+unfolding is_open below_it clean_of
+open_by_marks f box today d =
+    ap₂ ◌&&◌ (some_names box today [] f refl) (unit_by_unit box today [] f ∙ by_numbers box today [] f d)
+
+-- ---- numbers
+
+any_bare : (p : Mark → Bool) → ((m : Mark) → p (unnumbered m) ≡ p m) → (marks : List Mark) → list_any p marks ≡ list_any p (map unnumbered marks)
+any_bare p same marks = sym (list_any-map p unnumbered marks ∙ any_agree (λ m. p (unnumbered m)) p marks same)
+
+bare_closed : (today : ℤ) (m : Mark) → is_mark_closed today (unnumbered m) ≡ is_mark_closed today m
+bare_closed today m = elim m.until as (λ o. is_mark_closed today (unnumbered (record m { until = o })) ≡ is_mark_closed today (record m { until = o })) [ None ↦ refl | Some day ↦ refl ]
+
+bare_way : (today : ℤ) (way : List Mark) → not (withholds today false way) ≡ not (withholds today false (map unnumbered way))
+bare_way today way =
+    ap not (ap₂ ◌||◌ (any_bare (λ (m : Mark). m.draft) (λ _. refl) way)
+    (ap₂ ◌&&◌ (any_bare (is_mark_closed today) (bare_closed today) way) (ap (λ b. not (false || b)) (any_bare (λ (m : Mark). m.permit) (λ _. refl) way))))
+
+bare_sharing : (A : List Mark) (f : Forest Mark) → sharing_paths boxed_mark (map unnumbered A) (each unnumbered f) ≡ map (map unnumbered) (sharing_paths boxed_mark A f)
+bare_sharing A Empty = refl
+bare_sharing A (Node m c o) =
+    elim m.boxed as (λ b. cond b (sharing_paths boxed_mark (map unnumbered A) (each unnumbered o)) ((map unnumbered A ++ unnumbered m ∷ []) ∷ (sharing_paths boxed_mark (map unnumbered A ++ unnumbered m ∷ []) (each unnumbered c) ++ sharing_paths boxed_mark (map unnumbered A) (each unnumbered o)))
+    ≡ map (map unnumbered) (cond b (sharing_paths boxed_mark A o) ((A ++ m ∷ []) ∷ (sharing_paths boxed_mark (A ++ m ∷ []) c ++ sharing_paths boxed_mark A o)))) [
+      | true ↦ bare_sharing A o
+      | false ↦
+          ap (λ w. w ∷ (sharing_paths boxed_mark w (each unnumbered c) ++ sharing_paths boxed_mark (map unnumbered A) (each unnumbered o))) (sym (map-append unnumbered A (m ∷ [])))
+          ∙ ap (λ l. map unnumbered (A ++ m ∷ []) ∷ l)
+          (ap₂ ◌++◌ (bare_sharing (A ++ m ∷ []) c) (bare_sharing A o) ∙ sym (map-append (map unnumbered) (sharing_paths boxed_mark (A ++ m ∷ []) c) (sharing_paths boxed_mark A o)))
+    ]
+
+pub numbers_tell_nothing : NumbersTellNothing
+numbers_tell_nothing today path Empty = bare_way today path
+numbers_tell_nothing today path (Node unit below others) =
+    let ways = contents_paths unit below in
+    ap₂ ◌&&◌ (bare_way today path)
+    (all_agree (λ way. not (withholds today false way)) (λ way. not (withholds today false (map unnumbered way))) ways (λ way h. bare_way today way)
+    ∙ sym (all_map (λ way. not (withholds today false way)) (map unnumbered) ways)
+    ∙ ap (list_all (λ way. not (withholds today false way))) (ap (λ l. (unnumbered unit ∷ []) ∷ l) (sym (bare_sharing (unit ∷ []) below))))
+
+-- ---- the marks that are read
+
+tree_alone : (is : Unit → Bool) (f : Forest Unit) → has is f ≡ true → (u : Unit) × (c : Forest Unit) × (tree is f ≡ Node u c Empty)
+tree_alone is Empty h = absurd (false≢true h)
+tree_alone is (Node u c o) h = elim (cases_Bool (is u)) [
+  | inl t ↦ (u, c, rw t refl)
+  | inr n ↦ elim (cases_Bool (has is c)) [
+    | inl y ↦ let it = tree_alone is c y in (it.0, it.1, rw (n, y) it.2)
+    | inr m ↦ let it = tree_alone is o (rw (n, list_any-append is (nodes c) (nodes o), m) at h) in (it.0, it.1, rw (n, m) it.2)
+  ]
+]
+
+alone : (g : Forest Mark) (u : Mark) (c : Forest Mark) → each unnumbered g ≡ Node u c Empty → (m : Mark) × (b : Forest Mark) × (g ≡ Node m b Empty)
+alone Empty u c e = absurd (cc)
+alone (Node m b Empty) u c e = (m, b, refl)
+alone (Node m b (Node x y z)) u c e = absurd (let k : Node (unnumbered x) (each unnumbered y) (each unnumbered z) ≡ Empty = cc in cc)
+
+pub marks_say_clean : MarksSayClean
+marks_say_clean f unit today marks branch path_clean contents_clean there way walk says_path says_contents =
+    let shape = tree_alone (has_id unit) f there in
+    let only = alone walk.forest (mark_of shape.0) (each mark_of shape.1) (walk.theirs ∙ ap (each mark_of) shape.2) in
+    let says = says_contents walk.first only.0 only.1 (subst (IsNumbered walk.first) only.2 walk.numbered) (walk.walked ∙ ap nodes only.2) in
+    ap₂ ◌&&◌ says_path says
+    ∙ ap (is_clean today marks) (sym only.2)
+    ∙ numbers_tell_nothing today marks walk.forest
+    ∙ ap (λ l. is_clean today l (each unnumbered walk.forest)) way
+    ∙ ap (is_clean today (map mark_of (path (has_id unit) f))) walk.theirs

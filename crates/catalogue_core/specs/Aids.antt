@@ -1,0 +1,50 @@
+-- What a finding aid shows of a forest that the public may know (ISAD(G) 2.1 to 2.4: units from the
+-- general to the specific, each with what is its own).
+use Rattle.std.specs.Prelude.{ℕ, ◌+◌, ◌++◌, List, [], ◌∷◌, map}
+use Rattle.isad_core.specs.Texts.{Bytes}
+use Rattle.isad_core.specs.Codes.{code_of}
+use Rattle.isad_core.specs.Values.{identifier, own_lines, title}
+use Rattle.isad_core.specs.declared.values.BoxKey.{BoxKey}
+use Rattle.isad_core.specs.declared.shown.Shown.{Shown}
+use Rattle.isad_core.specs.declared.shown.Body.TheVariants.{Full, Closed}
+use Rattle.tree_core.specs.Forest.{Forest, Empty, Node}
+use Rattle.catalogue_core.specs.Merging.{box_number}
+use Rattle.catalogue_core.specs.Publishing.{PublicUnit, Told, Stub}
+
+-- whose archives they are: the first parts of every reference code
+pub record Repository : Type 0 where
+  pub country : Bytes
+  pub repo : Bytes
+
+abbrev pub identifier_of : PublicUnit → Bytes
+identifier_of (Told id values) = identifier values
+identifier_of (Stub id name level until) = name
+
+-- the containers of a unit, each with its number
+abbrev pub numbered_boxes : List BoxKey → List BoxKey → List (ℕ × Bytes)
+numbered_boxes containers boxes = map (λ b. (box_number containers b, b.name)) boxes
+
+-- what is shown of a unit, where `ids` are the identifiers from the top down to it
+abbrev pub shown_unit : Repository → List BoxKey → List Bytes → ℕ → PublicUnit → Shown
+shown_unit at containers ids depth (Told id values) = record {
+  depth = depth;
+  code = code_of at.country at.repo ids;
+  level = values.level;
+  title = title values;
+  body = Full (own_lines values) (numbered_boxes containers values.boxes);
+}
+shown_unit at containers ids depth (Stub id name level until) = record {
+  depth = depth;
+  code = code_of at.country at.repo ids;
+  level = level;
+  title = [];
+  body = Closed until;
+}
+
+-- the units of a forest in walk order, below units with these identifiers
+abbrev pub shown_below : Repository → List BoxKey → List Bytes → ℕ → Forest PublicUnit → List Shown
+shown_below at containers above depth Empty = []
+shown_below at containers above depth (Node unit children others) =
+    shown_unit at containers (above ++ identifier_of unit ∷ []) depth unit
+    ∷ (shown_below at containers (above ++ identifier_of unit ∷ []) (depth + 1) children
+    ++ shown_below at containers above depth others)

@@ -1,0 +1,27 @@
+-- The limits of an office, as far as they bear on what its tables can store and give back.
+use Rattle.std.specs.Prelude.{◌≡◌, ℕ, ◌<◌, ◌≤◌, ◌^◌, true, nat_eq, length, IfSome, IsUtf8}
+use Rattle.std.specs.List.{AllByRecursion}
+use Rattle.isad_core.specs.Days.{is_day_number}
+use Rattle.tree_core.specs.Forest.{Forest, nodes, each, path, size}
+use Rattle.isad_core.specs.Legible.{IsLegibleBox}
+use Rattle.catalogue_core.specs.Merging.{Catalogue}
+use Rattle.catalogue_core.specs.Units.{Unit}
+
+-- An office keeps 200,000 units at most, no deeper than 64, with numbers that SQL has.
+pub record IsBounded (f : Forest ℕ) : Type 0 where
+  pub few : size f ≤ 200000
+  pub low : AllByRecursion (λ id. id < 2 ^ 63) (nodes f)
+  pub shallow : (id : ℕ) → length (path (nat_eq id) f) ≤ 64
+
+-- the unit's texts are UTF-8, and its closure ends on a day of the calendar
+pub record IsLegibleUnit (u : Unit) : Type 0 where
+  pub level : IsUtf8 u.values.level
+  pub texts : AllByRecursion (λ text. IfSome text IsUtf8) u.values.texts
+  pub until : IfSome u.until (λ day. is_day_number day ≡ true)
+
+-- a catalogue within these limits
+pub record IsKept (c : Catalogue) : Type 0 where
+  pub places : IsBounded (each (λ (u : Unit). u.id) c.forest)
+  pub units : AllByRecursion IsLegibleUnit (nodes c.forest)
+  pub boxes : AllByRecursion IsLegibleBox c.containers
+  pub few_boxes : length c.containers < 2 ^ 62

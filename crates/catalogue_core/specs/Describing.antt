@@ -1,0 +1,39 @@
+-- Units with their values: added, given other values, and read.
+use Rattle.std.specs.Prelude.{◌≡◌, ℕ, ◌+◌, true, if◌then◌else◌, length, Option, List, ◌++◌}
+use Rattle.std.specs.List.{AllByRecursion, list_any, list_all}
+use Rattle.isad_core.specs.declared.values.Values.{Values}
+use Rattle.atom_csv.specs.Values.{distinct, is_same}
+use Rattle.tree_core.specs.Forest.{nodes, each, add}
+use Rattle.catalogue_core.specs.Units.{Unit, has_id}
+use Rattle.catalogue_core.specs.Merging.{Catalogue}
+use Rattle.isad_core.specs.declared.values.BoxKey.{BoxKey}
+
+-- the containers that are known, and these, each once: those that are known keep their numbers, and new ones get the
+-- next as they first appear
+abbrev pub with_boxes : List BoxKey → List BoxKey → List BoxKey
+with_boxes known boxes = distinct (known ++ boxes)
+
+-- a new unit as the last below its parent, or as the last top; its containers are known from now on
+abbrev pub with_unit : Option ℕ → Unit → Catalogue → Catalogue
+with_unit parent unit c = record {
+  forest = add has_id parent unit c.forest;
+  containers = with_boxes c.containers unit.values.boxes;
+  next = c.next + 1;
+}
+
+-- a unit takes other values, and keeps all else
+abbrev pub with_values : ℕ → Values → Catalogue → Catalogue
+with_values id values c = record {
+  forest = each (λ u. if has_id id u then record u { values = values } else u) c.forest;
+  containers = with_boxes c.containers values.boxes;
+  next = c.next;
+}
+
+-- no two containers have one name, location and kind, and every unit's containers are among them
+pub record KnowsItsContainers (c : Catalogue) : Type 0 where
+  pub apart : distinct c.containers ≡ c.containers
+  pub known : AllByRecursion (λ u. list_all (λ box. list_any (is_same box) c.containers) u.values.boxes ≡ true) (nodes c.forest)
+
+-- every description has a place for each of the 25 elements other than the level
+abbrev pub HasAllPlaces : Catalogue → Type 0
+HasAllPlaces c = AllByRecursion (λ u. length u.values.texts ≡ 25) (nodes c.forest)

@@ -1,0 +1,13 @@
+pub mod Units
+pub mod Merging
+pub mod Publishing
+pub mod Finding
+pub mod Statuses
+pub mod Moves
+pub mod Describing
+pub mod Housing
+pub mod Marking
+pub mod Marked
+pub mod OpenMarks
+pub mod Bounds
+pub mod Aids

@@ -1,0 +1,4 @@
+//! What a catalogue is, apart from any table that keeps it.
+#![tactic(auto)]
+
+pub mod laws;

@@ -1,0 +1,19 @@
+use Rattle.std.proofs.Common.{◌≡◌, List, [], ◌∷◌, take}
+use Rattle.sqlite.specs.Held.{state}
+use Rattle.sqlite.specs.State.{HasCleanDisk}
+use Rattle.isad_core.specs.declared.values.BoxKey.{BoxKey}
+use Rattle.catalogue_rows.specs.Adding.{AreHoused, WithHousings}
+use Rattle.catalogue_core.specs.Describing.{with_boxes}
+use Rattle.catalogue_rows.specs.Rows.{HousingRow}
+use Rattle.office_tables.specs.Step.{InOffice, Goes, OnlyTouches}
+use Rattle.catalogue_rows.proofs.HousingLemmas.{cells_in}
+use Rattle.catalogue_rows.proofs.housing.insert_housings.Given as goal
+
+abbrev pub invariant-loop-key : goal.invariant-loop-key
+invariant-loop-key g l =
+    (l.place ≡ l.key-index)
+    × (InOffice (state g.S.Store l.initial.conn)
+    × (Goes (state g.S.Store l.initial.conn) (state g.S.Store l.conn)
+    × ((HasCleanDisk (state g.S.Store l.conn) → OnlyTouches (18 ∷ 20 ∷ []) (state g.S.Store l.initial.conn).now (state g.S.Store l.conn).now)
+    × (HasCleanDisk (state g.S.Store l.conn) → (boxes : List BoxKey) (xs : List HousingRow) → AreHoused (state g.S.Store l.initial.conn).now.trees boxes xs
+    → let seen = take l.key-index l.values.boxes in (ys : List HousingRow) × AreHoused (state g.S.Store l.conn).now.trees (with_boxes boxes seen) ys × WithHousings l.unit (cells_in (with_boxes boxes seen) seen) xs ys))))

@@ -1,0 +1,6 @@
+pub mod Rows
+pub mod Shows
+pub mod Added
+pub mod Removals
+pub mod Adding
+pub mod Settings

@@ -1,0 +1,106 @@
+-- The rows of the catalogue's tables. A row is its rowid and then its columns; the column that is the INTEGER PRIMARY
+-- KEY is kept as NULL.
+use Rattle.std.specs.Prelude.{ℕ, ◌+◌, ℤ, pos, List, [], ◌∷◌, option_map}
+use Rattle.std.specs.declared.cmp.Ordering.{Ordering}
+use Rattle.std.specs.Ordering.{int_cmp, ordering_then}
+use Rattle.sqlite.specs.declared.types.Value.TheVariants.{Null, Int, Text}
+use Rattle.sqlite.specs.Order.{Row}
+use Rattle.sqlite.specs.Values.{or_null}
+use Rattle.isad_core.specs.Texts.{Bytes}
+use Rattle.isad_core.specs.declared.values.BoxKey.{BoxKey}
+use Rattle.tree_core.specs.declared.rows.Link.{Link}
+use Rattle.tree_core.specs.Versions.{Version}
+use Rattle.catalogue_core.specs.Units.{Unit}
+use Rattle.catalogue_rows.specs.declared.office.OfficeRow.{OfficeRow}
+pub use Rattle.tree_core.specs.Versions.{version_number}
+pub use Rattle.office_tables.specs.Flags.{flag}
+
+-- ---- office
+
+abbrev pub settings_cells : OfficeRow → Row
+settings_cells o =
+    Text o.country ∷ Text o.repo ∷ Int (pos o.seats) ∷ Int (pos o.daily) ∷ Int (pos o.hands) ∷ Int (pos o.run_size) ∷ Int o.day
+    ∷ Int (pos o.next_unit) ∷ []
+
+abbrev pub office_cells : Version → OfficeRow → Row
+office_cells version o =
+    Int (pos (version_number version)) ∷ settings_cells o
+
+abbrev pub office_row : Version → OfficeRow → Row
+office_row version o = Int (pos 1) ∷ Null ∷ office_cells version o
+
+-- ---- units
+
+abbrev pub unit_row : Unit → Row
+unit_row u = Int (pos u.id) ∷ Null ∷ Text u.source ∷ Text u.legacy ∷ Text u.values.level ∷ Int (flag u.draft) ∷ or_null Int u.until ∷ []
+
+abbrev pub by_number : Unit → Unit → Ordering
+by_number a b = int_cmp (pos a.id) (pos b.id)
+
+-- ---- elements, whose rows have a number of their own that tells nothing
+
+-- a text of a unit: k is the element's number in the standard's order, 1 to 26 without 4
+pub record ElementRow : Type 0 where
+  pub row : ℤ
+  pub unit : ℕ
+  pub k : ℕ
+  pub value : Bytes
+
+abbrev pub element_row : ElementRow → Row
+element_row e = Int e.row ∷ Int (pos e.unit) ∷ Int (pos e.k) ∷ Text e.value ∷ []
+
+-- by their unit, then by their number in the standard
+abbrev pub by_element : ElementRow → ElementRow → Ordering
+by_element a b = ordering_then (int_cmp (pos a.unit) (pos b.unit)) (int_cmp (pos a.k) (pos b.k))
+
+-- ---- containers, numbered from 1
+
+abbrev pub container_row : ℕ × BoxKey → Row
+container_row (n, b) = Int (pos n) ∷ Null ∷ Text b.name ∷ Text b.location ∷ Text b.kind ∷ []
+
+abbrev pub by_container : ℕ × BoxKey → ℕ × BoxKey → Ordering
+by_container a b = int_cmp (pos a.0) (pos b.0)
+
+abbrev pub counted_from : {A : Type 0} → ℕ → List A → List (ℕ × A)
+counted_from n [] = []
+counted_from n (x ∷ xs) = (n, x) ∷ counted_from (n + 1) xs
+
+-- ---- housing
+
+-- a container of a unit, at its place in the unit's order from 1
+pub record HousingRow : Type 0 where
+  pub row : ℤ
+  pub unit : ℕ
+  pub ord : ℕ
+  pub container : ℕ
+
+abbrev pub housing_row : HousingRow → Row
+housing_row h = Int h.row ∷ Int (pos h.unit) ∷ Int (pos h.ord) ∷ Int (pos h.container) ∷ []
+
+-- by their unit, then by their place
+abbrev pub by_housing : HousingRow → HousingRow → Ordering
+by_housing a b = ordering_then (int_cmp (pos a.unit) (pos b.unit)) (int_cmp (pos a.ord) (pos b.ord))
+
+-- ---- permits, whose rows have a number of their own that tells nothing
+
+-- a reader's permit for a unit, up to a day
+pub record PermitRow : Type 0 where
+  pub row : ℤ
+  pub ticket : ℕ
+  pub unit : ℕ
+  pub until : ℤ
+
+abbrev pub permit_row : PermitRow → Row
+permit_row p = Int p.row ∷ Int (pos p.ticket) ∷ Int (pos p.unit) ∷ Int p.until ∷ []
+
+-- ---- places
+
+abbrev pub link_row : Link → Row
+link_row l = Int (pos l.id) ∷ Null ∷ or_null Int (option_map pos l.parent) ∷ Int (pos l.ord) ∷ []
+
+abbrev pub by_id : Link → Link → Ordering
+by_id a b = int_cmp (pos a.id) (pos b.id)
+
+-- by their place among siblings, then by their number
+abbrev pub by_place : Link → Link → Ordering
+by_place a b = ordering_then (int_cmp (pos a.ord) (pos b.ord)) (int_cmp (pos a.id) (pos b.id))

@@ -1,0 +1,22 @@
+-- What a container is attached to, and the marks that are told of it.
+use Rattle.std.specs.Prelude.{ℕ, List, [], ◌∷◌, filter, IsPermutation, ⊤}
+use Rattle.tree_core.specs.Forest.{Forest, nodes, each, path, tree}
+use Rattle.catalogue_core.specs.Merging.{Catalogue}
+use Rattle.office_tables.specs.Order.{Rises}
+use Rattle.catalogue_rows.specs.Rows.{by_number}
+use Rattle.catalogue_core.specs.Units.{Unit, has_id}
+use Rattle.catalogue_store.specs.declared.marking.Attached.{Attached}
+use Rattle.catalogue_core.specs.Marking.{AreMarks, AreWalkMarks, names}
+
+-- the units that name the container, each once, in order of their numbers
+pub record AreAttached (c : Catalogue) (container : ℕ) (units : List Unit) : Type 0 where
+  pub are : IsPermutation (filter (names c.containers container) (nodes c.forest)) units
+  pub rise : Rises by_number units
+
+-- of each of these units the marks of its path and of its branch
+abbrev pub AreMarksOfEach : Forest Unit → List ℕ → List Attached → Type 0
+AreMarksOfEach f [] [] = ⊤
+AreMarksOfEach f [] (one ∷ more) = ⊥
+AreMarksOfEach f (id ∷ ids) [] = ⊥
+AreMarksOfEach f (id ∷ ids) (one ∷ more) =
+    AreMarks (path (has_id id) f) one.path.items × AreWalkMarks (tree (has_id id) f) one.branch.items × AreMarksOfEach f ids more

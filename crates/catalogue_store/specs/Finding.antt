@@ -1,9 +1,0 @@
--- Units that are looked for.
-use Rattle.std.specs.Prelude.{◌≡◌, ℕ, Bool, true, false, ◌&&◌, Option, MatchOption}
-use Rattle.std.specs.List.{list_any}
-use Rattle.tree_core.specs.Forest.{Forest, nodes, has}
-use Rattle.catalogue_store.specs.Units.{Unit, has_id}
-
--- the number of a unit of the forest that passes, or none where none does
-abbrev pub Finds : (Unit → Bool) → Forest Unit → Option ℕ → Type 0
-Finds is f found = MatchOption found (has is f ≡ false) (λ id. list_any (λ u. is u && has_id id u) (nodes f) ≡ true)

@@ -1,0 +1,5 @@
+pub mod PrintLemmas
+pub mod PlaceLemmas
+pub mod PlantLemmas
+pub mod NumberLemmas
+pub mod PreviewLemmas

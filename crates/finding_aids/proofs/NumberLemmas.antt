@@ -1,0 +1,159 @@
+-- The numbers of containers, one more at a time.
+use Rattle.std.proofs.Common.{◌≡◌, ℕ, suc, ◌+◌, Bool, true, false, cond, List, [], ◌∷◌, ◌++◌, length, Option, Some, None, Result, Ok, Err, refl, sym, ap, ◌∙◌, arith, add-one, inl, inr}
+use Rattle.std.specs.Prelude.{◌&&◌, ◌||◌, is_some, not, filter, option_map, if◌then◌else◌}
+use Rattle.std.specs.BTreeMap.{BTreeMap, btree_map_len, get_by, is_at}
+use Rattle.std.specs.Borrow.{Bor}
+use Rattle.std.specs.List.{list_any}
+use Rattle.std.specs.Ordering.{is_eq}
+use Rattle.std.specs.Result.{OnOk}
+use Rattle.std.proofs.lemmas.Bool.{and_parts, cases_Bool}
+use Rattle.std.proofs.lemmas.List.{append-nil}
+use Rattle.std.proofs.lemmas.Slice.Eq.{bytes_eq-Decides}
+use Rattle.std.specs.Str.{bytes_eq}
+use Rattle.isad_core.specs.Texts.{Bytes}
+use Rattle.isad_core.specs.declared.values.BoxKey.{BoxKey}
+use Rattle.atom_csv.specs.Values.{distinct, is_same}
+use Rattle.atom_csv.proofs.BoxLemmas.{distinct_more, same_compared, same_sym}
+use Rattle.catalogue_core.specs.Merging.{number_in}
+use Rattle.finding_aids.specs.Numbers.{AreNumbered, Texts, compared, number_at}
+use Rattle.finding_aids.proofs.PlantLemmas.{length-push}
+
+-- ---- what the map finds
+
+abbrev lent : Bytes → Bor Bytes
+lent text = record { ref_ptr = (0, 0); now = text }
+
+abbrev texts_of : BoxKey → Texts
+texts_of b = (lent b.name, lent b.location, lent b.kind)
+
+pub number_set : (old new : BTreeMap Texts ℕ) (b : BoxKey) (name location kind : Bytes) (number : ℕ)
+    → name ≡ b.name → location ≡ b.location → kind ≡ b.kind
+    → ((q : Texts) → get_by (compared q.0.now q.1.now q.2.now) new ≡ cond (is_at (compared name location kind) q) (Some number) (get_by (compared q.0.now q.1.now q.2.now) old))
+    → (q : BoxKey) → number_at new q ≡ (if is_same b q then Some number else number_at old q)
+number_set old new b name location kind number n l k updates q =
+    updates (texts_of q)
+    ∙ (ap (λ (text : Bytes). cond (is_eq (compared text location kind (texts_of q))) (Some number) (number_at old q)) n
+    ∙ (ap (λ (text : Bytes). cond (is_eq (compared b.name text kind (texts_of q))) (Some number) (number_at old q)) l
+    ∙ (ap (λ (text : Bytes). cond (is_eq (compared b.name b.location text (texts_of q))) (Some number) (number_at old q)) k
+    ∙ ap (λ (same : Bool). if same then Some number else number_at old q) (same_compared (texts_of b) (texts_of q)))))
+
+pub number_found : (numbers : BTreeMap Texts ℕ) (b : BoxKey) (name location kind : Bytes) → name ≡ b.name → location ≡ b.location → kind ≡ b.kind
+    → get_by (compared name location kind) numbers ≡ number_at numbers b
+number_found numbers b name location kind n l k =
+    ap (λ (text : Bytes). get_by (compared text location kind) numbers) n
+    ∙ (ap (λ (text : Bytes). get_by (compared b.name text kind) numbers) l
+    ∙ ap (λ (text : Bytes). get_by (compared b.name b.location text) numbers) k)
+
+-- ---- one container is another
+
+same_is : (a b : BoxKey) → is_same a b ≡ true → a ≡ b
+same_is a b h =
+    let name = and_parts (bytes_eq a.name b.name) (bytes_eq a.location b.location && bytes_eq a.kind b.kind) h in
+    let rest = and_parts (bytes_eq a.location b.location) (bytes_eq a.kind b.kind) name.1 in
+    ap (λ (text : Bytes). record { name = text; location = a.location; kind = a.kind }) ((bytes_eq-Decides a.name b.name).0 name.0)
+    ∙ (ap (λ (text : Bytes). record { name = b.name; location = text; kind = a.kind }) ((bytes_eq-Decides a.location b.location).0 rest.0)
+    ∙ ap (λ (text : Bytes). record { name = b.name; location = b.location; kind = text }) ((bytes_eq-Decides a.kind b.kind).0 rest.1))
+
+-- ---- numbers among containers
+
+found_any : (cs : List BoxKey) (b : BoxKey) → is_some (number_in cs b) ≡ list_any (is_same b) cs
+found_any [] b = refl
+found_any (c ∷ cs) b =
+    elim (cases_Bool (is_same c b)) [
+      | inl same ↦ let other : is_same b c ≡ true = sym (same_sym c b) ∙ same in rw (same, other) refl
+      | inr differs ↦ let other : is_same b c ≡ false = sym (same_sym c b) ∙ differs in rw (differs, other) (later (number_in cs b) ∙ found_any cs b)
+    ]
+  where
+    later : (o : Option ℕ) → is_some (option_map suc o) ≡ is_some o
+    later None = refl
+    later (Some n) = refl
+
+any_others : (ds : List BoxKey) (b c : BoxKey) → is_same b c ≡ false → list_any (is_same b) (filter (λ later. not (is_same c later)) ds) ≡ list_any (is_same b) ds
+any_others [] b c h = refl
+any_others (d ∷ ds) b c h =
+    elim (cases_Bool (is_same c d)) [
+      | inl same ↦
+          let apart : is_same b d ≡ false = ap (is_same b) (sym (same_is c d same)) ∙ h in
+          rw (same, apart) (any_others ds b c h)
+      | inr differs ↦ rw differs (ap (λ (any : Bool). is_same b d || any) (any_others ds b c h))
+    ]
+
+any_distinct : (bs : List BoxKey) (b : BoxKey) → list_any (is_same b) (distinct bs) ≡ list_any (is_same b) bs
+any_distinct [] b = refl
+any_distinct (c ∷ bs) b =
+    elim (cases_Bool (is_same b c)) [
+      | inl same ↦ rw same refl
+      | inr differs ↦ rw differs (any_others (distinct bs) b c differs ∙ any_distinct bs b)
+    ]
+
+-- the containers that were told, with one more
+distinct_next : (seen : List BoxKey) (b : BoxKey) → distinct (seen ++ b ∷ []) ≡ distinct seen ++ (if is_some (number_in (distinct seen) b) then [] else b ∷ [])
+distinct_next seen b =
+    distinct_more seen b
+    ∙ ap (λ (any : Bool). distinct seen ++ (if any then [] else b ∷ [])) (sym (found_any (distinct seen) b ∙ any_distinct seen b))
+
+-- the last container is found where no other is
+abbrev or_last : Option ℕ → Option ℕ → Option ℕ
+or_last None last = last
+or_last (Some n) last = Some n
+
+number_in-push : (cs : List BoxKey) (b q : BoxKey) → number_in (cs ++ b ∷ []) q ≡ or_last (number_in cs q) (if is_same b q then Some (length cs + 1) else None)
+number_in-push [] b q = refl
+number_in-push (c ∷ cs) b q =
+    elim (cases_Bool (is_same c q)) [
+      | inl same ↦ rw same refl
+      | inr differs ↦ rw differs (ap (option_map suc) (number_in-push cs b q) ∙ later (number_in cs q) (is_same b q))
+    ]
+  where
+    later : (o : Option ℕ) (same : Bool) → option_map suc (or_last o (if same then Some (length cs + 1) else None)) ≡ or_last (option_map suc o) (if same then Some (suc (length cs) + 1) else None)
+    later (Some n) same = refl
+    later None false = refl
+    later None true = ap Some (omega arith)
+
+-- ---- one more container
+
+pub numbered_again : (seen : List BoxKey) (b : BoxKey) (numbers : BTreeMap Texts ℕ) → AreNumbered seen numbers → is_some (number_at numbers b) ≡ true
+    → AreNumbered (seen ++ b ∷ []) numbers
+numbered_again seen b numbers h stood =
+    let known : is_some (number_in (distinct seen) b) ≡ true = ap is_some (sym (h.numbered b)) ∙ stood in
+    let same : distinct (seen ++ b ∷ []) ≡ distinct seen =
+    distinct_next seen b ∙ (ap (λ (any : Bool). distinct seen ++ (if any then [] else b ∷ [])) known ∙ append-nil (distinct seen)) in
+    record {
+      numbered = λ q. h.numbered q ∙ ap (λ (cs : List BoxKey). number_in cs q) (sym same);
+      count = h.count ∙ ap length (sym same);
+    }
+
+pub none_from : (o : Option ℕ) → is_some o ≡ false → o ≡ None
+none_from None h = refl
+none_from (Some n) h = absurd (cc)
+
+pub numbered_new : (seen : List BoxKey) (b : BoxKey) (old new : BTreeMap Texts ℕ) (number : ℕ) → AreNumbered seen old → is_some (number_at old b) ≡ false
+    → number ≡ btree_map_len old + 1 → ((q : BoxKey) → number_at new q ≡ (if is_same b q then Some number else number_at old q))
+    → btree_map_len new ≡ btree_map_len old + 1 → AreNumbered (seen ++ b ∷ []) new
+numbered_new seen b old new number h missing next sets grows =
+    let unknown : is_some (number_in (distinct seen) b) ≡ false = ap is_some (sym (h.numbered b)) ∙ missing in
+    let more : distinct (seen ++ b ∷ []) ≡ distinct seen ++ b ∷ [] =
+    distinct_next seen b ∙ ap (λ (any : Bool). distinct seen ++ (if any then [] else b ∷ [])) unknown in
+    let is : number ≡ length (distinct seen) + 1 = next ∙ ap (λ n. n + 1) h.count in
+    record {
+      numbered = λ q. sets q ∙ (here q (is_same b q) refl is unknown ∙ (sym (number_in-push (distinct seen) b q) ∙ ap (λ (cs : List BoxKey). number_in cs q) (sym more)));
+      count = grows ∙ (ap (λ n. n + 1) h.count ∙ (add-one (length (distinct seen)) ∙ (sym (length-push (distinct seen) b) ∙ ap length (sym more))));
+    }
+  where
+    first : (o : Option ℕ) → o ≡ or_last o None
+    first None = refl
+    first (Some n) = refl
+
+    here : (q : BoxKey) (same : Bool) → is_same b q ≡ same → number ≡ length (distinct seen) + 1 → is_some (number_in (distinct seen) b) ≡ false
+        → (if same then Some number else number_at old q) ≡ or_last (number_in (distinct seen) q) (if same then Some (length (distinct seen) + 1) else None)
+    here q true e is unknown =
+        ap Some is ∙ sym (ap (λ (o : Option ℕ). or_last o (Some (length (distinct seen) + 1))) (ap (number_in (distinct seen)) (sym (same_is b q e)) ∙ none_from (number_in (distinct seen) b) unknown))
+    here q false e is unknown = h.numbered q ∙ first (number_in (distinct seen) q)
+
+pub numbered_none : (numbers : BTreeMap Texts ℕ) → ((b : BoxKey) → number_at numbers b ≡ None) → btree_map_len numbers ≡ 0 → AreNumbered [] numbers
+numbered_none numbers empty none = record { numbered = empty; count = none }
+
+-- two facts of an outcome, and what follows from them
+pub on_ok_both : {T E P Q R : Type 0} → (r : Result T E) → (P → Q → R) → OnOk r P → OnOk r Q → OnOk r R
+on_ok_both (Ok x) f p q = f p q
+on_ok_both (Err e) f p q = tt

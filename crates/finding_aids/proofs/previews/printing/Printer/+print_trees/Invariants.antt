@@ -1,0 +1,14 @@
+use Rattle.std.proofs.Common.{◌≡◌, ◌++◌, take}
+use Rattle.isad_core.specs.Printed.{aid}
+use Rattle.finding_aids.specs.Planting.{grove, height_of_all}
+use Rattle.finding_aids.specs.Printing.{number_by, shown_by}
+use Rattle.finding_aids.proofs.previews.printing.Printer.+print_trees.Given as goal
+
+abbrev pub decreases-print_trees : goal.decreases-print_trees
+decreases-print_trees l = height_of_all l.trees.now
+
+abbrev pub invariant-loop-tree : goal.invariant-loop-tree
+invariant-loop-tree l = record {
+  printed : l.out.items ≡ l.initial.out.items ++ aid (shown_by (record { country = l.self.country.now; repo = l.self.repo.now }) (number_by l.self.numbers) l.initial.ids.items l.depth (grove (take l.tree-index l.trees)));
+  ids : l.ids.items ≡ l.initial.ids.items;
+}

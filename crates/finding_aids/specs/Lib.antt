@@ -1,0 +1,6 @@
+pub mod Numbers
+pub mod Places
+pub mod Planting
+pub mod Preview
+pub mod Printing
+pub mod Slots

@@ -1,0 +1,105 @@
+//! Where the rows of a file stand.
+ghost use Rattle.std.specs.Prelude.{◌≡◌, ◌≤◌, ◌∷◌, [], ℕ, Bool, IfOk, IfErr, OnOk, Some, option_copied, if◌then◌else◌};
+ghost use Rattle.std.specs.BTreeMap.{get_by_text};
+ghost use Rattle.std.specs.List.{All};
+ghost use Rattle.std.specs.Str.{bytes_eq};
+ghost use Rattle.isad_core.specs.Texts.{Bytes};
+ghost use Rattle.atom_csv.specs.Reads.{IsBad};
+ghost use Rattle.finding_aids.specs.Places.{ArePlaced, faults};
+ghost use Rattle.finding_aids.specs.Places as spec;
+
+use atom_csv::{FileFault, Row};
+use isad_core::Text;
+use std::alloc::{AllocError, Global};
+use std::collections::BTreeMap;
+
+/// How deep a unit may lie, where a top is 1.
+const MAX_DEPTH: u32 = 64;
+
+/// Where a row stands in a file.
+#[derive(Clone, Copy)]
+pub struct Place {
+    /// The index of its parent's row, or none for a top.
+    pub parent: Option<usize>,
+    /// How deep it lies, where a top is 1.
+    pub depth: u32,
+}
+
+/// The index of the last row with each legacyId.
+type Known = BTreeMap<String, usize>;
+
+/// The place of each row, below the nearest row above it that has its parent's legacyId; or the
+/// first row that has none, because there is no such row, or because it would lie too deep.
+pub fn place_rows(alloc: Global, rows: &[Row]) -> Result<Vec<Place>, FileFault>
+    ensures none_bad { IfOk result (λ places. faults rows.now ≡ []) }
+    ensures places { IfOk result (λ places. ArePlaced rows.now places.items) }
+    ensures shallow { IfOk result (λ places. All (λ place. place.depth ≤ 64) places.items) }
+    ensures bad { IfErr result (λ e. IsBad e (λ row cause. (later : _) × (faults rows.now ≡ (row, cause) ∷ later))) }
+{
+    let mut known: Known = BTreeMap::new(alloc);
+    let mut places = Vec::new(alloc);
+    for (index, row) in rows.iter().enumerate() {
+        let Some(place) = place_of(&known, places.as_slice(), row.parent.as_ref()) else {
+            return Err(bad(row, 11));
+        };
+        if place.depth > MAX_DEPTH {
+            return Err(bad(row, 12));
+        }
+        places.push(place)?;
+        remember(&mut known, alloc, &row.legacy, index)?;
+    }
+    Ok(places)
+}
+
+/// The fault of a row.
+fn bad(row: &Row, cause: u8) -> FileFault
+    ensures { result ≡ FileFault.Bad row.now.row cause }
+{
+    FileFault::Bad {
+        row: row.row,
+        cause,
+    }
+}
+
+/// The place below this parent, or of a top, where the parent is known.
+fn place_of(known: &Known, places: &[Place], parent: Option<&Text>) -> Option<Place>
+    requires { All (λ p. p.depth ≤ 64) places.now }
+    ensures { result ≡ spec.place_of (get_by_text known.now) places.now (option_copied parent.entry) }
+{
+    match parent {
+        None => Some(Place {
+            parent: None,
+            depth: 1,
+        }),
+        Some(parent) => place_at(places, index_of(known, parent)?),
+    }
+}
+
+/// The index of the last row with this legacyId.
+fn index_of(known: &Known, legacy: &Text) -> Option<usize>
+    ensures { result ≡ get_by_text known.now legacy.now }
+{
+    known.get(legacy.as_str()).copied()
+}
+
+/// The place right below a row.
+fn place_at(places: &[Place], index: usize) -> Option<Place>
+    requires { All (λ p. p.depth ≤ 64) places.now }
+    ensures { result ≡ spec.place_at places.now index }
+{
+    let above = places.get(index)?;
+    Some(Place {
+        parent: Some(index),
+        depth: above.depth + 1,
+    })
+}
+
+/// Keeps the index of a row.
+#[tactic(auto, using(std::proofs::lemmas::Map::Text::text_keys))]
+fn remember(known: &mut Known, alloc: Global, legacy: &Text, index: usize) -> Result<(), AllocError>
+    ensures { OnOk result ((q : Bytes) → get_by_text known.new q ≡ (if bytes_eq q legacy.now then Some index else get_by_text known.old q)) }
+{
+    let key = String::from_str(alloc, legacy.as_str())?;
+    known.insert(key, index)?;
+    Ok(())
+}

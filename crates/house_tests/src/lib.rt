@@ -1,0 +1,5 @@
+//! The tests of the two stores over one set of tables.
+#![tactic(auto)]
+
+#[cfg(test)]
+mod tests;

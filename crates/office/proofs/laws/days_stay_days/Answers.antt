@@ -1,5 +1,0 @@
-use Rattle.office.proofs.Days.{always_days}
-use Rattle.office.proofs.laws.days_stay_days.Goals as goal
-
-pub returns : goal.returns
-returns c = always_days

@@ -1,8 +1,0 @@
-use Rattle.office.proofs.Soundness.{desk_start, always_sound_desk}
-use Rattle.office.proofs.laws.desk_stays_sound.Goals as goal
-
-pub returns-clause-start : goal.returns-clause-start
-returns-clause-start c = desk_start
-
-pub returns-clause-on : goal.returns-clause-on
-returns-clause-on c = always_sound_desk

@@ -1,5 +1,0 @@
-use Rattle.office.proofs.Again.{imports_again as again}
-use Rattle.office.proofs.laws.imports_again.Goals as goal
-
-pub returns : goal.returns
-returns c = again

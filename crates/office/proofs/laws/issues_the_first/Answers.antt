@@ -1,7 +1,0 @@
-use Rattle.office.specs.Rules.{state_after}
-use Rattle.office.proofs.Soundness.{always_sound_desk}
-use Rattle.office.proofs.OrderLaws.{issues_the_first as first}
-use Rattle.office.proofs.laws.issues_the_first.Goals as goal
-
-pub returns : goal.returns
-returns c = λ s commands g. first (state_after s commands) (always_sound_desk s commands g).filed

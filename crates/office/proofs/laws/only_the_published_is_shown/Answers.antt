@@ -1,5 +1,0 @@
-use Rattle.office.proofs.Published.{only_published}
-use Rattle.office.proofs.laws.only_the_published_is_shown.Goals as goal
-
-pub returns : goal.returns
-returns c = only_published

@@ -1,7 +1,0 @@
-use Rattle.office.specs.Rules.{state_after}
-use Rattle.office.proofs.Soundness.{always_sound_desk}
-use Rattle.office.proofs.OrderLaws.{goes_on}
-use Rattle.office.proofs.laws.orders_go_on.Goals as goal
-
-pub returns : goal.returns
-returns c = λ s commands asked g. goes_on (state_after s commands) asked (always_sound_desk s commands g).filed

@@ -1,5 +1,0 @@
-use Rattle.office.proofs.ToldCatalogue.{catalogue_is_said}
-use Rattle.office.proofs.laws.rows_say_the_catalogue.Goals as goal
-
-pub returns : goal.returns
-returns c = catalogue_is_said

@@ -1,5 +1,0 @@
-use Rattle.office.proofs.Starts.{starts_sound as sound}
-use Rattle.office.proofs.laws.starts_sound.Goals as goal
-
-pub returns : goal.returns
-returns c = sound

@@ -1,5 +1,0 @@
-use Rattle.office.proofs.Comes.{comes_new}
-use Rattle.office.proofs.laws.units_come_new.Goals as goal
-
-pub returns : goal.returns
-returns c = comes_new

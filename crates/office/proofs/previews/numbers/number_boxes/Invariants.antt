@@ -1,8 +1,0 @@
-use Rattle.std.proofs.Common.{take}
-use Rattle.std.specs.List.{flat_map}
-use Rattle.atom_csv.specs.declared.file.Row.{Row}
-use Rattle.office.specs.Numbers.{AreNumbered}
-use Rattle.office.proofs.previews.numbers.number_boxes.Given as goal
-
-abbrev pub invariant-loop-row : goal.invariant-loop-row
-invariant-loop-row l = AreNumbered (flat_map (λ (row : Row). row.values.boxes) (take l.row-index l.rows)) l.numbers

@@ -1,7 +1,0 @@
-use Rattle.std.proofs.Common.{take}
-use Rattle.std.specs.BTreeMap.{get_by_text}
-use Rattle.office.specs.Places.{IsPlacing}
-use Rattle.office.proofs.previews.places.place_rows.Given as goal
-
-abbrev pub invariant-loop-index : goal.invariant-loop-index
-invariant-loop-index l = IsPlacing (take l.index l.rows) (get_by_text l.known) l.places.items

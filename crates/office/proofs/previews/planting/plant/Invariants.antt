@@ -1,9 +1,0 @@
-use Rattle.std.proofs.Common.{vec_len}
-use Rattle.office.specs.Slots.{HasGrown}
-use Rattle.office.proofs.previews.planting.plant.Given as goal
-
-abbrev pub invariant-loop-slot : goal.invariant-loop-slot
-invariant-loop-slot l = HasGrown l.rows l.slots.items l.tops.items
-
-abbrev pub decreases-loop-slot : goal.decreases-loop-slot
-decreases-loop-slot l = vec_len l.slots

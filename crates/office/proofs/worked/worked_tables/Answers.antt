@@ -1,5 +1,0 @@
-use Rattle.office.proofs.ReadingRows.{read_again}
-use Rattle.office.proofs.worked.worked_tables.Goals as goal
-
-pub returns : goal.returns
-returns c = read_again

@@ -1,0 +1,174 @@
+-- The catalogue stays good where units are changed, removed or moved.
+use Rattle.std.proofs.Common.{◌≡◌, ℕ, ◌+◌, ◌<◌, ◌≤◌, Bool, true, false, cond, List, [], ◌∷◌, length, map, Option, Some, None, refl, sym, ap, ◌∙◌, subst, inl, inr, arith}
+use Rattle.std.specs.Prelude.{nat_eq}
+use Rattle.std.specs.List.{list_any, list_all, AllByRecursion, IsDistinct}
+use Rattle.std.specs.List.Sorted.{IsPermutation}
+use Rattle.std.proofs.lemmas.Bool.{cases_Bool, eq-eqb, eqb-true, false≢true}
+use Rattle.std.proofs.lemmas.List.Sorted.{IsPermutation-map, length_permutation}
+use Rattle.std.proofs.lemmas.Map.Keys.{IsDistinct-IsPermutation}
+use Rattle.isad_core.specs.Texts.{is_blank_text}
+use Rattle.isad_core.specs.declared.values.BoxKey.{BoxKey}
+use Rattle.isad_core.specs.declared.values.Values.{Values}
+use Rattle.tree_core.specs.Forest.{Forest, Empty, Node, nodes, each, has_place, size, cut, move_last}
+use Rattle.tree_core.proofs.Lists.{eqb_comm}
+use Rattle.tree_core.proofs.EachLemmas.{nodes-each, size-each}
+use Rattle.atom_csv.specs.Values.{distinct, is_same}
+use Rattle.catalogue_core.specs.Units.{Unit, has_id}
+use Rattle.catalogue_core.proofs.NodeLemmas.{length-nodes}
+use Rattle.office_core.specs.State.{State, Permit, has_unit}
+use Rattle.office_core.specs.Intake.{most_units}
+use Rattle.office_core.specs.Rules.{is_into_itself, depth_after, is_source, most_deep}
+use Rattle.office_core.specs.Soundness.{most_bytes, is_good_text, IsGoodUnit, is_same_unit, AreGoodUnits}
+use Rattle.office_core.proofs.Again.{all_append, all_split, all_each}
+use Rattle.catalogue_core.proofs.DistinctLists.{all_so, distinct_so, distinct_mapped, distinct_unmapped, distinct_beside, distinct_parts}
+use Rattle.office_core.proofs.Days.{all_cut, all_moved}
+use Rattle.office_core.proofs.ImportedNumbers.{same_flip}
+use Rattle.office_core.proofs.Branches.{many, passing, passing-many, IsOnePlace, moved_same}
+use Rattle.office_core.proofs.Heights.{height-each, height_cut, height_moved}
+
+-- ---- no two alike
+
+distinct_cut : {A : Type 0} (e : A → A → Bool) (gone : A → Bool) (f : Forest A) → IsDistinct e (nodes f) → IsDistinct e (nodes (cut gone f))
+unfolding IsDistinct
+distinct_cut e gone Empty d = tt
+distinct_cut e gone (Node a c o) d =
+    let r = distinct_parts e (nodes c) (nodes o) d.1 in
+    let s = all_split (λ y. e a y ≡ false) (nodes c) (nodes o) d.0 in
+    let across = all_cut (λ x. AllByRecursion (λ y. e x y ≡ false) (nodes (cut gone o))) gone c (all_so (λ x. AllByRecursion (λ y. e x y ≡ false) (nodes o)) (λ x. AllByRecursion (λ y. e x y ≡ false) (nodes (cut gone o))) (λ x. all_cut (λ y. e x y ≡ false) gone o) (nodes c) r.2) in
+    at (gone a) (distinct_cut e gone c r.0) (distinct_cut e gone o r.1) across (all_cut (λ y. e a y ≡ false) gone c s.0) (all_cut (λ y. e a y ≡ false) gone o s.1)
+  where
+    at : (b : Bool) → IsDistinct e (nodes (cut gone c)) → IsDistinct e (nodes (cut gone o)) → AllByRecursion (λ x. AllByRecursion (λ y. e x y ≡ false) (nodes (cut gone o))) (nodes (cut gone c)) → AllByRecursion (λ y. e a y ≡ false) (nodes (cut gone c)) → AllByRecursion (λ y. e a y ≡ false) (nodes (cut gone o)) → IsDistinct e (nodes (cond b (cut gone o) (Node a (cut gone c) (cut gone o))))
+    at true l r x h k = r
+    at false l r x h k = (all_append (λ y. e a y ≡ false) (nodes (cut gone c)) (nodes (cut gone o)) h k, distinct_beside e (nodes (cut gone c)) (nodes (cut gone o)) l r x)
+
+-- ---- units
+
+abbrev number : Unit → ℕ
+number unit = unit.id
+
+-- the number was given, where n is the next
+abbrev IsGiven : ℕ → Unit → Type 0
+IsGiven n unit = (1 ≤ unit.id) × (unit.id < n)
+
+abbrev same_number : Unit → Unit → Bool
+same_number a b = nat_eq a.id b.id
+
+-- no more than one passes, where those that pass are alike and no two are
+once : {X : Type 0} (e : X → X → Bool) (is : X → Bool) → ((a b : X) → is a ≡ true → is b ≡ true → e a b ≡ true) → (xs : List X) → IsDistinct e xs → many is xs ≤ 1
+unfolding IsDistinct
+once e is alike [] d = omega arith
+once e is alike (x ∷ xs) d = at (is x) refl (once e is alike xs d.1)
+  where
+    none : {X : Type 0} (e : X → X → Bool) (is : X → Bool) → ((a b : X) → is a ≡ true → is b ≡ true → e a b ≡ true) → (x : X) → is x ≡ true → (xs : List X) → AllByRecursion (λ y. e x y ≡ false) xs → many is xs ≡ 0
+    none e is alike x t [] h = refl
+    none e is alike x t (y ∷ ys) h = elim (cases_Bool (is y)) [ inl k ↦ absurd (false≢true (sym h.0 ∙ alike x y t k)) | inr n ↦ rw n (let z = none e is alike x t ys h.1 in omega (arith, z)) ]
+
+    at : (b : Bool) → is x ≡ b → many is xs ≤ 1 → cond b 1 0 + many is xs ≤ 1
+    at true t l = (let z = none e is alike x t xs d.0 in omega (arith, z))
+    at false n l = omega (arith, l)
+
+one_unit : (u : ℕ) (f : Forest Unit) → IsDistinct nat_eq (map number (nodes f)) → passing (has_id u) f ≤ 1
+one_unit u f d =
+    let l = once same_number (has_id u) (λ a b h k. eq-eqb a.id b.id (sym (eqb-true u a.id h) ∙ eqb-true u b.id k)) (nodes f) (distinct_unmapped nat_eq number (nodes f) d) in
+    let e = passing-many (has_id u) f in
+    omega (arith, l, e)
+
+-- ---- units are changed
+
+-- the change leaves the number, where the description came from, and the description
+pub record KeepsUnits (g : Unit → Unit) : Type 0 where
+  pub id : (unit : Unit) → (g unit).id ≡ unit.id
+  pub source : (unit : Unit) → (g unit).source ≡ unit.source
+  pub legacy : (unit : Unit) → (g unit).legacy ≡ unit.legacy
+  pub values : (unit : Unit) → (g unit).values ≡ unit.values
+
+kept_unit : (boxes : List BoxKey) (g : Unit → Unit) → KeepsUnits g → (unit : Unit) → IsGoodUnit boxes unit → IsGoodUnit boxes (g unit)
+kept_unit boxes g k unit h =
+    record {
+      source = subst (λ x. is_source x ≡ true) (sym (k.source unit)) h.source;
+      legacy = subst (λ x. is_blank_text x ≡ false) (sym (k.legacy unit)) h.legacy;
+      legacy_short = subst (λ x. length x ≤ most_bytes) (sym (k.legacy unit)) h.legacy_short;
+      level_short = subst (λ (x : Values). length x.level ≤ most_bytes) (sym (k.values unit)) h.level_short;
+      texts = subst (λ (x : Values). list_all is_good_text x.texts ≡ true) (sym (k.values unit)) h.texts;
+      texts_count = subst (λ (x : Values). length x.texts ≡ 25) (sym (k.values unit)) h.texts_count;
+      known = subst (λ (x : Values). list_all (λ box. list_any (is_same box) boxes) x.boxes ≡ true) (sym (k.values unit)) h.known;
+      apart = subst (λ (x : Values). distinct x.boxes ≡ x.boxes) (sym (k.values unit)) h.apart;
+    }
+
+same_numbers : (g : Unit → Unit) → KeepsUnits g → (us : List Unit) → map number (map g us) ≡ map number us
+same_numbers g k [] = refl
+same_numbers g k (u ∷ us) = ap (λ n. n ∷ map number (map g us)) (k.id u) ∙ ap (λ ns. u.id ∷ ns) (same_numbers g k us)
+
+same_pair : (g : Unit → Unit) → KeepsUnits g → (a b : Unit) → is_same_unit a b ≡ is_same_unit (g a) (g b)
+same_pair g k a b = rw (k.source a, k.source b, k.legacy a, k.legacy b) refl
+
+pub each_good : (s : State) (g : Unit → Unit) → KeepsUnits g → AreGoodUnits s → AreGoodUnits (record s { forest = each g s.forest })
+each_good s g k h =
+    record {
+      each = all_each (IsGoodUnit s.boxes) g s.forest (all_so (IsGoodUnit s.boxes) (λ unit. IsGoodUnit s.boxes (g unit)) (kept_unit s.boxes g k) (nodes s.forest) h.each);
+      ids = subst (IsDistinct nat_eq) (sym (ap (map number) (nodes-each g s.forest) ∙ same_numbers g k (nodes s.forest))) h.ids;
+      pairs = subst (IsDistinct is_same_unit) (sym (nodes-each g s.forest))
+          (distinct_mapped is_same_unit g (nodes s.forest) (distinct_so is_same_unit (λ a b. is_same_unit (g a) (g b)) (λ a b n. sym (same_pair g k a b) ∙ n) (nodes s.forest) h.pairs));
+      given = all_each (IsGiven s.next_unit) g s.forest (all_so (IsGiven s.next_unit) (λ unit. IsGiven s.next_unit (g unit)) (λ unit i. subst (λ n. (1 ≤ n) × (n < s.next_unit)) (sym (k.id unit)) i) (nodes s.forest) h.given);
+      next = h.next;
+      few = subst (λ n. n ≤ most_units) (sym (size-each g s.forest)) h.few;
+      depth = subst (λ n. n ≤ most_deep) (sym (height-each g s.forest)) h.depth;
+    }
+
+-- ---- a branch is removed
+
+size_cut : {A : Type 0} (gone : A → Bool) (f : Forest A) → size (cut gone f) ≤ size f
+size_cut gone Empty = omega arith
+size_cut gone (Node a c o) = at (gone a) (size_cut gone c) (size_cut gone o)
+  where
+    at : (b : Bool) → size (cut gone c) ≤ size c → size (cut gone o) ≤ size o → size (cond b (cut gone o) (Node a (cut gone c) (cut gone o))) ≤ 1 + (size c + size o)
+    at true x y = omega (arith, y)
+    at false x y = omega (arith, x, y)
+
+pub cut_good : (s : State) (permits : ℕ → List Permit) (gone : Unit → Bool) → AreGoodUnits s → AreGoodUnits (record s { forest = cut gone s.forest; permits = permits })
+cut_good s permits gone h =
+    let less = size_cut gone s.forest in
+    let lower = height_cut gone s.forest in
+    record {
+      each = all_cut (IsGoodUnit s.boxes) gone s.forest h.each;
+      ids = distinct_mapped nat_eq number (nodes (cut gone s.forest)) (distinct_cut same_number gone s.forest (distinct_unmapped nat_eq number (nodes s.forest) h.ids));
+      pairs = distinct_cut is_same_unit gone s.forest h.pairs;
+      given = all_cut (IsGiven s.next_unit) gone s.forest h.given;
+      next = h.next;
+      few = omega (arith, less, h.few);
+      depth = omega (arith, lower, h.depth);
+    }
+
+-- ---- a branch goes below another unit
+
+one_place : (p : Option ℕ) (f : Forest Unit) → IsDistinct nat_eq (map number (nodes f)) → has_place has_id p f ≡ true → IsOnePlace has_id p f
+one_place None f d h = tt
+one_place (Some v) f d h = (one_unit v f d, h)
+
+-- what a Move asks for
+pub record CanMove (s : State) (u : ℕ) (p : Option ℕ) : Type 0 where
+  pub there : has_unit s.forest u ≡ true
+  pub place : has_place has_id p s.forest ≡ true
+  pub apart : is_into_itself u p s.forest ≡ false
+  pub deep : depth_after u p s.forest ≤ most_deep
+
+pub move_same : (s : State) (u : ℕ) (p : Option ℕ) → AreGoodUnits s → CanMove s u p → IsPermutation (nodes s.forest) (nodes (move_last has_id u p s.forest))
+move_same s u p h m = moved_same has_id u p s.forest (one_unit u s.forest h.ids) m.there (one_place p s.forest h.ids m.place) m.apart
+
+pub move_good : (s : State) (u : ℕ) (p : Option ℕ) → AreGoodUnits s → CanMove s u p → AreGoodUnits (record s { forest = move_last has_id u p s.forest })
+move_good s u p h m =
+    let f = move_last has_id u p s.forest in
+    let same = move_same s u p h m in
+    let count = length_permutation (nodes s.forest) (nodes f) same in
+    let old = length-nodes s.forest in
+    let new = length-nodes f in
+    let high = height_moved u p s.forest (one_unit u s.forest h.ids) m.there (one_place p s.forest h.ids m.place) m.apart in
+    record {
+      each = all_moved (IsGoodUnit s.boxes) u p s.forest h.each;
+      ids = IsDistinct-IsPermutation nat_eq eqb_comm (map number (nodes s.forest)) (map number (nodes f)) (IsPermutation-map number (nodes s.forest) (nodes f) same) h.ids;
+      pairs = IsDistinct-IsPermutation is_same_unit same_flip (nodes s.forest) (nodes f) same h.pairs;
+      given = all_moved (IsGiven s.next_unit) u p s.forest h.given;
+      next = h.next;
+      few = omega (arith, count, old, new, h.few);
+      depth = omega (arith, high, h.depth, m.deep);
+    }

@@ -1,0 +1,126 @@
+-- What the rows of a file tell is what a unit may have.
+use Rattle.std.proofs.Common.{◌≡◌, ◌≤◌, ℕ, zero, suc, Bool, true, false, not, cond, List, [], ◌∷◌, ◌++◌, length, Option, Some, None, Ok, refl, sym, ap, subst, arith, map}
+use Rattle.std.specs.Prelude.{filter, filter_map, slice_get, nat_lt, IfSome}
+use Rattle.std.specs.List.{list_any, list_all, AllByRecursion, cons_option}
+use Rattle.std.proofs.lemmas.Bool.{and_from, or_parts, ltb-false}
+use Rattle.isad_core.specs.Texts.{Bytes, is_blank_text}
+use Rattle.isad_core.specs.declared.element.Element.TheVariants as element
+use Rattle.isad_core.specs.declared.values.BoxKey.{BoxKey}
+use Rattle.atom_csv.specs.Columns.{columns}
+use Rattle.atom_csv.specs.Entries.{entries, filled, joined}
+use Rattle.atom_csv.specs.Fields.{Fields, is_empty, value}
+use Rattle.atom_csv.specs.FileOf.{lines_below, row_number, is_long, row_of, row_told, fault_of, file_of}
+use Rattle.atom_csv.specs.Told.{IsThere, AreValues}
+use Rattle.atom_csv.specs.Values.{nonblank, text_of, described, triples, is_named_box, distinct}
+use Rattle.atom_csv.specs.declared.column.Column.{Column}
+use Rattle.atom_csv.specs.declared.column.Column.TheVariants as column
+use Rattle.atom_csv.specs.declared.file.File.{File}
+use Rattle.atom_csv.specs.declared.file.Row.{Row}
+use Rattle.atom_csv.proofs.ToldLemmas.{file_sound}
+use Rattle.office_core.specs.Soundness.{is_good_text, most_bytes}
+use Rattle.catalogue_core.proofs.EachOf.{all_and}
+use Rattle.catalogue_core.proofs.FileRows.{read_from, tells, line_at, no_fault_cons}
+use Rattle.office_core.proofs.Imports.{distinct_again}
+
+-- ---- how long and how many
+
+pub record IsShortRow (row : Row) : Type 0 where
+  pub legacy : length row.legacy ≤ most_bytes
+  pub level : length row.values.level ≤ most_bytes
+  pub texts : length row.values.texts ≡ 25
+  pub apart : distinct row.values.boxes ≡ row.values.boxes
+
+any_at : {X : Type 0} (p : X → Bool) (xs : List X) (i : ℕ) (x : X) → list_any p xs ≡ false → slice_get xs i ≡ Some x → p x ≡ false
+any_at p [] i x e h = absurd (cc)
+any_at p (y ∷ ys) zero x e h = subst (λ z. p z ≡ false) (let s : y ≡ x = cc in s) (or_parts (p y) (list_any p ys) e).0
+any_at p (y ∷ ys) (suc i) x e h = any_at p ys i x (or_parts (p y) (list_any p ys) e).1 h
+
+short_column : (header fields : Fields) (i : ℕ) (k : Column) → is_long header fields ≡ false → slice_get columns i ≡ Some k → length (value k header fields) ≤ most_bytes
+short_column header fields i k e h = ltb-false 65535 (length (value k header fields)) (any_at (λ k. nat_lt 65535 (length (value k header fields))) columns i k e h)
+
+legacy_at : slice_get columns 0 ≡ Some column.LegacyId
+unfolding columns
+legacy_at = refl
+
+level_at : slice_get columns 11 ≡ Some column.LevelOfDescription
+unfolding columns
+level_at = refl
+
+-- one column tells the level
+one_text : (text : Bytes) → length (joined (filled (text ∷ []))) ≤ length text
+one_text text = at (is_empty text)
+  where
+    at : (b : Bool) → length (joined (cond (not b) (text ∷ []) [])) ≤ length text
+    at true = omega arith
+    at false = omega arith
+
+short_level : (header fields : Fields) → is_long header fields ≡ false → length (text_of header fields element.Level) ≤ most_bytes
+short_level header fields e =
+    let a = one_text (value column.LevelOfDescription header fields) in
+    let b = short_column header fields 11 column.LevelOfDescription e level_at in
+    omega (arith, a, b)
+
+described_count : (header fields : Fields) → length (map (λ e. nonblank (text_of header fields e)) described) ≡ 25
+unfolding described
+described_count header fields = refl
+
+short_row : (header fields : Fields) (n : ℕ) → is_long header fields ≡ false → IsShortRow (row_of header fields n)
+short_row header fields n long =
+    record {
+      legacy = short_column header fields 0 column.LegacyId long legacy_at;
+      level = short_level header fields long;
+      texts = described_count header fields;
+      apart = distinct_again (filter is_named_box (triples (entries (value column.PhysicalObjectName header fields)) (entries (value column.PhysicalObjectLocation header fields)) (entries (value column.PhysicalObjectType header fields))));
+    }
+
+short_below : (header : Fields) (above rest : List Fields) → filter_map (fault_of header) (lines_below above rest) ≡ [] → AllByRecursion IsShortRow (filter_map (row_told header) (lines_below above rest))
+short_below header above [] f = tt
+short_below header above (fields ∷ rest) f =
+    let x = no_fault_cons header above fields rest f in
+    at (row_told header (line_at above fields)) refl x.0 (short_below header (above ++ fields ∷ []) rest x.1)
+  where
+    at : (r : Option Row) → row_told header (line_at above fields) ≡ r → fault_of header (line_at above fields) ≡ None → AllByRecursion IsShortRow (filter_map (row_told header) (lines_below (above ++ fields ∷ []) rest)) → AllByRecursion IsShortRow (cons_option r (filter_map (row_told header) (lines_below (above ++ fields ∷ []) rest)))
+    at None e g k = k
+    at (Some row) e g k =
+        let t = tells header (line_at above fields) row g e in
+        (subst IsShortRow (sym t.is) (short_row header fields (row_number (line_at above fields)) t.long), k)
+
+short_rows : (bytes : Bytes) (file : File) → file_of bytes ≡ Ok file → AllByRecursion IsShortRow file.rows
+short_rows bytes file e =
+    let r = read_from bytes file e in
+    subst (λ f. AllByRecursion IsShortRow f.rows) (sym r.is) (short_below r.header [] r.rest r.no_fault)
+
+-- ---- all of it
+
+pub record IsGoodRow (row : Row) : Type 0 where
+  pub legacy : is_blank_text row.legacy ≡ false
+  pub legacy_short : length row.legacy ≤ most_bytes
+  pub level_short : length row.values.level ≤ most_bytes
+  pub texts : list_all is_good_text row.values.texts ≡ true
+  pub texts_count : length row.values.texts ≡ 25
+  pub named : AllByRecursion (λ (b : BoxKey). is_blank_text b.name ≡ false) row.values.boxes
+  pub apart : distinct row.values.boxes ≡ row.values.boxes
+
+good_texts : (texts : List (Option Bytes)) → AllByRecursion (λ text. IfSome text IsThere) texts → list_all is_good_text texts ≡ true
+good_texts [] h = refl
+good_texts (None ∷ texts) h = good_texts texts h.1
+good_texts (Some text ∷ texts) h = and_from (not (is_blank_text text)) (list_all is_good_text texts) (ap not h.0) (good_texts texts h.1)
+
+-- of each row of a file that is taken
+pub good_rows : (bytes : Bytes) (file : File) → file_of bytes ≡ Ok file → AllByRecursion IsGoodRow file.rows
+good_rows bytes file e =
+    let t = file_sound bytes file e in
+    all_and (λ row. IsThere row.legacy) (λ row. AreValues row.values × IsShortRow row) IsGoodRow (λ row there k. good row there k.0 k.1) file.rows t.there
+    (all_and (λ row. AreValues row.values) IsShortRow (λ row. AreValues row.values × IsShortRow row) (λ row v k. (v, k)) file.rows t.values (short_rows bytes file e))
+  where
+    good : (row : Row) → IsThere row.legacy → AreValues row.values → IsShortRow row → IsGoodRow row
+    good row there v k =
+        record {
+          legacy = there;
+          legacy_short = k.legacy;
+          level_short = k.level;
+          texts = good_texts row.values.texts v.texts;
+          texts_count = k.texts;
+          named = v.names;
+          apart = k.apart;
+        }

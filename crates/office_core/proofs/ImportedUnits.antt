@@ -1,0 +1,152 @@
+-- An accepted import keeps the catalogue's own lines of soundness.
+use Rattle.std.proofs.Common.{◌≡◌, ◌+◌, ◌<◌, ◌≤◌, true, false, not, ◌||◌, List, [], ◌∷◌, ◌++◌, length, None, Ok, Err, refl, sym, ap, subst, arith}
+use Rattle.std.specs.Prelude.{nat_lt}
+use Rattle.std.specs.List.{list_all, flat_map, AllByRecursion}
+use Rattle.std.proofs.lemmas.Bool.{and_parts, and_from, or_parts, ltb-false, not-true}
+use Rattle.isad_core.specs.Texts.{Bytes, is_blank_text}
+use Rattle.isad_core.specs.declared.values.BoxKey.{BoxKey}
+use Rattle.atom_csv.specs.declared.file.Row.{Row}
+use Rattle.tree_core.specs.Forest.{Forest, nodes, size}
+use Rattle.desk_core.specs.Refusals.{when}
+use Rattle.desk_core.specs.declared.refusal.Refusal.TheVariants.{Full}
+use Rattle.catalogue_core.specs.Units.{Unit}
+use Rattle.catalogue_core.specs.Merging.{Catalogue, New, numbered_from, new_unit, revised, merged_forest, merged_boxes, is_known}
+use Rattle.office_core.specs.declared.command.Command.TheVariants as command
+use Rattle.office_core.specs.State.{State, has_unit}
+use Rattle.office_core.specs.Intake.{Intake, Taken, too_much, is_full, most_units, most_unit_numbers, most_containers}
+use Rattle.office_core.specs.Rules.{is_source, catalogue, taken, imported, checks, after}
+use Rattle.office_core.specs.Soundness.{AreGoodUnits, AreGoodContainers, ArePermitsOfUnits, IsGoodUnit, IsSound}
+use Rattle.office_core.specs.Imported.{IsSoundCatalogue, ImportsKeepTheCatalogue}
+use Rattle.office_core.proofs.Steps.{Passes, held_so, held_not, step_at}
+use Rattle.catalogue_core.proofs.EachOf.{all_and, all_append, all_distinct, all_filtered}
+use Rattle.catalogue_core.proofs.DistinctLists.{all_so}
+use Rattle.office_core.proofs.GoodRows.{IsGoodRow, good_rows}
+use Rattle.catalogue_core.proofs.FileRows.{apart_rows}
+use Rattle.office_core.proofs.Imports.{new_rows, IsTaken, taken_is}
+use Rattle.office_core.proofs.Rooted.{revised_id}
+use Rattle.office_core.proofs.Again.{all_merged, numbered_rows}
+use Rattle.office_core.proofs.Comes.{ids_between}
+use Rattle.office_core.proofs.MergedNodes.{still_there}
+use Rattle.office_core.proofs.ImportedValues.{AreGoodValues, all_told, good_revised, good_new}
+use Rattle.office_core.proofs.ImportedNumbers.{distinct_numbers, distinct_pairs}
+use Rattle.office_core.proofs.ImportedDepth.{merged_depth}
+
+-- ---- what the refusals leave
+
+room : (c : Catalogue) → when (is_full c) Full ≡ None → (size c.forest ≤ most_units) × (c.next ≤ most_unit_numbers + 1) × (length c.containers ≤ most_containers)
+room c h =
+    let a = or_parts (nat_lt most_units (size c.forest)) (nat_lt (most_unit_numbers + 1) c.next || nat_lt most_containers (length c.containers)) (held_not (is_full c) Full h) in
+    let b = or_parts (nat_lt (most_unit_numbers + 1) c.next) (nat_lt most_containers (length c.containers)) a.1 in
+    (ltb-false most_units (size c.forest) a.0, ltb-false (most_unit_numbers + 1) c.next b.0, ltb-false most_containers (length c.containers) b.1)
+
+-- ---- containers
+
+named_from : (boxes : List BoxKey) → list_all (λ box. not (is_blank_text box.name)) boxes ≡ true → AllByRecursion (λ (box : BoxKey). is_blank_text box.name ≡ false) boxes
+named_from [] h = tt
+named_from (box ∷ boxes) h =
+    let r = and_parts (not (is_blank_text box.name)) (list_all (λ (box : BoxKey). not (is_blank_text box.name)) boxes) h in
+    (not-true (is_blank_text box.name) r.0, named_from boxes r.1)
+
+named_all : (boxes : List BoxKey) → AllByRecursion (λ (box : BoxKey). is_blank_text box.name ≡ false) boxes → list_all (λ (box : BoxKey). not (is_blank_text box.name)) boxes ≡ true
+named_all [] h = refl
+named_all (box ∷ boxes) h = and_from (not (is_blank_text box.name)) (list_all (λ (box : BoxKey). not (is_blank_text box.name)) boxes) (ap not h.0) (named_all boxes h.1)
+
+named_told : (rows : List Row) → AllByRecursion IsGoodRow rows → AllByRecursion (λ (box : BoxKey). is_blank_text box.name ≡ false) (flat_map (λ (row : Row). row.values.boxes) rows)
+named_told [] h = tt
+named_told (row ∷ rows) h = all_append (λ (box : BoxKey). is_blank_text box.name ≡ false) row.values.boxes (flat_map (λ (row : Row). row.values.boxes) rows) h.0.named (named_told rows h.1)
+
+-- ---- a sound state and a file that it takes
+
+module _ (s : State) (source file : Bytes) (intake : Intake) (e : taken s source file ≡ Ok intake) (g : IsSound s) (named : is_source source ≡ true) (fits : when (is_full intake.catalogue) Full ≡ None) where
+  it : IsTaken (catalogue s) source file intake
+  it = taken_is (catalogue s) source file intake e
+
+  abbrev rows : List Row
+  rows = intake.file.rows
+
+  abbrev news : List Row
+  news = new_rows (catalogue s) source intake.file.rows
+
+  abbrev new : List New
+  new = numbered_from s.forest source s.next_unit [] (new_rows (catalogue s) source intake.file.rows)
+
+  abbrev forest : Forest Unit
+  forest = merged_forest source intake.file.rows (numbered_from s.forest source s.next_unit [] (new_rows (catalogue s) source intake.file.rows)) s.forest
+
+  abbrev boxes : List BoxKey
+  boxes = merged_boxes intake.file.rows s.boxes
+
+  good : AllByRecursion IsGoodRow intake.file.rows
+  good = good_rows file intake.file it.read
+
+  told : AllByRecursion (λ row. AreGoodValues (merged_boxes intake.file.rows s.boxes) row.values) intake.file.rows
+  told = all_told intake.file.rows s.boxes good
+
+  -- the new units
+  come : AllByRecursion (λ x. IsGoodUnit (merged_boxes intake.file.rows s.boxes) (new_unit source x)) new
+  come =
+      all_and (λ x. IsGoodRow x.row) (λ x. AreGoodValues boxes x.row.values) (λ x. IsGoodUnit boxes (new_unit source x)) (λ x r v. good_new source boxes x named r v) new
+      (numbered_rows s.forest source s.next_unit [] news IsGoodRow (all_filtered IsGoodRow (λ row. not (is_known s.forest source row)) rows good))
+      (numbered_rows s.forest source s.next_unit [] news (λ row. AreGoodValues boxes row.values) (all_filtered (λ row. AreGoodValues boxes row.values) (λ row. not (is_known s.forest source row)) rows told))
+
+  all_good : AllByRecursion (IsGoodUnit (merged_boxes intake.file.rows s.boxes)) (nodes forest)
+  all_good =
+      all_merged (IsGoodUnit boxes) source rows new s.forest come
+      (all_so (IsGoodUnit s.boxes) (λ u. IsGoodUnit boxes (revised source rows u)) (λ u k. good_revised source rows s.boxes u told k) (nodes s.forest) g.units.each)
+
+  below_next : AllByRecursion (λ (u : Unit). u.id < s.next_unit) (nodes s.forest)
+  below_next = all_so (λ u. (1 ≤ u.id) × (u.id < s.next_unit)) (λ u. u.id < s.next_unit) (λ u k. k.1) (nodes s.forest) g.units.given
+
+  given : AllByRecursion (λ (u : Unit). (1 ≤ u.id) × (u.id < s.next_unit + length new)) (nodes forest)
+  given =
+      all_merged (λ u. (1 ≤ u.id) × (u.id < s.next_unit + length new)) source rows new s.forest
+      (all_so (λ x. (s.next_unit ≤ x.id) × (x.id < s.next_unit + length new)) (λ x. (1 ≤ x.id) × (x.id < s.next_unit + length new)) (λ x k. (let a = k.0 in let b = g.units.next.0 in omega (arith, a, b), k.1)) new (ids_between s.forest source s.next_unit [] news))
+      (all_so (λ u. (1 ≤ u.id) × (u.id < s.next_unit)) (λ u. (1 ≤ (revised source rows u).id) × ((revised source rows u).id < s.next_unit + length new)) (λ u k. (let a = k.0 in let i = revised_id source rows u in omega (arith, a, i), let b = k.1 in let i = revised_id source rows u in omega (arith, b, i))) (nodes s.forest) g.units.given)
+
+  -- what came of the catalogue
+  abbrev after_import : State
+  after_import = record s { forest = forest; boxes = boxes; next_unit = s.next_unit + length new }
+
+  is_after : imported s (Ok intake) ≡ after_import
+  is_after = ap (λ (c : Catalogue). record s { forest = c.forest; boxes = c.containers; next_unit = c.next }) it.is
+
+  enough : (size forest ≤ most_units) × (s.next_unit + length new ≤ most_unit_numbers + 1) × (length boxes ≤ most_containers)
+  enough = subst (λ (c : Catalogue). (size c.forest ≤ most_units) × (c.next ≤ most_unit_numbers + 1) × (length c.containers ≤ most_containers)) it.is (room intake.catalogue fits)
+
+  good_units : AreGoodUnits after_import
+  good_units =
+      record {
+        each = all_good;
+        ids = distinct_numbers source rows s.next_unit news s.forest g.units.ids below_next;
+        pairs = distinct_pairs (catalogue s) source rows (apart_rows file intake.file it.read) g.units.ids below_next g.units.pairs;
+        given = given;
+        next = (let a = g.units.next.0 in omega (arith, a), enough.1);
+        few = enough.0;
+        depth = merged_depth s.forest source s.next_unit g.units.ids below_next rows news it.placed g.units.depth;
+      }
+
+  good_containers : AreGoodContainers after_import
+  good_containers =
+      record {
+        named = named_all boxes (all_distinct (λ (box : BoxKey). is_blank_text box.name ≡ false) (s.boxes ++ flat_map (λ (row : Row). row.values.boxes) rows) (all_append (λ (box : BoxKey). is_blank_text box.name ≡ false) s.boxes (flat_map (λ (row : Row). row.values.boxes) rows) (named_from s.boxes g.containers.named) (named_told rows good)));
+        few = enough.2;
+      }
+
+  permits_there : ArePermitsOfUnits after_import
+  permits_there = λ t. all_so (λ permit. has_unit s.forest permit.unit ≡ true) (λ permit. has_unit forest permit.unit ≡ true) (λ permit. still_there source rows new s.forest permit.unit) (s.permits t) (g.permits t)
+
+  sound_import : IsSoundCatalogue (imported s (Ok intake))
+  sound_import = subst IsSoundCatalogue (sym is_after) (record { units = good_units; containers = good_containers; permits = permits_there })
+
+at_taken : (s : State) (source file : Bytes) (t : Taken) → taken s source file ≡ t → IsSound s → is_source source ≡ true → too_much t ≡ None → IsSoundCatalogue (imported s t)
+at_taken s source file (Ok intake) e g named fits = sound_import s source file intake e g named fits
+at_taken s source file (Err fault) e g named fits = record { units = g.units; containers = g.containers; permits = g.permits }
+
+pub import_keeps_units : (s : State) (source file : Bytes) → IsSound s → Passes (checks s (command.Import source file)) → IsSoundCatalogue (after s (command.Import source file))
+import_keeps_units s source file g ok = at_taken s source file (taken s source file) refl g (held_so (is_source source) _ ok.0) ok.1.1.0
+
+pub imports_keep : (s : State) → IsSound s → ImportsKeepTheCatalogue s
+imports_keep s g source file =
+    step_at (λ t reply. IsSoundCatalogue t) s (command.Import source file)
+    (λ why. record { units = g.units; containers = g.containers; permits = g.permits })
+    (λ ok. import_keeps_units s source file g ok)

@@ -1,0 +1,181 @@
+-- The office of the row on permits is sound.
+use Rattle.std.proofs.Common.{◌≡◌, ℕ, zero, suc, ◌+◌, ◌<◌, ◌≤◌, Bool, true, false, not, ◌&&◌, List, [], ◌∷◌, length, map, Some, refl, sym, ap, subst, inl, inr, arith}
+use Rattle.std.specs.Prelude.{nat_eq, nat_lt, codes, decimal}
+use Rattle.std.specs.Fmt.{digits}
+use Rattle.std.specs.List.{list_all, AllByRecursion, IsDistinct}
+use Rattle.std.specs.Str.{bytes_eq}
+use Rattle.std.proofs.lemmas.Bool.{cases_Bool, cases_eq, eq-eqb, ne_eqb, ltb-true, not-true, or_left, or_right, and_parts, false≢true}
+use Rattle.std.proofs.lemmas.Fmt.{decimal_injective}
+use Rattle.std.proofs.lemmas.Int.{ints}
+use Rattle.std.proofs.lemmas.Slice.Eq.{bytes_eq-Decides}
+use Rattle.isad_core.specs.Texts.{is_blank_text}
+use Rattle.isad_core.specs.Days.{IsDayNumber}
+use Rattle.tree_core.specs.Forest.{nodes, size}
+use Rattle.catalogue_core.specs.Units.{Unit}
+use Rattle.office_core.specs.Words.{numbered}
+use Rattle.office_core.specs.State.{Reader, Permit, has_unit, is_ticket}
+use Rattle.office_core.specs.Rules.{height, is_name, most_permits}
+use Rattle.office_core.specs.Sound.{ByUnit, IsSoundDesk}
+use Rattle.office_core.specs.Soundness.{IsSomeDay, IsGoodUnit, is_same_unit, AreGoodUnits, IsSound}
+use Rattle.office_core.specs.Worked.{office, march_1, march_31, year_end, titled, units_from, permits_from, hundred_permits}
+use Rattle.office_core.proofs.Words.{put_each}
+use Rattle.office_core.proofs.Soundness.{desk_start, no_value}
+
+-- ---- units side by side
+
+all_units : (P : Unit → Type 0) (first n : ℕ) → ((k : ℕ) → first ≤ k → k < first + n → P (titled k)) → AllByRecursion P (nodes (units_from first n))
+all_units P first zero f = tt
+all_units P first (suc n) f = (f first (omega arith) (omega arith), all_units P (suc first) n (λ k l h. f k (omega arith) (omega arith)))
+
+size-units : (first n : ℕ) → size (units_from first n) ≡ n
+size-units first zero = refl
+size-units first (suc n) = (let e = size-units (suc first) n in omega (arith, e))
+
+height_units : (first n : ℕ) → height (units_from first n) ≤ 1
+height_units first zero = omega arith
+height_units first (suc n) = (let l = height_units (suc first) n in omega (arith, l))
+
+numbers_apart : (first n : ℕ) → IsDistinct nat_eq (map (λ (unit : Unit). unit.id) (nodes (units_from first n)))
+unfolding IsDistinct
+numbers_apart first zero = tt
+numbers_apart first (suc n) = (other first (suc first) n (omega arith), numbers_apart (suc first) n)
+  where
+    other : (m first n : ℕ) → m < first → AllByRecursion (λ k. nat_eq m k ≡ false) (map (λ (unit : Unit). unit.id) (nodes (units_from first n)))
+    other m first zero l = tt
+    other m first (suc n) l = (ne_eqb m first (λ e. omega (arith, e, l)), other m (suc first) n (omega arith))
+
+and_not : (x y : Bool) → y ≡ false → (x && y) ≡ false
+and_not true y h = h
+and_not false y h = refl
+
+other_text : (a b : ℕ) → a < b → b < 1000 → is_same_unit (titled a) (titled b) ≡ false
+other_text a b l h =
+    and_not (bytes_eq (codes "a") (codes "a")) (bytes_eq (decimal b) (decimal a)) (elim (cases_Bool (bytes_eq (decimal b) (decimal a))) [
+      | inl t ↦ (let e = decimal_injective b a (omega arith) (omega arith) ((bytes_eq-Decides (decimal b) (decimal a)).0 t) in absurd (omega (arith, e, l)))
+      | inr n ↦ n
+    ])
+
+texts_apart : (first n : ℕ) → first + n < 1000 → IsDistinct is_same_unit (nodes (units_from first n))
+unfolding IsDistinct
+texts_apart first zero l = tt
+texts_apart first (suc n) l =
+    (all_units (λ unit. is_same_unit (titled first) unit ≡ false) (suc first) n (λ k i h. other_text first k (omega arith) (omega arith)), texts_apart (suc first) n (omega arith))
+
+-- what is computed of each
+each_passes : {X : Type 0} (p : X → Bool) (xs : List X) → list_all p xs ≡ true → AllByRecursion (λ x. p x ≡ true) xs
+each_passes p [] h = tt
+each_passes p (x ∷ xs) h = (let r = and_parts (p x) (list_all p xs) h in (r.0, each_passes p xs r.1))
+
+has_text : Unit → Bool
+has_text unit = not (is_blank_text unit.legacy) && nat_lt (length unit.legacy) 65536
+
+texts_there : list_all has_text (nodes (units_from 1 101)) ≡ true
+unfolding has_text digits
+texts_there = refl
+
+good_unit : (k : ℕ) → has_text (titled k) ≡ true → IsGoodUnit [] (titled k)
+unfolding has_text
+good_unit k h =
+    let r = and_parts (not (is_blank_text (decimal k))) (nat_lt (length (decimal k)) 65536) h in
+    let l = ltb-true (length (decimal k)) 65536 r.1 in
+    record {
+      source = refl;
+      legacy = not-true (is_blank_text (decimal k)) r.0;
+      legacy_short = omega (arith, l);
+      level_short = omega arith;
+      texts = refl;
+      texts_count = refl;
+      known = refl;
+      apart = refl;
+    }
+
+good_units : (first n : ℕ) → AllByRecursion (λ unit. has_text unit ≡ true) (nodes (units_from first n)) → AllByRecursion (IsGoodUnit []) (nodes (units_from first n))
+good_units first zero h = tt
+good_units first (suc n) h = (good_unit first h.0, good_units (suc first) n h.1)
+
+hundred_units : AreGoodUnits hundred_permits
+hundred_units =
+    let size = size-units 1 101 in
+    let high = height_units 1 101 in
+    record {
+      each = good_units 1 101 (each_passes has_text (nodes (units_from 1 101)) texts_there);
+      ids = numbers_apart 1 101;
+      pairs = texts_apart 1 101 (omega arith);
+      given = all_units (λ unit. (1 ≤ unit.id) × (unit.id < 102)) 1 101 (λ k l h. (l, omega arith));
+      next = (omega arith, omega arith);
+      few = omega arith;
+      depth = omega arith;
+    }
+
+-- ---- permits
+
+all_permits : (P : Permit → Type 0) (first n : ℕ) → ((k : ℕ) → first ≤ k → k < first + n → P (record { unit = k; until = march_31 })) → AllByRecursion P (permits_from first n)
+all_permits P first zero f = tt
+all_permits P first (suc n) f = (f first (omega arith) (omega arith), all_permits P (suc first) n (λ k l h. f k (omega arith) (omega arith)))
+
+by_unit : (first n : ℕ) → ByUnit (permits_from first n)
+by_unit first zero = tt
+by_unit first (suc n) = (all_permits (λ permit. first < permit.unit) (suc first) n (λ k l h. omega (arith, l)), by_unit (suc first) n)
+
+length-permits : (first n : ℕ) → length (permits_from first n) ≡ n
+length-permits first zero = refl
+length-permits first (suc n) = ap suc (length-permits (suc first) n)
+
+is_there : (first n k : ℕ) → first ≤ k → k < first + n → has_unit (units_from first n) k ≡ true
+is_there first zero k l h = absurd (omega arith)
+is_there first (suc n) k l h = elim (cases_eq k first) [
+  | inl e ↦ or_left (nat_eq k first) (has_unit (units_from (suc first) n) k) (eq-eqb k first e)
+  | inr ne ↦ or_right (nat_eq k first) (has_unit (units_from (suc first) n) k) (is_there (suc first) n k (omega arith) (omega arith))
+]
+
+-- Ann's permits are as these, and no other ticket has one
+each_ticket : (P : ℕ → List Permit → Type 0) → P 1 (permits_from 1 100) → ((t : ℕ) → P t []) → (t : ℕ) → P t (hundred_permits.permits t)
+each_ticket P here there = put_each P (λ t. []) 1 (permits_from 1 100) here (λ t ne. there t)
+
+-- ---- all of it
+
+ann_alone : (t : ℕ) (reader : Reader) → numbered hundred_permits.readers t ≡ Some reader → is_name reader.name ≡ true
+ann_alone zero reader e = cc
+ann_alone (suc zero) reader e = (let ann : Reader = record { name = codes "Ann"; until = year_end } in let same : ann ≡ reader = cc in subst (λ r. is_name r.name ≡ true) same refl)
+ann_alone (suc (suc t)) reader e = cc
+
+hundred_desk : IsSoundDesk hundred_permits
+hundred_desk =
+    let old = desk_start office.settings march_1 in
+    record {
+      boxes = refl;
+      filed = record { each = old.filed.each; queues = old.filed.queues };
+      orders = record {
+        each = λ o order e. absurd (no_value o order e);
+        daily = old.orders.daily;
+        once = λ o p order other ho hp. absurd (no_value o order ho);
+        few = old.orders.few;
+      };
+      seats = record { count = refl; known = λ t h. absurd (false≢true h); once = old.seats.once };
+      places = record { holders = λ c o order e h. absurd (no_value o order h); known = λ c h. refl };
+      runs = record { each = λ n run e. absurd (no_value n run e); few = old.runs.few };
+      readers = record { names = ann_alone; few = omega arith };
+      permits = record {
+        known = each_ticket (λ t ps. is_ticket hundred_permits t ≡ false → ps ≡ []) (λ h. absurd (false≢true (sym h))) (λ t h. refl);
+        by_unit = each_ticket (λ t ps. ByUnit ps) (by_unit 1 100) (λ t. tt);
+        few = each_ticket (λ t ps. length ps ≤ most_permits) (let e = length-permits 1 100 in omega (arith, e)) (λ t. omega arith);
+      };
+    }
+
+pub hundred_sound : IsSound hundred_permits
+hundred_sound =
+    record {
+      settings = record { country = refl; repo = refl; seats = refl; daily = refl; hands = refl; run = refl };
+      days = record {
+        today = (omega (arith, ints), omega (arith, ints));
+        readers = ((omega (arith, ints), omega (arith, ints)), tt);
+        orders = tt;
+        runs = tt;
+        permits = each_ticket (λ t ps. AllByRecursion (λ permit. IsDayNumber permit.until) ps) (all_permits (λ permit. IsDayNumber permit.until) 1 100 (λ k l h. (omega (arith, ints), omega (arith, ints)))) (λ t. tt);
+        closures = all_units (λ unit. IsSomeDay unit.until) 1 101 (λ k l h. tt);
+      };
+      units = hundred_units;
+      containers = record { named = refl; few = omega arith };
+      permits = each_ticket (λ t ps. AllByRecursion (λ permit. has_unit hundred_permits.forest permit.unit ≡ true) ps) (all_permits (λ permit. has_unit hundred_permits.forest permit.unit ≡ true) 1 100 (λ k l h. is_there 1 101 k l (omega arith))) (λ t. tt);
+      desk = hundred_desk;
+    }

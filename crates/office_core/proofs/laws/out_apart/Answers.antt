@@ -1,0 +1,6 @@
+use Rattle.office_core.specs.Rules.{state_after}
+use Rattle.office_core.proofs.OrderLaws.{out_apart as apart}
+use Rattle.office_core.proofs.laws.out_apart.Goals as goal
+
+pub returns : goal.returns
+returns c = λ s commands g. apart (state_after s commands)

@@ -1,0 +1,5 @@
+use Rattle.office_core.proofs.Stays.{always_sound}
+use Rattle.office_core.proofs.laws.stays_sound.Goals as goal
+
+pub returns : goal.returns
+returns c = always_sound

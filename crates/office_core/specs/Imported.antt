@@ -1,0 +1,30 @@
+-- What an import has to keep of a state's soundness, beside the desk's and the days', and what it brings.
+use Rattle.std.specs.Prelude.{◌≡◌, ℕ, ◌+◌, true, List, Ok}
+use Rattle.isad_core.specs.Texts.{Bytes}
+use Rattle.tree_core.specs.Forest.{size}
+use Rattle.office_core.specs.declared.command.Command.TheVariants as command
+use Rattle.office_core.specs.declared.done.Done.TheVariants as done
+use Rattle.office_core.specs.declared.done.Remark.{Remark}
+use Rattle.office_core.specs.State.{State, has_unit}
+use Rattle.office_core.specs.Rules.{step}
+use Rattle.office_core.specs.Soundness.{AreGoodUnits, AreGoodContainers, ArePermitsOfUnits}
+
+-- the catalogue's own lines of soundness
+pub record IsSoundCatalogue (s : State) : Type 0 where
+  pub units : AreGoodUnits s
+  pub containers : AreGoodContainers s
+  pub permits : ArePermitsOfUnits s
+
+-- whatever file is imported from whatever source, taken or refused
+abbrev pub ImportsKeepTheCatalogue : State → Type 0
+ImportsKeepTheCatalogue s = (source file : Bytes) → IsSoundCatalogue (step s (command.Import source file)).0
+
+-- An accepted import takes no unit away, and brings as many as its reply counts as new: each unit number that was there is
+-- there, so many more units are there, and so many unit numbers are given.
+abbrev pub ImportsBringTheNew : State → Type 0
+ImportsBringTheNew s =
+    (source file : Bytes) (changed new : ℕ) (remarks : List Remark) (same translations : ℕ)
+    → (step s (command.Import source file)).1 ≡ Ok (done.Import changed new remarks same translations)
+    → ((u : ℕ) → has_unit s.forest u ≡ true → has_unit (step s (command.Import source file)).0.forest u ≡ true)
+    × (size (step s (command.Import source file)).0.forest ≡ size s.forest + new)
+    × ((step s (command.Import source file)).0.next_unit ≡ s.next_unit + new)

@@ -1,0 +1,121 @@
+-- What the rules keep.
+use Rattle.std.specs.Prelude.{◌≡◌, ◌≢◌, ℕ, zero, suc, ◌-◌, ◌<◌, ◌≤◌, Bool, true, cond, List, [], ◌∷◌, ◌++◌, length, Option, Some, None, Ok, option_map, option_to_list, ◌⊎◌}
+use Rattle.office_core.specs.Words.{numbered, stands}
+use Rattle.office_core.specs.State.{Order, End, Done, Cancelled, State, has_unit, container_of, order_out, is_by}
+use Rattle.office_core.specs.Sound.{is_out_for, IsGoodHolder}
+use Rattle.office_core.specs.declared.command.Command.{Command}
+use Rattle.office_core.specs.declared.command.Command.TheVariants as command
+use Rattle.office_core.specs.declared.done.Done.TheVariants as done
+use Rattle.office_core.specs.declared.done.Remark.{Remark}
+use Rattle.isad_core.specs.Texts.{Bytes}
+use Rattle.atom_csv.specs.FileOf.{file_of}
+use Rattle.atom_csv.specs.declared.file.File.{File}
+use Rattle.office_core.specs.Rules.{Reply, step}
+
+-- ---- orders
+
+pub data Standing : Type 0 where
+  Waiting : Standing
+  WithItsReader : Standing
+  Ended : (how : End) → Standing
+
+abbrev pub stands_as : Option ℕ → (ℕ → Bool) → (ℕ → Bool) → Option End → Option Standing
+stands_as None in_queue in_place past = None
+stands_as (Some c) in_queue in_place past =
+    cond (in_queue c) (Some Waiting) (cond (in_place c) (Some WithItsReader) (option_map Ended past))
+
+-- An order waits where it stands in its container's queue, is out where it is its container's place's,
+-- and has otherwise ended. A number that is no order stands nowhere.
+abbrev pub standing : State → ℕ → Option Standing
+standing s o = stands_as (container_of s o) (λ c. stands o (s.queue c)) (λ c. is_out_for o (s.place c)) (s.past o)
+
+-- Two orders that are out have different containers.
+abbrev pub OutApart : State → Type 0
+OutApart s = (o p : ℕ) → o ≢ p → standing s o ≡ Some WithItsReader → standing s p ≡ Some WithItsReader → container_of s o ≢ container_of s p
+
+-- What one command may do to an order: it begins to wait, goes out, is cancelled or is done.
+abbrev pub Goes : Option Standing → Option Standing → Type 0
+Goes None (Some Waiting) = Unit {0}
+Goes (Some Waiting) (Some WithItsReader) = Unit {0}
+Goes (Some Waiting) (Some (Ended Cancelled)) = Unit {0}
+Goes (Some WithItsReader) (Some (Ended Done)) = Unit {0}
+Goes _ _ = ⊥
+
+abbrev pub GoesOn : State → State → Type 0
+GoesOn s t = (o : ℕ) → (standing t o ≡ standing s o) ⊎ Goes (standing s o) (standing t o)
+
+-- The order waits for the container, and no lesser one does.
+pub record IsFirstWaiting (s : State) (c o : ℕ) : Type 0 where
+  pub waits : standing s o ≡ Some Waiting
+  pub for_it : container_of s o ≡ Some c
+  pub least : (p : ℕ) → standing s p ≡ Some Waiting → container_of s p ≡ Some c → o ≤ p
+
+-- An accepted Issue gives the first order that waits for the container. It is the ticket's, and then out.
+abbrev pub IssuesTheFirst : State → Type 0
+IssuesTheFirst s =
+    (c t o : ℕ) → (step s (command.Issue c t)).1 ≡ Ok (done.Issue o)
+    → IsFirstWaiting s c o × (is_by s t o ≡ true) × (standing (step s (command.Issue c t)).0 o ≡ Some WithItsReader)
+
+-- Each container that is out is open, on this day, to the reader of the order that it is out with.
+abbrev pub OpenToHolders : State → Type 0
+OpenToHolders s = (c o : ℕ) → order_out (s.place c) ≡ Some o → (order : Order) × (numbered s.orders o ≡ Some order) × IsGoodHolder s c order.ticket
+
+-- ---- numbers
+
+pub data Kind : Type 0 where
+  Tickets : Kind
+  Orders : Kind
+  Runs : Kind
+  Containers : Kind
+  Units : Kind
+
+-- m and those after it, n in all
+abbrev pub numbers_from : ℕ → ℕ → List ℕ
+numbers_from m zero = []
+numbers_from m (suc n) = m ∷ numbers_from (suc m) n
+
+abbrev pub ticket_given : Command → Reply → Option ℕ
+ticket_given (command.Register name until) (Ok (done.Register t)) = Some t
+ticket_given _ _ = None
+
+abbrev pub order_given : Command → Reply → Option ℕ
+order_given (command.Order t c) (Ok (done.Order o)) = Some o
+order_given _ _ = None
+
+abbrev pub run_given : Command → Reply → Option ℕ
+run_given command.Run (Ok (done.Run n taken)) = Some n
+run_given _ _ = None
+
+-- the numbers of a kind that a command gives: those of the reply, and those that containers and units get
+abbrev pub given : Kind → State → Command → List ℕ
+given Tickets s asked = option_to_list (ticket_given asked (step s asked).1)
+given Orders s asked = option_to_list (order_given asked (step s asked).1)
+given Runs s asked = option_to_list (run_given asked (step s asked).1)
+given Containers s asked = numbers_from (suc (length s.boxes)) (length (step s asked).0.boxes - length s.boxes)
+given Units s asked = numbers_from s.next_unit ((step s asked).0.next_unit - s.next_unit)
+
+-- the numbers of a kind that a run of commands gives, one command after another
+abbrev pub all_given : Kind → State → List Command → List ℕ
+all_given kind s [] = []
+all_given kind s (asked ∷ later) = given kind s asked ++ all_given kind (step s asked).0 later
+
+-- each unit that is there has a number that was given
+abbrev pub AreNumbered : State → Type 0
+AreNumbered s = (u : ℕ) → has_unit s.forest u ≡ true → u < s.next_unit
+
+-- a unit that comes has one of the numbers that the command gives
+abbrev pub ComesNew : State → State → Type 0
+ComesNew s t = (u : ℕ) → has_unit t.forest u ≡ true → (has_unit s.forest u ≡ true) ⊎ ((s.next_unit ≤ u) × (u < t.next_unit))
+
+-- ---- an import that is done again
+
+-- An accepted import that is done again at once changes nothing. Its reply counts every row as one that left its unit as it
+-- was, with the same remarks and translations.
+abbrev pub ImportsAgain : State → Type 0
+ImportsAgain s =
+    (source file : Bytes) (changed new : ℕ) (remarks : List Remark) (same translations : ℕ)
+    → (step s (command.Import source file)).1 ≡ Ok (done.Import changed new remarks same translations)
+    → (read : File)
+    × (file_of file ≡ Ok read)
+    × (step (step s (command.Import source file)).0 (command.Import source file)
+    ≡ ((step s (command.Import source file)).0, Ok (done.Import 0 0 remarks (length read.rows) translations)))

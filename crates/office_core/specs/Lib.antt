@@ -1,0 +1,15 @@
+pub mod Worked
+pub mod Rows
+pub mod Words
+pub mod State
+pub mod Intake
+pub mod Rules
+pub mod Sound
+pub mod Laws
+pub mod Json
+pub mod Pages
+pub mod Queries
+pub mod AnswerRows
+pub mod Secrecy
+pub mod Soundness
+pub mod Imported

@@ -1,0 +1,334 @@
+-- The rules of the office: what each command asks for, in order, what it does, and what is told of it.
+use Rattle.std.specs.Prelude.{option_map, ℕ, ℤ, int_lt, zero, suc, ◌+◌, Bool, true, false, not, ◌&&◌, ◌||◌, cond, List, [], ◌∷◌, ◌++◌, length, filter, replicate, Option, Some, None, Result, Ok, Err, unwrap_or, is_some, nat_eq, nat_lt, nat_le, max}
+use Rattle.std.specs.List.{list_any, list_all}
+use Rattle.isad_core.specs.Texts.{Bytes, is_blank_text}
+use Rattle.tree_core.specs.Forest.{Forest, Empty, Node, each, path, tree, branch, cut, move_last, has_place}
+use Rattle.desk_core.specs.Checks.{order_checks, issue_checks, take_seat_checks, leave_seat_checks}
+use Rattle.desk_core.specs.Refusals.{Check, when, unless, first_that_holds}
+use Rattle.desk_core.specs.declared.reader.Place.{Place}
+use Rattle.desk_core.specs.declared.reader.Place.TheVariants.{Shelf, Desk, Out}
+use Rattle.desk_core.specs.declared.refusal.Refusal.{Refusal}
+use Rattle.desk_core.specs.declared.refusal.Refusal.TheVariants.{UnknownUnit, UnknownTicket, UnknownContainer, UnknownOrder, OrderNotWaiting, NotIssued, DayNotLater, StillIssued, IntoItself, WithReader, Full, NothingToMove, TooDeep, BadName, NoPermit}
+use Rattle.catalogue_core.specs.Units.{Unit, has_id}
+use Rattle.catalogue_core.specs.Merging.{Catalogue}
+use Rattle.office_core.specs.declared.command.Command.{Command}
+use Rattle.office_core.specs.declared.command.Command.TheVariants as command
+use Rattle.office_core.specs.declared.done.Done.{Done}
+use Rattle.office_core.specs.declared.done.Done.TheVariants as done
+use Rattle.office_core.specs.Words.{numbered, put, some_and, first_that, first, is_empty, stands, without}
+use Rattle.office_core.specs.State.{Reader, State, has_unit, is_ticket, is_expired, is_seated, seat_of, free_seat, sit, rise, containers, is_container, opens, container_of, is_by, order_out, is_desk, is_out, held, waits, has_ordered, placed, picked, next_run, brings, idle, has_permit, granted, revoked, granted_until}
+use Rattle.office_core.specs.State as state
+use Rattle.office_core.specs.Intake.{Taken, take, bad_file, too_much, told_of}
+
+-- ---- names
+
+-- a reader's name: 1 to 100 bytes, not blank, without control characters
+abbrev pub is_name : Bytes → Bool
+is_name name =
+    nat_le 1 (length name) && (nat_le (length name) 100
+    && (not (is_blank_text name) && list_all (λ b. nat_le 32 b && not (nat_eq b 127)) name))
+
+abbrev pub is_between : ℕ → ℕ → ℕ → Bool
+is_between low high b = nat_le low b && nat_le b high
+
+-- an ASCII letter, a digit, a dot, a low line or a hyphen
+abbrev pub is_source_letter : ℕ → Bool
+is_source_letter b =
+    is_between 65 90 b || (is_between 97 122 b || (is_between 48 57 b || (nat_eq b 46 || (nat_eq b 95 || nat_eq b 45))))
+
+-- the name of a source: 1 to 64 of these
+abbrev pub is_source : Bytes → Bool
+is_source source = nat_le 1 (length source) && (nat_le (length source) 64 && list_all is_source_letter source)
+
+-- ---- the gate
+
+-- out, and not open to the reader who has it
+abbrev pub is_kept_from_holder : State → ℕ → Bool
+is_kept_from_holder s c =
+    some_and (λ o. some_and (λ order. not (opens s order.ticket c)) (numbered s.orders o)) (order_out (s.place c))
+
+-- the lowest container that is out and not open to the reader who has it
+abbrev pub kept : State → Option ℕ
+kept s = first_that (is_kept_from_holder s) (containers s)
+
+-- After a change of the catalogue, or a permit that is revoked, nothing that is out may be withheld from
+-- the reader who has it.
+abbrev pub gate : State → Check
+gate s = option_map WithReader (kept s)
+
+-- ---- changes of the catalogue
+
+-- the unit, or with `whole` each unit of its branch
+abbrev pub is_chosen : Bool → ℕ → Forest Unit → Unit → Bool
+is_chosen true u f unit = list_any (has_id unit.id) (branch (has_id u) f)
+is_chosen false u f unit = has_id u unit
+
+abbrev pub with_status : Bool → Bool → ℕ → Forest Unit → Forest Unit
+with_status draft whole u f = each (λ (unit : Unit). cond (is_chosen whole u f unit) (record unit { draft = draft }) unit) f
+
+abbrev pub with_closure : Option ℤ → ℕ → Forest Unit → Forest Unit
+with_closure until u f = each (λ (unit : Unit). cond (has_id u unit) (record unit { until = until }) unit) f
+
+-- how many units are set
+abbrev pub chosen : Bool → ℕ → Forest Unit → ℕ
+chosen true u f = length (branch (has_id u) f)
+chosen false u f = 1
+
+-- the parent is the unit itself, or lies below it; the place above the tops does not
+abbrev pub is_into_itself : ℕ → Option ℕ → Forest Unit → Bool
+is_into_itself u parent f = some_and (λ p. list_any (has_id p) (branch (has_id u) f)) parent
+
+-- how many units stand above one another
+abbrev pub height : Forest Unit → ℕ
+height Empty = 0
+height (Node unit children others) = max (1 + height children) (height others)
+
+-- how deep a unit lies: 1 for a top, and 0 for the place above the tops
+abbrev pub depth : Option ℕ → Forest Unit → ℕ
+depth None f = 0
+depth (Some u) f = length (path (has_id u) f)
+
+-- how deep the lowest unit of a branch would lie below the parent
+abbrev pub depth_after : ℕ → Option ℕ → Forest Unit → ℕ
+depth_after u parent f = depth parent f + height (tree (has_id u) f)
+
+abbrev pub most_deep : ℕ
+most_deep = 64
+
+-- ---- what a command does where no check holds
+
+abbrev pub opened : State → ℤ → State
+opened s day = record s { day = day; seats = replicate s.settings.seats None }
+
+-- permits go with the units that are removed
+abbrev pub removed : State → ℕ → State
+removed s u =
+    record s {
+      forest = cut (has_id u) s.forest;
+      permits = λ t. filter (λ permit. has_unit (cut (has_id u) s.forest) permit.unit) (s.permits t);
+    }
+
+abbrev pub renewed : ℤ → List Reader → ℕ → List Reader
+renewed until readers zero = readers
+renewed until [] (suc n) = []
+renewed until (r ∷ rs) (suc zero) = record r { until = until } ∷ rs
+renewed until (r ∷ rs) (suc (suc n)) = r ∷ renewed until rs (suc n)
+
+abbrev pub ordered : State → ℕ → ℕ → State
+ordered s t c =
+    record s {
+      orders = s.orders ++ record { ticket = t; container = c; day = s.day } ∷ [];
+      queue = put s.queue c (s.queue c ++ suc (length s.orders) ∷ []);
+    }
+
+abbrev pub cancelled : State → ℕ → Option ℕ → State
+cancelled s o None = s
+cancelled s o (Some c) =
+    record s { queue = put s.queue c (without o (s.queue c)); past = put s.past o (Some state.Cancelled) }
+
+abbrev pub fetched : State → State
+fetched s = record s { place = λ c. cond (brings (next_run s) c) Desk (s.place c); runs = s.runs ++ next_run s ∷ [] }
+
+abbrev pub reshelved : State → State
+reshelved s = record s { place = λ c. cond (stands c (idle s)) Shelf (s.place c) }
+
+-- the first order is out
+abbrev pub issued : State → ℕ → List ℕ → State
+issued s c [] = s
+issued s c (o ∷ os) = record s { queue = put s.queue c os; place = put s.place c (Out o) }
+
+abbrev pub returned : State → ℕ → Place → State
+returned s c Shelf = s
+returned s c Desk = s
+returned s c (Out o) = record s { place = put s.place c Desk; past = put s.past o (Some state.Done) }
+
+-- ---- an import
+
+abbrev pub catalogue : State → Catalogue
+catalogue s = record { forest = s.forest; containers = s.boxes; next = s.next_unit }
+
+-- what a file from a source makes of the catalogue, or its first faulty row
+abbrev pub taken : State → Bytes → Bytes → Taken
+taken s source file = take (catalogue s) source file
+
+abbrev pub imported : State → Taken → State
+imported s (Ok intake) =
+    record s {
+      forest = intake.catalogue.forest;
+      boxes = intake.catalogue.containers;
+      next_unit = intake.catalogue.next;
+    }
+imported s (Err fault) = s
+
+-- ---- what a command does
+
+abbrev pub after : State → Command → State
+after s (command.OpenDay day) = opened s day
+after s (command.Import source file) = imported s (taken s source file)
+after s (command.SetStatus u draft whole) = record s { forest = with_status draft whole u s.forest }
+after s (command.SetClosure u until) = record s { forest = with_closure until u s.forest }
+after s (command.Move u parent) = record s { forest = move_last has_id u parent s.forest }
+after s (command.Remove u) = removed s u
+after s (command.Register name until) = record s { readers = s.readers ++ record { name = name; until = until } ∷ [] }
+after s (command.Renew t until) = record s { readers = renewed until s.readers t }
+after s (command.TakeSeat t) = record s { seats = sit t s.seats }
+after s (command.LeaveSeat t) = record s { seats = rise t s.seats }
+after s (command.Order t c) = ordered s t c
+after s (command.Cancel o) = cancelled s o (container_of s o)
+after s command.Run = fetched s
+after s command.Reshelve = reshelved s
+after s (command.Issue c t) = issued s c (s.queue c)
+after s (command.Return c) = returned s c (s.place c)
+after s (command.Permit t u until) = record s { permits = put s.permits t (granted u until (s.permits t)) }
+after s (command.Revoke t u) = record s { permits = put s.permits t (revoked u (s.permits t)) }
+
+-- ---- what a command asks for, in order
+
+abbrev pub most_tickets : ℕ
+most_tickets = 1000000
+
+abbrev pub most_runs : ℕ
+most_runs = 1000000
+
+-- of one ticket
+abbrev pub most_permits : ℕ
+most_permits = 100
+
+abbrev pub checks : State → Command → List Check
+checks s (command.OpenDay day) =
+    unless (int_lt s.day day) DayNotLater
+    ∷ when (list_any (is_out s) (containers s)) StillIssued
+    ∷ []
+checks s (command.Import source file) =
+    unless (is_source source) BadName
+    ∷ bad_file (taken s source file)
+    ∷ too_much (taken s source file)
+    ∷ gate (after s (command.Import source file))
+    ∷ []
+checks s (command.SetStatus u draft whole) =
+    unless (has_unit s.forest u) UnknownUnit
+    ∷ gate (after s (command.SetStatus u draft whole))
+    ∷ []
+checks s (command.SetClosure u until) =
+    unless (has_unit s.forest u) UnknownUnit
+    ∷ gate (after s (command.SetClosure u until))
+    ∷ []
+checks s (command.Move u parent) =
+    unless (has_unit s.forest u) UnknownUnit
+    ∷ unless (has_place has_id parent s.forest) UnknownUnit
+    ∷ when (is_into_itself u parent s.forest) IntoItself
+    ∷ when (nat_lt most_deep (depth_after u parent s.forest)) TooDeep
+    ∷ gate (after s (command.Move u parent))
+    ∷ []
+checks s (command.Remove u) =
+    unless (has_unit s.forest u) UnknownUnit
+    ∷ gate (after s (command.Remove u))
+    ∷ []
+checks s (command.Register name until) =
+    unless (is_name name) BadName
+    ∷ when (nat_le most_tickets (length s.readers)) Full
+    ∷ []
+checks s (command.Renew t until) = unless (is_ticket s t) UnknownTicket ∷ []
+checks s (command.TakeSeat t) =
+    take_seat_checks
+    (record {
+      known = is_ticket s t;
+      expired = is_expired s t;
+      seated = is_seated s t;
+      free = free_seat s;
+    })
+checks s (command.LeaveSeat t) =
+    leave_seat_checks (record { known = is_ticket s t; seated = is_seated s t; held = held s t })
+checks s (command.Order t c) =
+    order_checks
+    (record {
+      known = is_ticket s t;
+      expired = is_expired s t;
+      available = opens s t c;
+      ordered = has_ordered s t c;
+      placed = placed s t s.day;
+      daily = s.settings.daily;
+      orders = length s.orders;
+    })
+checks s (command.Cancel o) =
+    unless (is_some (container_of s o)) UnknownOrder
+    ∷ unless (waits s o) OrderNotWaiting
+    ∷ []
+checks s command.Run =
+    when (is_empty (picked s)) NothingToMove
+    ∷ when (nat_le most_runs (length s.runs)) Full
+    ∷ []
+checks s command.Reshelve = when (is_empty (idle s)) NothingToMove ∷ []
+checks s (command.Issue c t) =
+    issue_checks
+    (record {
+      known = is_container s c;
+      at_desk = is_desk (s.place c);
+      first = some_and (is_by s t) (first (s.queue c));
+      expired = is_expired s t;
+      seated = is_seated s t;
+      held = held s t;
+      hands = s.settings.hands;
+      available = opens s t c;
+    })
+checks s (command.Return c) =
+    unless (is_container s c) UnknownContainer
+    ∷ unless (is_out s c) NotIssued
+    ∷ []
+checks s (command.Permit t u until) =
+    unless (is_ticket s t) UnknownTicket
+    ∷ unless (has_unit s.forest u) UnknownUnit
+    ∷ when (not (has_permit s t u) && nat_le most_permits (length (s.permits t))) Full
+    ∷ []
+checks s (command.Revoke t u) =
+    unless (is_ticket s t) UnknownTicket
+    ∷ unless (has_unit s.forest u) UnknownUnit
+    ∷ unless (has_permit s t u) NoPermit
+    ∷ gate (after s (command.Revoke t u))
+    ∷ []
+
+-- ---- what is told where no check holds
+
+abbrev pub told : State → Command → Done
+told s (command.OpenDay day) = done.OpenDay day
+told s (command.Import source file) = told_of s.forest source (taken s source file)
+told s (command.SetStatus u draft whole) = done.SetStatus (chosen whole u s.forest)
+told s (command.SetClosure u until) = done.SetClosure u
+told s (command.Move u parent) = done.Move u
+told s (command.Remove u) = done.Remove (length (branch (has_id u) s.forest))
+told s (command.Register name until) = done.Register (suc (length s.readers))
+told s (command.Renew t until) = done.Renew t
+told s (command.TakeSeat t) = done.TakeSeat (unwrap_or (free_seat s) 0)
+told s (command.LeaveSeat t) = done.LeaveSeat (unwrap_or (seat_of s t) 0)
+told s (command.Order t c) = done.Order (suc (length s.orders))
+told s (command.Cancel o) = done.Cancel o
+told s command.Run = done.Run (suc (length s.runs)) (length (picked s))
+told s command.Reshelve = done.Reshelve (idle s)
+told s (command.Issue c t) = done.Issue (unwrap_or (first (s.queue c)) 0)
+told s (command.Return c) = done.Return (unwrap_or (order_out (s.place c)) 0)
+told s (command.Permit t u until) = done.Permit t u (granted_until u until (s.permits t))
+told s (command.Revoke t u) = done.Revoke u
+
+-- ---- one step: the first check that holds refuses the command, and nothing changes
+
+abbrev pub refusal : State → Command → Option Refusal
+refusal s asked = first_that_holds (checks s asked)
+
+abbrev pub Reply : Type 0
+Reply = Result Done Refusal
+
+abbrev pub decided : Option Refusal → State → State → Done → State × Reply
+decided (Some why) old new done = (old, Err why)
+decided None old new done = (new, Ok done)
+
+abbrev pub step : State → Command → State × Reply
+step s asked = decided (refusal s asked) s (after s asked) (told s asked)
+
+-- the state after a list of commands, and the replies to them
+abbrev pub state_after : State → List Command → State
+state_after s [] = s
+state_after s (asked ∷ later) = state_after (step s asked).0 later
+
+abbrev pub replies : State → List Command → List Reply
+replies s [] = []
+replies s (asked ∷ later) = (step s asked).1 ∷ replies (step s asked).0 later

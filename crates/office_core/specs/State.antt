@@ -1,0 +1,233 @@
+-- The state of the office: its catalogue and its reading room.
+use Rattle.std.specs.Prelude.{ℕ, ℤ, int_lt, int_le, Bool, true, false, not, ◌&&◌, ◌||◌, cond, List, [], ◌∷◌, length, map, take, filter, filter_map, replicate, count_by, Option, Some, None, option_map, is_some, is_none, nat_eq, nat_lt}
+use Rattle.std.specs.Ordering.{int_eq}
+use Rattle.std.specs.List.{list_any}
+use Rattle.isad_core.specs.Texts.{Bytes}
+use Rattle.isad_core.specs.declared.values.BoxKey.{BoxKey}
+use Rattle.tree_core.specs.Forest.{Forest, Empty, has}
+use Rattle.desk_core.specs.declared.reader.Place.{Place}
+use Rattle.desk_core.specs.declared.reader.Place.TheVariants.{Shelf, Desk, Out}
+use Rattle.catalogue_core.specs.Units.{Unit, has_id}
+use Rattle.catalogue_core.specs.Housing.{is_open}
+use Rattle.office_core.specs.Words.{numbered, numbers_to, some_and, place_of, first, is_empty, stands}
+
+pub record Settings : Type 0 where
+  pub country : Bytes
+  pub repo : Bytes
+  pub seats : ℕ  -- how many seats there are
+  pub daily : ℕ  -- how many orders a ticket may place in a day
+  pub hands : ℕ  -- how many containers may be out with a ticket
+  pub run : ℕ  -- how many containers a run takes
+
+pub record Reader : Type 0 where
+  pub name : Bytes
+  pub until : ℤ  -- the last day of the ticket
+
+pub record Order : Type 0 where
+  pub ticket : ℕ
+  pub container : ℕ
+  pub day : ℤ  -- when it was placed
+
+-- what a run brings: a container, for its first order, which is of that ticket
+pub record Line : Type 0 where
+  pub container : ℕ
+  pub order : ℕ
+  pub ticket : ℕ
+
+pub record Run : Type 0 where
+  pub day : ℤ
+  pub lines : List Line
+
+-- how an order ended
+pub data End : Type 0 where
+  Done : End
+  Cancelled : End
+
+-- a permit for a unit, to a day inclusive
+pub record Permit : Type 0 where
+  pub unit : ℕ
+  pub until : ℤ
+
+pub record State : Type 0 where
+  pub settings : Settings
+  pub day : ℤ
+  -- the catalogue
+  pub next_unit : ℕ
+  pub forest : Forest Unit
+  pub boxes : List BoxKey  -- container n is the n-th
+  -- the desk
+  pub readers : List Reader  -- ticket n is the n-th
+  pub seats : List (Option ℕ)  -- who sits on seat n
+  pub orders : List Order  -- order n is the n-th
+  pub runs : List Run  -- run n is the n-th
+  pub place : ℕ → Place  -- where each container is
+  pub queue : ℕ → List ℕ  -- of each container: the orders that wait for it
+  pub past : ℕ → Option End  -- of each order that waits no more and is not out
+  pub permits : ℕ → List Permit  -- of each ticket, by unit
+
+-- a new office has nothing but its settings and its day
+abbrev pub start : Settings → ℤ → State
+start settings day =
+    record {
+      settings = settings;
+      day = day;
+      next_unit = 1;
+      forest = Empty;
+      boxes = [];
+      readers = [];
+      seats = replicate settings.seats None;
+      orders = [];
+      runs = [];
+      place = λ c. Shelf;
+      queue = λ c. [];
+      past = λ o. None;
+      permits = λ t. [];
+    }
+
+-- ---- units
+
+abbrev pub has_unit : Forest Unit → ℕ → Bool
+has_unit f u = has (has_id u) f
+
+-- ---- readers and seats
+
+abbrev pub is_ticket : State → ℕ → Bool
+is_ticket s t = is_some (numbered s.readers t)
+
+-- the ticket's last day is before today
+abbrev pub is_expired : State → ℕ → Bool
+is_expired s t = some_and (λ reader. int_lt reader.until s.day) (numbered s.readers t)
+
+abbrev pub is_seat_of : ℕ → Option ℕ → Bool
+is_seat_of t seat = some_and (nat_eq t) seat
+
+abbrev pub is_seated : State → ℕ → Bool
+is_seated s t = list_any (is_seat_of t) s.seats
+
+abbrev pub seat_of : State → ℕ → Option ℕ
+seat_of s t = place_of (is_seat_of t) s.seats
+
+-- the least seat that nobody sits on
+abbrev pub free_seat : State → Option ℕ
+free_seat s = place_of is_none s.seats
+
+-- the ticket takes the least free seat
+abbrev pub sit : ℕ → List (Option ℕ) → List (Option ℕ)
+sit t [] = []
+sit t (None ∷ seats) = Some t ∷ seats
+sit t (Some u ∷ seats) = Some u ∷ sit t seats
+
+-- the ticket's seat is free
+abbrev pub rise : ℕ → List (Option ℕ) → List (Option ℕ)
+rise t seats = map (λ seat. cond (is_seat_of t seat) None seat) seats
+
+-- ---- containers and orders
+
+abbrev pub containers : State → List ℕ
+containers s = numbers_to (length s.boxes)
+
+abbrev pub is_container : State → ℕ → Bool
+is_container s c = is_some (numbered s.boxes c)
+
+-- one of these permits is for that unit and valid on that day
+abbrev pub is_permitted : ℤ → List Permit → ℕ → Bool
+is_permitted day permits u = list_any (λ permit. nat_eq permit.unit u && int_le day permit.until) permits
+
+-- the container is known, and open today to the reader with this ticket
+abbrev pub opens : State → ℕ → ℕ → Bool
+opens s t c = some_and (λ box. is_open s.forest box (is_permitted s.day (s.permits t)) s.day) (numbered s.boxes c)
+
+abbrev pub container_of : State → ℕ → Option ℕ
+container_of s o = option_map (λ order. order.container) (numbered s.orders o)
+
+abbrev pub is_by : State → ℕ → ℕ → Bool
+is_by s t o = some_and (λ order. nat_eq order.ticket t) (numbered s.orders o)
+
+-- the order that a container is out with
+abbrev pub order_out : Place → Option ℕ
+order_out Shelf = None
+order_out Desk = None
+order_out (Out o) = Some o
+
+abbrev pub is_shelf : Place → Bool
+is_shelf Shelf = true
+is_shelf Desk = false
+is_shelf (Out o) = false
+
+abbrev pub is_desk : Place → Bool
+is_desk Shelf = false
+is_desk Desk = true
+is_desk (Out o) = false
+
+abbrev pub is_out : State → ℕ → Bool
+is_out s c = is_some (order_out (s.place c))
+
+abbrev pub is_out_with : State → ℕ → ℕ → Bool
+is_out_with s t c = some_and (is_by s t) (order_out (s.place c))
+
+-- how many containers are out with the ticket
+abbrev pub held : State → ℕ → ℕ
+held s t = count_by (is_out_with s t) (containers s)
+
+abbrev pub waits : State → ℕ → Bool
+waits s o = some_and (λ c. stands o (s.queue c)) (container_of s o)
+
+-- an order of this ticket for the container waits or is out
+abbrev pub has_ordered : State → ℕ → ℕ → Bool
+has_ordered s t c = list_any (is_by s t) (s.queue c) || is_out_with s t c
+
+-- how many orders the ticket placed on a day, cancelled ones too
+abbrev pub placed : State → ℕ → ℤ → ℕ
+placed s t day = count_by (λ order. nat_eq order.ticket t && int_eq order.day day) s.orders
+
+-- ---- runs
+
+-- the order is the first for its container, which is on the shelf and open to the order's ticket
+abbrev pub is_due : State → ℕ → Bool
+is_due s o =
+    some_and
+    (λ order. some_and (nat_eq o) (first (s.queue order.container))
+    && (is_shelf (s.place order.container) && opens s order.ticket order.container))
+    (numbered s.orders o)
+
+-- the least orders that are due, as many as a run takes
+abbrev pub picked : State → List ℕ
+picked s = take s.settings.run (filter (is_due s) (numbers_to (length s.orders)))
+
+abbrev pub line_for : State → ℕ → Option Line
+line_for s o =
+    option_map (λ order. record { container = order.container; order = o; ticket = order.ticket }) (numbered s.orders o)
+
+abbrev pub next_run : State → Run
+next_run s = record { day = s.day; lines = filter_map (line_for s) (picked s) }
+
+abbrev pub brings : Run → ℕ → Bool
+brings run c = list_any (λ line. nat_eq line.container c) run.lines
+
+-- the containers at the desk that nobody waits for
+abbrev pub is_idle : State → ℕ → Bool
+is_idle s c = is_desk (s.place c) && is_empty (s.queue c)
+
+abbrev pub idle : State → List ℕ
+idle s = filter (is_idle s) (containers s)
+
+-- ---- permits
+
+abbrev pub has_permit : State → ℕ → ℕ → Bool
+has_permit s t u = list_any (λ permit. nat_eq permit.unit u) (s.permits t)
+
+-- the later day for a unit that has one, otherwise a new permit at its place by unit
+abbrev pub granted : ℕ → ℤ → List Permit → List Permit
+granted u day [] = record { unit = u; until = day } ∷ []
+granted u day (p ∷ ps) =
+    cond (nat_eq p.unit u) (record { unit = u; until = cond (int_lt p.until day) day p.until } ∷ ps)
+    (cond (nat_lt u p.unit) (record { unit = u; until = day } ∷ (p ∷ ps)) (p ∷ granted u day ps))
+
+abbrev pub revoked : ℕ → List Permit → List Permit
+revoked u permits = filter (λ permit. not (nat_eq permit.unit u)) permits
+
+-- the last day of the permit that stands for the unit, once it is granted to that day
+abbrev pub granted_until : ℕ → ℤ → List Permit → ℤ
+granted_until u day [] = day
+granted_until u day (p ∷ ps) =
+    cond (nat_eq p.unit u) (cond (int_lt p.until day) day p.until) (granted_until u day ps)

@@ -1,0 +1,182 @@
+-- A small office, worked by hand: two seats, three orders a day, one container in hand, runs of two.
+use Rattle.std.specs.Prelude.{◌≡◌, ◌++◌, ℕ, zero, suc, ℤ, pos, true, false, List, [], ◌∷◌, Some, None, Ok, Err, codes, decimal, replicate}
+use Rattle.isad_core.specs.Texts.{Bytes}
+use Rattle.tree_core.specs.Forest.{Forest, Empty, Node}
+use Rattle.desk_core.specs.declared.refusal.Refusal.{Refusal}
+use Rattle.catalogue_core.specs.Units.{Unit}
+use Rattle.office_core.specs.declared.command.Command.{Command}
+use Rattle.office_core.specs.declared.command.Command.TheVariants as command
+use Rattle.office_core.specs.declared.done.Done.TheVariants as done
+use Rattle.office_core.specs.declared.done.Remark.{Remark}
+use Rattle.office_core.specs.Words.{put}
+use Rattle.office_core.specs.State.{State, Permit, start}
+use Rattle.office_core.specs.Rules.{Reply, replies}
+
+-- ---- days
+
+abbrev pub february_1 : ℤ
+february_1 = pos 19754
+
+abbrev pub march_1 : ℤ
+march_1 = pos 19783
+
+abbrev pub march_2 : ℤ
+march_2 = pos 19784
+
+abbrev pub march_31 : ℤ
+march_31 = pos 19813
+
+abbrev pub april_1 : ℤ
+april_1 = pos 19814
+
+abbrev pub year_end : ℤ
+year_end = pos 20088
+
+abbrev pub year_2030 : ℤ
+year_2030 = pos 21915
+
+-- ---- the office, on 1 March 2024
+
+abbrev pub office : State
+office = start (record { country = codes "GB"; repo = codes "0999"; seats = 2; daily = 3; hands = 1; run = 2 }) march_1
+
+-- the replies to these commands, from the new office on
+abbrev pub Answers : List Command → List Reply → Type 0
+Answers asked told = replies office asked ≡ told
+
+-- ---- commands
+
+abbrev pub import : Bytes → Command
+import file = command.Import (codes "a") file
+
+abbrev pub ann : Command
+ann = command.Register (codes "Ann") year_end
+
+abbrev pub bob : Command
+bob = command.Register (codes "Bob") year_end
+
+abbrev pub publish : ℕ → Command
+publish unit = command.SetStatus unit false false
+
+abbrev pub draft : ℕ → Command
+draft unit = command.SetStatus unit true false
+
+abbrev pub close : ℕ → ℤ → Command
+close unit until = command.SetClosure unit (Some until)
+
+-- ---- replies
+
+abbrev pub order : ℕ → Reply
+order o = Ok (done.Order o)
+
+abbrev pub issued : ℕ → Reply
+issued o = Ok (done.Issue o)
+
+abbrev pub refused : Refusal → Reply
+refused why = Err why
+
+-- rows that changed a unit, made one, left one as it was, and translated one
+abbrev pub rows : (changed new same translations : ℕ) → List Remark → Reply
+rows changed new same translations remarks = Ok (done.Import changed new remarks same translations)
+
+-- ---- files
+
+-- a fonds and its series
+abbrev pub docks : Bytes
+docks =
+    codes "legacyId,parentId,identifier,title,levelOfDescription,publicationStatus\n1,,HUL,Hull Dock Company,Fonds,Published\n2,1,1,Minutes,Series,Published\n"
+
+-- four units, each in a container of its own
+abbrev pub boxes : Bytes
+boxes =
+    codes "legacyId,identifier,title,publicationStatus,physicalObjectName,physicalObjectLocation\n1,A,Plans,Published,Box 1,Strongroom 2\n2,B,Minutes,Published,Box 2,Strongroom 1\n3,C,Maps,Published,Box 3,Strongroom 1\n4,D,Deeds,Published,Box 4,Strongroom 1\n"
+
+-- the same, with the second in another container
+abbrev pub boxes_with_9 : Bytes
+boxes_with_9 =
+    codes "legacyId,identifier,title,publicationStatus,physicalObjectName,physicalObjectLocation\n1,A,Plans,Published,Box 1,Strongroom 2\n2,B,Minutes,Published,Box 9,Strongroom 1\n3,C,Maps,Published,Box 3,Strongroom 1\n4,D,Deeds,Published,Box 4,Strongroom 1\n"
+
+-- the same, with the second a draft
+abbrev pub boxes_with_draft : Bytes
+boxes_with_draft =
+    codes "legacyId,identifier,title,publicationStatus,physicalObjectName,physicalObjectLocation\n1,A,Plans,Published,Box 1,Strongroom 2\n2,B,Minutes,Draft,Box 2,Strongroom 1\n3,C,Maps,Published,Box 3,Strongroom 1\n4,D,Deeds,Published,Box 4,Strongroom 1\n"
+
+-- a unit in a container, and one below it that lies there too
+abbrev pub lock_gates : Bytes
+lock_gates =
+    codes "legacyId,parentId,identifier,title,publicationStatus,physicalObjectName\n1,,P,Plans,Published,Box 1\n2,1,1,Lock gates,Published,\n"
+
+-- the same, with the lower one in a container of its own
+abbrev pub lock_gates_apart : Bytes
+lock_gates_apart =
+    codes "legacyId,parentId,identifier,title,publicationStatus,physicalObjectName\n1,,P,Plans,Published,Box 1\n2,1,1,Lock gates,Published,Box 2\n"
+
+-- a parent that comes later
+abbrev pub parent_later : Bytes
+parent_later = codes "legacyId,parentId,title\n1,,Top\n3,2,Low\n2,1,Mid\n"
+
+-- a unit in English and in French
+abbrev pub translated : Bytes
+translated = codes "legacyId,culture,title\n1,en,Minutes\n1,fr,Registres\n"
+
+abbrev pub told_twice : Bytes
+told_twice = codes "legacyId,title\n1,Minutes\n1,Registres\n"
+
+-- a fonds with a creator, a series, a sub-series and a file
+abbrev pub smith : Bytes
+smith =
+    codes "legacyId,parentId,identifier,title,levelOfDescription,publicationStatus,eventActors\n1,,HUL,Docks,Fonds,Published,Smith\n2,1,1,Minutes,Series,Published,\n3,2,A,Board,Sub-series,Published,\n4,3,7,1901,File,Published,\n"
+
+-- a series above a fonds
+abbrev pub upside_down : Bytes
+upside_down = codes "legacyId,parentId,title,levelOfDescription\n1,,Top,Series\n2,1,Low,Fonds\n"
+
+-- units one below another, n of them: `1,` then `2,1` and so on
+abbrev pub chain_lines : ℕ → Bytes
+chain_lines zero = []
+chain_lines (suc n) = chain_lines n ++ (decimal (suc n) ++ 44 ∷ (number_or_none n ++ 10 ∷ []))
+  where
+    number_or_none : ℕ → Bytes
+    number_or_none zero = []
+    number_or_none (suc m) = decimal (suc m)
+
+abbrev pub chain : ℕ → Bytes
+chain n = codes "legacyId,parentId\n" ++ chain_lines n
+
+-- a series in a series, the higher with a scope and with conditions of access
+abbrev pub harbour : Bytes
+harbour =
+    codes "legacyId,parentId,identifier,title,levelOfDescription,publicationStatus,scopeAndContent,accessConditions\n1,,HUL,Docks,Series,Published,Ships,Open\n2,1,1,Minutes,Series,Published,,\n"
+
+-- ---- an office with 101 units, where Ann has permits for the first hundred
+
+-- a published unit with a title
+abbrev pub titled : ℕ → Unit
+titled n =
+    record {
+      id = n;
+      source = codes "a";
+      legacy = decimal n;
+      values = record { level = codes "Fonds"; texts = None ∷ Some (codes "Minutes") ∷ replicate 23 None; boxes = [] };
+      draft = false;
+      until = None;
+    }
+
+-- n units side by side, numbered from `first`
+abbrev pub units_from : (first n : ℕ) → Forest Unit
+units_from first zero = Empty
+units_from first (suc n) = Node (titled first) Empty (units_from (suc first) n)
+
+-- permits for n units, numbered from `first`
+abbrev pub permits_from : (first n : ℕ) → List Permit
+permits_from first zero = []
+permits_from first (suc n) = record { unit = first; until = march_31 } ∷ permits_from (suc first) n
+
+abbrev pub hundred_permits : State
+hundred_permits =
+    record office {
+      next_unit = 102;
+      forest = units_from 1 101;
+      readers = record { name = codes "Ann"; until = year_end } ∷ [];
+      permits = put office.permits 1 (permits_from 1 100);
+    }

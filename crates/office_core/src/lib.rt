@@ -1,0 +1,13 @@
+//! The machine of the office: one command, one step; its queries and its laws. No table is known here.
+#![tactic(auto)]
+
+mod command;
+mod done;
+pub mod laws;
+mod query;
+pub mod worked;
+
+pub use command::Command;
+pub use desk_core::Refusal;
+pub use done::{Done, Remark};
+pub use query::{Answer, Query};

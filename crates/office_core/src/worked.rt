@@ -1,0 +1,46 @@
+//! The rules at work in small offices, worked by hand.
+
+ghost use Rattle.office_core.specs.Rows as row;
+ghost use Rattle.office_core.specs.AnswerRows as answers;
+
+/// The commands of each row get the replies of the row.
+pub fn worked_rows()
+    ensures queue_of_two { row.QueueOfTwo }
+    ensures gate_and_day { row.GateAndDay }
+    ensures run_of_two_and_one { row.RunOfTwoAndOne }
+    ensures orders_of_a_day { row.OrdersOfADay }
+    ensures seats { row.Seats }
+    ensures expiry_and_renewal { row.ExpiryAndRenewal }
+    ensures hands_and_reshelving { row.HandsAndReshelving }
+    ensures least_orders { row.LeastOrders }
+    ensures lock_gates { row.LockGates }
+    ensures permits { row.Permits }
+    ensures permits_and_drafts { row.PermitsAndDrafts }
+    ensures import_again { row.ImportAgain }
+    ensures faulty_files { row.FaultyFiles }
+    ensures remarks { row.Remarks }
+    ensures moves { row.Moves }
+    ensures unknown { row.Unknown }
+    ensures expired_at_the_desk { row.ExpiredAtTheDesk }
+    ensures closure_ends { row.ClosureEnds }
+    ensures seats_overnight { row.SeatsOvernight }
+    ensures lowest_container { row.LowestContainer }
+    ensures head_cancelled { row.HeadCancelled }
+    ensures two_at_once { row.TwoAtOnce }
+    ensures with_reader_again { row.WithReaderAgain }
+    ensures permits_above { row.PermitsAbove }
+    ensures names_of_readers { row.NamesOfReaders }
+    ensures at_the_counter { row.AtTheCounter }
+    ensures depths { row.Depths }
+    ensures most_permits { row.MostPermits }
+    ensures placed { row.Placed }
+{}
+
+/// The answers are those of the rows, to the byte.
+pub fn worked_answers()
+    ensures aids { answers.Aids }
+    ensures pages { answers.Pages }
+    ensures statuses { answers.Statuses }
+    ensures at_the_desk { answers.AtTheDesk }
+    ensures replies { answers.Replies }
+{}

@@ -1,0 +1,31 @@
+-- A forest is what its link rows say.
+use Rattle.std.proofs.Common.{◌≡◌, ℕ, zero, suc, ◌+◌, ◌<◌, List, length, Option, Some, None, refl, ap, ◌∙◌, arith, length-append}
+use Rattle.std.proofs.lemmas.List.Sorted.{length_permutation}
+use Rattle.tree_core.specs.Forest.{Forest, Empty, Node, size}
+use Rattle.tree_core.specs.Links.{siblings, rows_below, HoldsLinks}
+use Rattle.tree_core.specs.Steps.{Fits}
+use Rattle.tree_core.specs.declared.rows.Link.{Link}
+use Rattle.tree_core.proofs.Lookups.{fits_all}
+use Rattle.office_rows.specs.Reading.{grow, linked, places_said, LinkRows}
+
+linked_fits : (fuel : ℕ) (links : List Link) (p : Option ℕ) (k : ℕ) (f : Forest ℕ) → Fits links p k f → size f < fuel → linked fuel links p k ≡ f
+linked_fits zero links p k f h l = absurd (omega (arith, l))
+linked_fits (suc fuel) links p k Empty h l = ap (λ r. grow r (λ u. linked fuel links (Some u) 1) (linked fuel links p (k + 1))) h
+linked_fits (suc fuel) links p k (Node u c o) h l =
+    ap (λ r. grow r (λ u. linked fuel links (Some u) 1) (linked fuel links p (k + 1))) h.0
+    ∙ (ap (λ below. Node u below (linked fuel links p (k + 1))) (linked_fits fuel links (Some u) 1 c h.1 (omega (arith, l)))
+    ∙ ap (λ beside. Node u c beside) (linked_fits fuel links p (k + 1) o h.2 (omega (arith, l))))
+
+length-rows : (p : Option ℕ) (k : ℕ) (f : Forest ℕ) → length (rows_below p k f) ≡ size f
+length-rows p k Empty = refl
+length-rows p k (Node u c o) =
+    let a = length-rows (Some u) 1 c in
+    let b = length-rows p (k + 1) o in
+    let e = length-append (rows_below (Some u) 1 c) (rows_below p (k + 1) o) in
+    omega (arith, a, b, e)
+
+pub links_say : (f : Forest ℕ) (links : List Link) → HoldsLinks f links → places_said (LinkRows links) ≡ f
+links_say f links h =
+    let a = length_permutation (siblings f) links h.rows in
+    let b = length-rows None 1 f in
+    linked_fits (suc (length links)) links None 1 f (fits_all f links h) (omega (arith, a, b))

@@ -1,0 +1,5 @@
+use Rattle.office_rows.proofs.DeskCausesRows.{told}
+use Rattle.office_rows.proofs.worked.worked_desk_causes.Goals as goal
+
+pub returns : goal.returns
+returns c = told

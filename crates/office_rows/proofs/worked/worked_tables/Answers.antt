@@ -1,0 +1,5 @@
+use Rattle.office_rows.proofs.ReadingRows.{read_again}
+use Rattle.office_rows.proofs.worked.worked_tables.Goals as goal
+
+pub returns : goal.returns
+returns c = read_again

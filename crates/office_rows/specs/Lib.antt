@@ -1,0 +1,10 @@
+pub mod Causes
+pub mod Tables
+pub mod Reading
+pub mod DeskCauses
+pub mod DeskCausesRows
+pub mod DeskJudged
+pub mod ReadingRows
+pub mod CatalogueCauses
+pub mod CatalogueCausesRows
+pub mod Judged

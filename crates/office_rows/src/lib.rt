@@ -1,0 +1,6 @@
+//! What rows of an office's tables say, and each cause for which they are refused.
+#![tactic(auto)]
+
+pub mod desk_judged;
+pub mod laws;
+pub mod worked;

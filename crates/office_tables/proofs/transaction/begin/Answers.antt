@@ -1,0 +1,30 @@
+use Rattle.std.proofs.Common.{rules, Ok}
+use Rattle.sqlite.specs.Held.{state}
+use Rattle.sqlite.proofs.StateLemmas.{survives_weaker}
+use Rattle.office_tables.proofs.Errors.{stops}
+use Rattle.office_tables.proofs.Transactions.{begins, began_outside, begin_cause, begin_commits}
+use Rattle.office_tables.proofs.transaction.begin.Goals as goal
+
+pub returns-in_err-execute-clause-stopped : goal.returns-in_err-execute-clause-stopped
+returns-in_err-execute-clause-stopped g c clean =
+    let stopped = stops _ _ (state g.S.Store c.args.conn.now) (state g.S.Store c.execute.new.self) c.in_err-execute.field-0.0 (c.in_err-execute.ensures.runs clean) in
+    search (rules, stopped)
+
+pub returns-in_err-execute-clause-crash : goal.returns-in_err-execute-clause-crash
+returns-in_err-execute-clause-crash g c =
+    survives_weaker (state g.S.Store c.args.conn.now) (state g.S.Store c.execute.new.self) _ (λ _. ⊥) (λ _ db h. begin_commits (state g.S.Store c.args.conn.now) db h) c.execute.ensures.survives
+
+pub returns-clause-outside : goal.returns-clause-outside
+returns-clause-outside g c clean = began_outside (state g.S.Store c.args.conn.now) (state g.S.Store c.execute.new.self) (Ok c.in_ok-execute.field-0) (c.in_ok-execute.ensures.runs clean)
+
+pub returns-clause-begun : goal.returns-clause-begun
+returns-clause-begun g c clean = begins (state g.S.Store c.args.conn.now) (state g.S.Store c.execute.new.self) (Ok c.in_ok-execute.field-0) (c.in_ok-execute.ensures.runs clean)
+
+pub returns-clause-crash : goal.returns-clause-crash
+returns-clause-crash g c =
+    survives_weaker (state g.S.Store c.args.conn.now) (state g.S.Store c.execute.new.self) _ (λ _. ⊥) (λ _ db h. begin_commits (state g.S.Store c.args.conn.now) db h) c.execute.ensures.survives
+
+pub returns-in_err-execute-clause-faults : goal.returns-in_err-execute-clause-faults
+returns-in_err-execute-clause-faults g c clean outside =
+    let why = begin_cause (state g.S.Store c.args.conn.now) (state g.S.Store c.execute.new.self) c.in_err-execute.field-0.0 (c.in_err-execute.ensures.runs clean) outside in
+    search (rules, why)

@@ -1,0 +1,43 @@
+-- Why a call that is accepted fails.
+use Rattle.std.specs.Prelude.{◌≡◌, ◌⊎◌, ◌≤◌, false, ⊤, None}
+use Rattle.tree_core.specs.Forest.{Forest, size}
+use Rattle.sqlite_disk.specs.Disk.{MoreFaults}
+use Rattle.sqlite.specs.State.{State}
+use Rattle.sqlite.specs.declared.error.Error.{Error}
+use Rattle.sqlite.specs.declared.error.Error.TheVariants.{SqliteFailure}
+use Rattle.sqlite.specs.declared.error.ErrorCode.TheVariants as code
+use Rattle.office_tables.specs.declared.fault.StoreFault.{StoreFault}
+use Rattle.office_tables.specs.declared.fault.StoreFault.TheVariants as fault
+
+-- A growth was refused: of memory, or of the store, whose rows and row numbers have an end. Or the disk failed, or was
+-- shut by an earlier failure. Or else the statement is none for these tables.
+abbrev pub fault_of : Error → StoreFault
+fault_of (SqliteFailure code.OutOfMemory) = fault.Memory
+fault_of (SqliteFailure code.TooBig) = fault.Memory
+fault_of (SqliteFailure code.NoRowid) = fault.Memory
+fault_of (SqliteFailure code.SystemIoFailure) = fault.Disk
+fault_of (SqliteFailure code.DatabaseCorrupt) = fault.Disk
+fault_of (SqliteFailure code.DiskFull) = fault.Disk
+fault_of (SqliteFailure code.Closed) = fault.Disk
+fault_of _ = fault.Schema
+
+-- the connection sets no limit on the steps of a statement
+abbrev pub IsUnlimited : State → Type 0
+IsUnlimited s = s.step_limit ≡ None
+
+-- The cause of a fault: the disk failed in the call, or an earlier failure had shut it. Want of memory may come at any
+-- time, and the tables are never blamed.
+abbrev pub HasCause : State → State → StoreFault → Type 0
+HasCause old new fault.Memory = ⊤
+HasCause old new fault.Disk = MoreFaults old.faults new.faults ⊎ (old.is_open ≡ false)
+HasCause old new fault.Schema = ⊥
+
+-- the disk is blamed for its own failures only
+abbrev pub BlamesDisk : State → State → StoreFault → Type 0
+BlamesDisk old new fault.Memory = ⊤
+BlamesDisk old new fault.Disk = HasCause old new fault.Disk
+BlamesDisk old new fault.Schema = ⊤
+
+-- an office keeps so many units at most
+abbrev pub FitsOffice : {A : Type 0} → Forest A → Type 0
+FitsOffice f = size f ≤ 200000

@@ -1,0 +1,11 @@
+pub mod Schema
+pub mod Step
+pub mod Faults
+pub mod Transactions
+pub mod Put
+pub mod Counting
+pub mod Creation
+pub mod Order
+pub mod Tests
+pub mod Text
+pub mod Flags

@@ -1,0 +1,165 @@
+-- The tables of an office, in the order in which they are made: the desk's, the catalogue's, and that of the places.
+-- Every table is STRICT, and none has a CHECK. The table of the places is the last, so that a file that is brought
+-- from version 1 to version 2 has the very schema of one that was made in version 2.
+use Rattle.std.specs.Prelude.{ℕ, Bool, true, false, List, [], ◌∷◌, Option, Some, None, codes, map}
+use Rattle.sqlite.specs.Collation.TheVariants.{Binary}
+use Rattle.sqlite.specs.declared.types.Value.TheVariants.{Null}
+use Rattle.sqlite.specs.Table.{Table}
+use Rattle.sqlite.specs.Schema.{Schema}
+use Rattle.sqlite.specs.Kind.{Kind}
+use Rattle.sqlite.specs.Kind.TheVariants.{Integer, Text}
+use Rattle.sqlite_value.specs.Keys.{plain}
+use Rattle.sqlite_schema.specs.declared.schema.Column.{Column}
+use Rattle.sqlite_schema.specs.declared.schema.Index.{Index}
+use Rattle.sqlite_schema.specs.declared.schema.Reference.{Reference}
+use Rattle.sqlite_schema.specs.declared.schema.Action.TheVariants.{NoAction, Cascade}
+use Rattle.sqlite_catalog.specs.Listing.{automatic}
+pub use Rattle.tree_core.specs.Versions.{Version, Links, Spans}
+
+-- a column in the BINARY collation and with no default
+abbrev pub column : List ℕ → Kind → Bool → Column
+column name kind not_null = record { name = name; kind = kind; is_strict = true; not_null = not_null; default = Null; collation = Binary }
+
+abbrev pub number : List ℕ → Column
+number name = column name Integer true
+
+abbrev pub words : List ℕ → Column
+words name = column name Text true
+
+abbrev pub nullable : List ℕ → Column
+nullable name = column name Integer false
+
+abbrev pub table : List ℕ → ℕ → Option ℕ → List Column → List ℕ → List (List ℕ) → List Reference → Table
+table name tree key columns primary uniques references = record {
+  name = name;
+  tree = tree;
+  columns = columns;
+  key = key;
+  primary = primary;
+  uniques = uniques;
+  orders = map (λ _. plain) uniques;
+  checks = [];
+  references = references;
+  computed = [];
+  stamps = record { places = []; terms = []; formats = [] };
+  is_counted = false;
+}
+
+-- the first column is the INTEGER PRIMARY KEY
+abbrev pub keyed : List ℕ → ℕ → List Column → List (List ℕ) → Table
+keyed name tree columns uniques = table name tree (Some 0) columns (0 ∷ []) uniques []
+
+-- a plain index on columns of a table
+abbrev pub index : List ℕ → ℕ → Table → List ℕ → Index
+index name tree of columns = record { name = name; tree = tree; table = of.tree; columns = columns; order = plain; is_unique = false }
+
+-- the column at this place names a unit, and its row goes with the unit
+abbrev pub to_unit : ℕ → Reference
+to_unit place = record { columns = place ∷ []; parent = codes "unit"; parent_columns = []; on_delete = Cascade; on_update = NoAction; is_deferred = false }
+
+-- ---- the desk
+
+abbrev pub reader : Table
+reader = keyed (codes "reader") 0 (nullable (codes "ticket") ∷ words (codes "name") ∷ number (codes "until") ∷ []) []
+
+abbrev pub seat : Table
+seat = keyed (codes "seat") 1 (nullable (codes "seat") ∷ number (codes "ticket") ∷ []) ((2 ∷ []) ∷ [])
+
+abbrev pub orders : Table
+orders = keyed (codes "orders") 3
+    (nullable (codes "id") ∷ number (codes "ticket") ∷ number (codes "container") ∷ number (codes "day") ∷ number (codes "state") ∷ []) []
+
+abbrev pub holding : Table
+holding = keyed (codes "holding") 6 (nullable (codes "container") ∷ number (codes "place") ∷ nullable (codes "held_by") ∷ []) []
+
+abbrev pub run : Table
+run = keyed (codes "run") 7 (nullable (codes "id") ∷ number (codes "day") ∷ []) []
+
+abbrev pub run_line : Table
+run_line = table (codes "run_line") 8 None
+    (number (codes "run") ∷ number (codes "container") ∷ number (codes "order_no") ∷ number (codes "ticket") ∷ [])
+    (1 ∷ 2 ∷ []) ((1 ∷ 2 ∷ []) ∷ []) []
+
+abbrev pub permit : Table
+permit = table (codes "permit") 10 None (number (codes "ticket") ∷ number (codes "unit") ∷ number (codes "until") ∷ [])
+    (1 ∷ 2 ∷ []) ((1 ∷ 2 ∷ []) ∷ []) (to_unit 2 ∷ [])
+
+abbrev pub orders_by_container : Index
+orders_by_container = index (codes "orders_by_container") 4 orders (3 ∷ 5 ∷ [])
+
+abbrev pub orders_by_ticket : Index
+orders_by_ticket = index (codes "orders_by_ticket") 5 orders (2 ∷ [])
+
+abbrev pub permit_by_unit : Index
+permit_by_unit = index (codes "permit_by_unit") 12 permit (2 ∷ [])
+
+abbrev pub desk_tables : List Table
+desk_tables = reader ∷ seat ∷ orders ∷ holding ∷ run ∷ run_line ∷ permit ∷ []
+
+abbrev pub desk_indexes : List Index
+desk_indexes = automatic seat 0 (2 ∷ []) 2 ∷ orders_by_container ∷ orders_by_ticket ∷ automatic run_line 0 (1 ∷ 2 ∷ []) 9
+    ∷ automatic permit 0 (1 ∷ 2 ∷ []) 11 ∷ permit_by_unit ∷ []
+
+-- ---- the catalogue
+
+abbrev pub office : Table
+office = keyed (codes "office") 13
+    (nullable (codes "one") ∷ number (codes "version") ∷ words (codes "country") ∷ words (codes "repo") ∷ number (codes "seats") ∷ number (codes "daily")
+    ∷ number (codes "hands") ∷ number (codes "run_size") ∷ number (codes "day") ∷ number (codes "next_unit") ∷ [])
+    []
+
+abbrev pub unit : Table
+unit = keyed (codes "unit") 14
+    (nullable (codes "id") ∷ words (codes "source") ∷ words (codes "legacy") ∷ words (codes "level") ∷ number (codes "draft") ∷ nullable (codes "until") ∷ [])
+    ((2 ∷ 3 ∷ []) ∷ [])
+
+abbrev pub element : Table
+element = table (codes "element") 16 None (number (codes "unit") ∷ number (codes "k") ∷ words (codes "value") ∷ [])
+    (1 ∷ 2 ∷ []) ((1 ∷ 2 ∷ []) ∷ []) (to_unit 1 ∷ [])
+
+abbrev pub container : Table
+container = keyed (codes "container") 18
+    (nullable (codes "id") ∷ words (codes "name") ∷ words (codes "location") ∷ words (codes "kind") ∷ [])
+    ((2 ∷ 3 ∷ 4 ∷ []) ∷ [])
+
+abbrev pub housing : Table
+housing = table (codes "housing") 20 None (number (codes "unit") ∷ number (codes "ord") ∷ number (codes "container") ∷ [])
+    (1 ∷ 2 ∷ []) ((1 ∷ 2 ∷ []) ∷ (1 ∷ 3 ∷ []) ∷ []) (to_unit 1 ∷ [])
+
+abbrev pub housing_by_container : Index
+housing_by_container = index (codes "housing_by_container") 23 housing (3 ∷ [])
+
+-- ---- the places
+
+abbrev pub link : Table
+link = keyed (codes "link") 24 (nullable (codes "id") ∷ nullable (codes "parent") ∷ number (codes "ord") ∷ []) []
+
+abbrev pub span : Table
+span = keyed (codes "span") 24 (nullable (codes "id") ∷ number (codes "lft") ∷ number (codes "rgt") ∷ []) []
+
+abbrev pub place_table : Version → Table
+place_table Links = link
+place_table Spans = span
+
+abbrev pub place_indexes : Version → List Index
+place_indexes Links = index (codes "link_by_parent") 25 link (2 ∷ 3 ∷ []) ∷ []
+place_indexes Spans = index (codes "span_by_lft") 25 span (2 ∷ []) ∷ index (codes "span_by_rgt") 26 span (3 ∷ []) ∷ []
+
+-- ---- all of them
+
+abbrev pub no_schema : Schema
+no_schema = record { tables = []; indexes = []; views = [] }
+
+-- what is there before the catalogue's tables are made
+abbrev pub desk_schema : Schema
+desk_schema = record { tables = desk_tables; indexes = desk_indexes; views = [] }
+
+abbrev pub schema : Version → Schema
+schema version = record {
+  tables = reader ∷ seat ∷ orders ∷ holding ∷ run ∷ run_line ∷ permit ∷ office ∷ unit ∷ element ∷ container ∷ housing ∷ place_table version ∷ [];
+  indexes = automatic seat 0 (2 ∷ []) 2 ∷ orders_by_container ∷ orders_by_ticket ∷ automatic run_line 0 (1 ∷ 2 ∷ []) 9
+      ∷ automatic permit 0 (1 ∷ 2 ∷ []) 11 ∷ permit_by_unit ∷ automatic unit 0 (2 ∷ 3 ∷ []) 15 ∷ automatic element 0 (1 ∷ 2 ∷ []) 17
+      ∷ automatic container 0 (2 ∷ 3 ∷ 4 ∷ []) 19 ∷ automatic housing 0 (1 ∷ 2 ∷ []) 21 ∷ automatic housing 1 (1 ∷ 3 ∷ []) 22
+      ∷ housing_by_container ∷ place_indexes version;
+  views = [];
+}

@@ -1,0 +1,71 @@
+-- What a call leaves of the transaction that its caller began.
+use Rattle.std.specs.Prelude.{◌≡◌, ◌⊎◌, ℕ, true, false, IsTrue, nat_eq, List, [], ◌∷◌}
+use Rattle.std.specs.List.{AllByRecursion, list_any}
+use Rattle.sqlite.specs.Effect.{Database}
+use Rattle.sqlite.specs.Order.{Row}
+use Rattle.sqlite.specs.Tree.{put_row}
+use Rattle.sqlite.specs.Edit.{is_taken}
+use Rattle.sqlite.specs.State.{State, HasCleanDisk, Survives}
+use Rattle.tree_core.specs.Versions.{Version}
+use Rattle.office_tables.specs.Schema.{schema}
+
+-- while the disk is clean, the connection has our tables, and a transaction is open
+abbrev pub InTransaction : Version → State → Type 0
+InTransaction version s = HasCleanDisk s → (s.now.schema ≡ schema version) × IsTrue s.in_transaction
+
+-- the same, of either version
+abbrev pub InOffice : State → Type 0
+InOffice s = HasCleanDisk s → (version : Version) × (s.now.schema ≡ schema version) × IsTrue s.in_transaction
+
+-- the transaction goes on, and nothing was committed
+pub record GoesOn (old new : State) : Type 0 where
+  pub opened : new.is_open ≡ old.is_open
+  pub committed : new.committed ≡ old.committed
+  pub was_inside : old.in_transaction ≡ true
+  pub is_inside : new.in_transaction ≡ true
+
+-- the transaction has ended, and the database is as the last commit left it
+pub record IsBack (old new : State) : Type 0 where
+  pub was_open : IsTrue new.is_open → IsTrue old.is_open
+  pub now : IsTrue new.is_open → new.now ≡ old.committed
+  pub committed : IsTrue new.is_open → new.committed ≡ old.committed
+  pub ended : new.in_transaction ≡ false
+
+-- The call is inside the transaction, which goes on. A crash finds what the last commit left.
+pub record Continues (old new : State) : Type 0 where
+  pub crash : Survives old new (λ _. ⊥)
+  pub within : HasCleanDisk new → GoesOn old new
+
+-- What a call leaves that succeeds: the transaction goes on over the same tables.
+pub record Goes (old new : State) : Type 0 where
+  pub on : Continues old new
+  pub schema : HasCleanDisk new → new.now.schema ≡ old.now.schema
+
+-- What a call leaves that fails: the transaction goes on and can be taken back, or it has been taken back.
+pub record IsCut (old new : State) : Type 0 where
+  pub crash : Survives old new (λ _. ⊥)
+  pub cut : HasCleanDisk new → GoesOn old new ⊎ IsBack old new
+
+-- the trees of the tables, in either version
+abbrev pub table_trees : List ℕ
+table_trees = 0 ∷ 1 ∷ 3 ∷ 6 ∷ 7 ∷ 8 ∷ 10 ∷ 13 ∷ 14 ∷ 16 ∷ 18 ∷ 20 ∷ 24 ∷ []
+
+-- only the tables with these trees may have other rows
+abbrev pub OnlyTouches : List ℕ → Database → Database → Type 0
+OnlyTouches touched old new = AllByRecursion (λ tree. list_any (nat_eq tree) touched ≡ false → new.trees tree ≡ old.trees tree) table_trees
+
+-- what a call leaves that reads
+pub record Looks (old new : State) : Type 0 where
+  pub goes : Goes old new
+  pub same : HasCleanDisk new → new.now ≡ old.now
+
+-- the table with this tree has one row more, whose number was free, and no other table is touched
+pub record PutsRow (tree : ℕ) (row : Row) (old new : Database) : Type 0 where
+  pub rows : new.trees tree ≡ put_row row (old.trees tree)
+  pub fresh : is_taken (old.trees tree) row ≡ false
+  pub only : OnlyTouches (tree ∷ []) old new
+
+-- the table with this tree has these rows, and no other table is touched
+pub record HasRows (tree : ℕ) (rows : List Row) (old new : Database) : Type 0 where
+  pub are : new.trees tree ≡ rows
+  pub only : OnlyTouches (tree ∷ []) old new

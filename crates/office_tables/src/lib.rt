@@ -1,0 +1,12 @@
+//! The tables of an office: their schema, what a statement leaves, transactions, and why a call fails.
+#![tactic(auto)]
+
+pub mod answer;
+mod fault;
+pub mod making;
+mod transaction;
+pub mod value;
+
+pub use fault::StoreFault;
+pub use making::{create_index, create_table};
+pub use transaction::{begin, commit, roll_back};

@@ -1,0 +1,57 @@
+//! Parameters of statements, as SQL has them.
+
+ghost use Rattle.std.specs.Prelude.{◌≡◌, pos, option_map, ◌<◌, ◌^◌, IfSome};
+ghost use Rattle.sqlite.specs.Value.{owned};
+ghost use Rattle.sqlite.specs.Values.{or_null};
+ghost use Rattle.sqlite.specs.declared.types.Value.TheVariants.{Int, Text as words_cell};
+ghost use Rattle.office_tables.specs.Flags.{flag};
+
+use isad_core::{Day, Text};
+use sqlite::types::ValueRef;
+
+/// Nothing has this number or a greater one.
+pub const NO_NUMBER: u64 = 1 << 63;
+
+pub fn number<'a>(n: u64) -> ValueRef<'a>
+    requires { n < 2 ^ 63 }
+    ensures { owned result ≡ Int (pos n) }
+{
+    ValueRef::Int(n as i64)
+}
+
+pub fn number_or_null<'a>(n: Option<u64>) -> ValueRef<'a>
+    requires { IfSome n (λ n. n < 2 ^ 63) }
+    ensures { owned result ≡ or_null Int (option_map pos n) }
+{
+    match n {
+        Some(n) => ValueRef::Int(n as i64),
+        None => ValueRef::Null,
+    }
+}
+
+pub fn truth<'a>(b: bool) -> ValueRef<'a>
+    ensures { owned result ≡ Int (flag b) }
+{
+    ValueRef::Int(if b { 1 } else { 0 })
+}
+
+pub fn day<'a>(day: Day) -> ValueRef<'a>
+    ensures { owned result ≡ Int day }
+{
+    ValueRef::Int(i64::from(day.number()))
+}
+
+pub fn day_or_null<'a>(day: Option<Day>) -> ValueRef<'a>
+    ensures { owned result ≡ or_null Int day }
+{
+    match day {
+        Some(day) => ValueRef::Int(i64::from(day.number())),
+        None => ValueRef::Null,
+    }
+}
+
+pub fn words<'a>(text: &'a Text) -> ValueRef<'a>
+    ensures { owned result ≡ words_cell text.now }
+{
+    ValueRef::Text(text.as_str().as_bytes())
+}
