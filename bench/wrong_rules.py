@@ -33,7 +33,7 @@ E=[
 ('no check 28',O+'Rules.antt','    ∷ unless (has_permit s t u) NoPermit\n',''),
 ('Permit for an unknown unit',O+'Rules.antt','    ∷ unless (has_unit s.forest u) UnknownUnit\n    ∷ when (not (has_permit s t u) && nat_le','    ∷ when (not (has_permit s t u) && nat_le'),
 ('no limit of permits',O+'Rules.antt','    ∷ when (not (has_permit s t u) && nat_le most_permits (length (s.permits t))) Full\n',''),
-('a ticket may have a permit more',O+'Rules.antt','most_permits = 100','most_permits = 101'),
+('a ticket may have a permit more',O+'Rules.antt','&& nat_le most_permits (length (s.permits t))','&& nat_lt most_permits (length (s.permits t))'),
 ('a later day counts as another permit',O+'Rules.antt','when (not (has_permit s t u) && nat_le most_permits (length (s.permits t))) Full','when (nat_le most_permits (length (s.permits t))) Full'),
 ('a second permit stands beside the first',O+'State.antt','cond (nat_eq p.unit u) (record { unit = u; until = cond (int_lt p.until day) day p.until } ∷ ps)','cond (nat_eq p.unit u) (record { unit = u; until = day } ∷ (p ∷ ps))'),
 # orders

@@ -8,17 +8,17 @@ use Rattle.std.specs.declared.cmp.Ordering.TheVariants as ord
 use Rattle.std.specs.Cmp.Lexicographic.{slice_cmp}
 use Rattle.std.specs.BTreeSet.{BTreeSet, contains}
 use Rattle.std.proofs.lemmas.Map.Text.{is_eq-slice_cmp}
-use Rattle.std.proofs.lemmas.Slice.Eq.{bytes_eq-Decides}
 use Rattle.std.proofs.lemmas.List.Elements.{filter-append}
-use Rattle.std.proofs.lemmas.List.Folds.{list_any-append}
 use Rattle.std.proofs.lemmas.List.{append-nil, length-map}
 use Rattle.std.proofs.Math.ListN.{get_or-map}
 use Rattle.std.proofs.lemmas.List.FromFn.{get_or-enumerate_from, length-enumerate_from}
 use Rattle.std.proofs.Math.Seq.{take-suc}
 use Rattle.isad_core.specs.Texts.{Bytes}
+use Rattle.isad_core.proofs.BoxLemmas.{distinct_more, stood_more}
 use Rattle.atom_csv.specs.Fields.{is_empty, seen}
 use Rattle.isad_core.specs.declared.values.BoxKey.{BoxKey}
-use Rattle.atom_csv.specs.Values.{distinct, entry_at, is_named_box, is_same, triple, triples}
+use Rattle.isad_core.specs.Boxes.{distinct, is_same}
+use Rattle.atom_csv.specs.Values.{entry_at, is_named_box, triple, triples}
 use Rattle.atom_csv.specs.Known.{Holds, has, key}
 
 -- ---- the set in which the code keeps them
@@ -72,54 +72,6 @@ has_more old new k updates q =
     go false = refl
 
 -- ---- one more container
-
-bytes_eq_sym : (a b : Bytes) → bytes_eq a b ≡ bytes_eq b a
-bytes_eq_sym a b = go (bytes_eq a b) (bytes_eq b a) refl refl
-  where
-    go : (x y : Bool) → bytes_eq a b ≡ x → bytes_eq b a ≡ y → x ≡ y
-    go true true e f = refl
-    go false false e f = refl
-    go true false e f =
-        let yes : bytes_eq b a ≡ true = (bytes_eq-Decides b a).1 (sym ((bytes_eq-Decides a b).0 e)) in
-        sym yes ∙ f
-    go false true e f =
-        let yes : bytes_eq a b ≡ true = (bytes_eq-Decides a b).1 (sym ((bytes_eq-Decides b a).0 f)) in
-        sym e ∙ yes
-
-pub same_sym : (a b : BoxKey) → is_same a b ≡ is_same b a
-same_sym a b =
-    ap₂ (λ x y. x && y) (bytes_eq_sym a.name b.name) (ap₂ (λ x y. x && y) (bytes_eq_sym a.location b.location) (bytes_eq_sym a.kind b.kind))
-
-or_false : (a : Bool) → (a || false) ≡ a
-or_false true = refl
-or_false false = refl
-
-or_comm : (a b : Bool) → (a || b) ≡ (b || a)
-or_comm true true = refl
-or_comm true false = refl
-or_comm false true = refl
-or_comm false false = refl
-
--- a container that stood already adds nothing
-pub distinct_more : (bs : List BoxKey) (b : BoxKey) → distinct (bs ++ b ∷ []) ≡ distinct bs ++ (if list_any (is_same b) bs then [] else b ∷ [])
-distinct_more [] b = refl
-distinct_more (c ∷ bs) b =
-    ap (λ ds. c ∷ filter (λ later. not (is_same c later)) ds) (distinct_more bs b)
-    ∙ (ap (λ ds. c ∷ ds) (filter-append (λ later. not (is_same c later)) (distinct bs) (if list_any (is_same b) bs then [] else b ∷ []))
-    ∙ ap (λ ds. distinct (c ∷ bs) ++ ds) (go (list_any (is_same b) bs) (is_same b c) (same_sym c b)))
-  where
-    go : (any same : Bool) → is_same c b ≡ same
-        → filter (λ later. not (is_same c later)) (if any then [] else b ∷ []) ≡ (if same || any then [] else b ∷ [])
-    go true true e = refl
-    go true false e = refl
-    go false true e = ap (λ (s : Bool). cond (not s) (b ∷ []) []) e
-    go false false e = ap (λ (s : Bool). cond (not s) (b ∷ []) []) e
-
--- what stood, with one more
-stood_more : (bs : List BoxKey) (b q : BoxKey) → list_any (is_same q) (bs ++ b ∷ []) ≡ (is_same b q || list_any (is_same q) bs)
-stood_more bs b q =
-    list_any-append (is_same q) bs (b ∷ [])
-    ∙ (ap (λ s. list_any (is_same q) bs || s) (or_false (is_same q b) ∙ same_sym q b) ∙ or_comm (list_any (is_same q) bs) (is_same b q))
 
 length_seen : (xs : List (Bor Bytes)) → length (seen xs) ≡ length xs
 length_seen [] = refl

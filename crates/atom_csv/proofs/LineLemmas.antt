@@ -1,13 +1,12 @@
 -- What a loop over the records keeps.
 use Rattle.std.proofs.Common.{◌≡◌, ◌∙◌, ◌+◌, ◌++◌, ◌∷◌, [], ℕ, Bool, true, false, List, length, Option, Some, None, option_map, refl, sym, ap, ap₂, arith, cond, append_assoc, append-nil, zero-add}
-use Rattle.std.specs.Prelude.{if◌then◌else◌, filter_map, find, is_some, count_by, ◌||◌, ◌&&◌, codes}
+use Rattle.std.specs.Prelude.{if◌then◌else◌, filter_map, find, is_some, count_by, ◌||◌, ◌&&◌, codes, Err, Ok}
 use Rattle.std.specs.List.{cons_option}
 use Rattle.std.specs.Str.{bytes_eq}
 use Rattle.std.proofs.lemmas.Bool.{eqb-true}
 use Rattle.std.proofs.lemmas.List.Elements.{filter_map-append}
 use Rattle.std.proofs.lemmas.List.Sums.{sum_by-append}
 use Rattle.std.proofs.lemmas.Slice.Eq.{bytes_eq-Decides}
-use Rattle.std.specs.Prelude.{Err, Ok}
 use Rattle.isad_core.specs.Texts.{Bytes}
 use Rattle.atom_csv.specs.Causes.{number_of}
 use Rattle.atom_csv.specs.Fields.{Fields, field_under, is_blank, is_empty, is_named}

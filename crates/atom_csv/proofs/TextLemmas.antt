@@ -1,16 +1,13 @@
 -- The records of a text are texts.
 use Rattle.std.proofs.Common.{◌≡◌, ◌∙◌, ◌+◌, ◌≤◌, ◌<◌, ◌++◌, ℕ, zero, suc, Bool, true, false, List, [], ◌∷◌, Option, Some, None, refl, sym, ap, subst, arith, append_assoc, append-nil, cond, ◌/◌, ◌%◌, nat_lt}
 use Rattle.std.specs.List.{AllByRecursion}
-use Rattle.std.proofs.lemmas.Bool.{le-ltb}
+use Rattle.std.proofs.lemmas.Bool.{le-ltb, eqb-true, ne_eqb, ltb-true}
 use lib.Utf8.{encode, encodes, scalars}
 use Rattle.std.specs.Str.{IsUtf8}
-use Rattle.std.specs.Prelude.{slice_index}
+use Rattle.std.specs.Prelude.{slice_index, if◌then◌else◌, ◌==◌, ◌&&◌}
 use Rattle.csv.specs.Records.{AllText}
 use Rattle.csv.proofs.RecordFacts.{text-more}
-use Rattle.std.proofs.lemmas.Str.{IsUtf8-append, IsUtf8-from_ascii, IsUtf8-nil}
-use Rattle.std.proofs.lemmas.Str.{IsUtf8-past_char, encode_ascii}
-use Rattle.std.specs.Prelude.{if◌then◌else◌, ◌==◌, ◌&&◌}
-use Rattle.std.proofs.lemmas.Bool.{eqb-true, ne_eqb, ltb-true}
+use Rattle.std.proofs.lemmas.Str.{IsUtf8-append, IsUtf8-from_ascii, IsUtf8-nil, IsUtf8-past_char, encode_ascii}
 use borrow.Author.Tests.{ltb-false}
 use Rattle.csv.specs.Machine.{Read, ends_at_end, field_after, fields_after, is_end, next_record, step}
 use Rattle.csv.specs.Reading.{default_config, is_bom, strip_bom}

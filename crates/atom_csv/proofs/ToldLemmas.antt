@@ -15,7 +15,8 @@ use Rattle.atom_csv.specs.FileOf.{has_other_width, is_late, is_long, is_translat
 use Rattle.atom_csv.specs.Told.{AllDiffer, AreValues, IsThere, IsTold}
 use Rattle.atom_csv.specs.Columns.{columns_of, is_split, name_of}
 use Rattle.atom_csv.specs.Entries.{entries, entry_of, filled, joined, parts_of}
-use Rattle.atom_csv.specs.Values.{described, distinct, is_named_box, is_same, nonblank, text_of, told_by, triple, values_of}
+use Rattle.atom_csv.specs.Values.{described, is_named_box, nonblank, text_of, told_by, triple, values_of}
+use Rattle.isad_core.specs.Boxes.{distinct, is_same}
 use Rattle.atom_csv.specs.declared.column.Column.{Column}
 use Rattle.atom_csv.specs.declared.column.Column.TheVariants as column
 use Rattle.atom_csv.specs.declared.cause.Cause.TheVariants as cause

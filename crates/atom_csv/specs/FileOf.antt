@@ -1,10 +1,10 @@
 -- What a file says: its rows, or where its first fault is and why.
-use Rattle.std.specs.Prelude.{ℕ, Bool, false, Option, Some, None, is_some, find, ◌&&◌, ◌||◌, Result, Ok, Err, option_map, slice_get, ◌==◌, ◌+◌, ◌++◌, not, nat_lt}
-use Rattle.std.specs.Prelude.{if◌then◌else◌, List, [], ◌∷◌, length, map, filter_map, count_by, codes}
+use Rattle.std.specs.Prelude.{ℕ, Bool, false, Option, Some, None, is_some, find, ◌&&◌, ◌||◌, Result, Ok, Err, option_map, slice_get, ◌==◌, ◌+◌, ◌++◌, not, nat_lt, if◌then◌else◌, List, [], ◌∷◌, length, map, filter_map, count_by, codes}
 use Rattle.std.specs.List.{list_any}
 use Rattle.std.specs.Option.{option_map_or}
 use Rattle.std.specs.Str.{bytes_eq, is_utf8, str_eq_ignore_ascii_case}
 use Rattle.csv.specs.Reading.{default_config, records, strip_bom}
+use Rattle.isad_core.specs.Limits.{most_bytes}
 use Rattle.isad_core.specs.Texts.{Bytes}
 use Rattle.atom_csv.specs.Columns.{columns, name_of}
 use Rattle.atom_csv.specs.Causes.{number_of}
@@ -92,7 +92,7 @@ is_late row = nat_lt 20001 row
 
 -- a field that is read is over 65,535 bytes
 abbrev pub is_long : Fields → Fields → Bool
-is_long header fields = list_any (λ k. nat_lt 65535 (length (value k header fields))) columns
+is_long header fields = list_any (λ k. nat_lt most_bytes (length (value k header fields))) columns
 
 -- the causes of a record in this row, lowest first, where the first record with its legacyId has the
 -- culture `stood`: a blank record can be too late alone, and a translation of another width besides

@@ -5,7 +5,7 @@ use Rattle.std.specs.Borrow.{Bor}
 use Rattle.std.specs.BTreeSet.{BTreeSet}
 use Rattle.isad_core.specs.Texts.{Bytes}
 use Rattle.isad_core.specs.declared.values.BoxKey.{BoxKey}
-use Rattle.atom_csv.specs.Values.{distinct, is_same}
+use Rattle.isad_core.specs.Boxes.{distinct, is_same}
 
 -- a container by its three texts
 abbrev pub key : Bytes → Bytes → Bytes → BoxKey

@@ -1,8 +1,8 @@
 -- The values of a description that a record tells.
-use Rattle.std.specs.Prelude.{ℕ, Bool, true, false, ◌&&◌, not, if◌then◌else◌, Option, Some, None, slice_get, unwrap_or, List, [], ◌∷◌, map, filter}
+use Rattle.std.specs.Prelude.{ℕ, Bool, true, false, not, if◌then◌else◌, Option, Some, None, slice_get, unwrap_or, List, [], ◌∷◌, map, filter}
 use Rattle.std.specs.List.{enumerate_from, flat_map}
-use Rattle.std.specs.Str.{bytes_eq}
 use Rattle.isad_core.specs.Texts.{Bytes}
+use Rattle.isad_core.specs.Boxes.{distinct}
 use Rattle.isad_core.specs.Elements.{elements}
 use Rattle.isad_core.specs.declared.element.Element.{Element}
 use Rattle.isad_core.specs.declared.element.Element.TheVariants as element
@@ -55,16 +55,6 @@ triples names locations kinds = map (triple locations kinds) (enumerate_from 0 n
 -- it has a name
 abbrev pub is_named_box : BoxKey → Bool
 is_named_box b = not (is_empty b.name)
-
--- one container: the same name, location and kind
-abbrev pub is_same : BoxKey → BoxKey → Bool
-is_same a b =
-    bytes_eq a.name b.name && (bytes_eq a.location b.location && bytes_eq a.kind b.kind)
-
--- each container once, at its first place
-abbrev pub distinct : List BoxKey → List BoxKey
-distinct [] = []
-distinct (b ∷ rest) = b ∷ filter (λ later. not (is_same b later)) (distinct rest)
 
 -- the containers of three columns: a blank name makes none, and shifts none
 abbrev pub boxes_of : Bytes → Bytes → Bytes → List BoxKey

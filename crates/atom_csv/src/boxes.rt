@@ -2,7 +2,8 @@
 ghost use Rattle.std.specs.Prelude.{◌≡◌, ◌||◌, not, IfOk, OnOk, slice_get};
 ghost use Rattle.isad_core.specs.declared.values.BoxKey.{BoxKey};
 ghost use Rattle.atom_csv.specs.Fields.{seen};
-ghost use Rattle.atom_csv.specs.Values.{boxes_of, is_same};
+ghost use Rattle.atom_csv.specs.Values.{boxes_of};
+ghost use Rattle.isad_core.specs.Boxes.{is_same};
 ghost use Rattle.atom_csv.specs.Values as spec;
 ghost use Rattle.atom_csv.specs.Known.{has, key};
 

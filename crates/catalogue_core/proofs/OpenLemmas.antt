@@ -6,7 +6,7 @@ use Rattle.std.proofs.lemmas.List.{map-append}
 use Rattle.std.proofs.lemmas.List.Elements.{filter-append}
 use Rattle.catalogue_core.proofs.Members.{Has, some_from, has_filtered}
 use Rattle.isad_core.specs.declared.values.BoxKey.{BoxKey}
-use Rattle.atom_csv.specs.Values.{is_same as is_same_box}
+use Rattle.isad_core.specs.Boxes.{is_same as is_same_box}
 use Rattle.tree_core.specs.Forest.{Forest, Empty, Node, nodes, each, has, path, tree, HasDistinctIds}
 use Rattle.tree_core.specs.Marks.{is_closed as is_mark_closed, withholds, contents_paths, IsNumbered}
 use Rattle.tree_core.specs.Withheld.{sharing_paths}

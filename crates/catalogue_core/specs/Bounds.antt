@@ -2,16 +2,17 @@
 use Rattle.std.specs.Prelude.{◌≡◌, ℕ, ◌<◌, ◌≤◌, ◌^◌, true, nat_eq, length, IfSome, IsUtf8}
 use Rattle.std.specs.List.{AllByRecursion}
 use Rattle.isad_core.specs.Days.{is_day_number}
+use Rattle.isad_core.specs.Limits.{most_units, most_deep, IsNumber}
 use Rattle.tree_core.specs.Forest.{Forest, nodes, each, path, size}
 use Rattle.isad_core.specs.Legible.{IsLegibleBox}
 use Rattle.catalogue_core.specs.Merging.{Catalogue}
 use Rattle.catalogue_core.specs.Units.{Unit}
 
--- An office keeps 200,000 units at most, no deeper than 64, with numbers that SQL has.
+-- An office keeps so many units at most, no deeper than it may, with numbers that a table can keep.
 pub record IsBounded (f : Forest ℕ) : Type 0 where
-  pub few : size f ≤ 200000
-  pub low : AllByRecursion (λ id. id < 2 ^ 63) (nodes f)
-  pub shallow : (id : ℕ) → length (path (nat_eq id) f) ≤ 64
+  pub few : size f ≤ most_units
+  pub low : AllByRecursion IsNumber (nodes f)
+  pub shallow : (id : ℕ) → length (path (nat_eq id) f) ≤ most_deep
 
 -- the unit's texts are UTF-8, and its closure ends on a day of the calendar
 pub record IsLegibleUnit (u : Unit) : Type 0 where

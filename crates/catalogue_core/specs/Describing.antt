@@ -2,7 +2,7 @@
 use Rattle.std.specs.Prelude.{◌≡◌, ℕ, ◌+◌, true, if◌then◌else◌, length, Option, List, ◌++◌}
 use Rattle.std.specs.List.{AllByRecursion, list_any, list_all}
 use Rattle.isad_core.specs.declared.values.Values.{Values}
-use Rattle.atom_csv.specs.Values.{distinct, is_same}
+use Rattle.isad_core.specs.Boxes.{distinct, is_same}
 use Rattle.tree_core.specs.Forest.{nodes, each, add}
 use Rattle.catalogue_core.specs.Units.{Unit, has_id}
 use Rattle.catalogue_core.specs.Merging.{Catalogue}

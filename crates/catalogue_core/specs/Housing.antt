@@ -5,7 +5,7 @@ use Rattle.isad_core.specs.declared.values.BoxKey.{BoxKey}
 use Rattle.tree_core.specs.Forest.{Forest, Empty, Node}
 use Rattle.tree_core.specs.Withheld.{is_withheld}
 use Rattle.catalogue_core.specs.Units.{Unit, is_closed}
-use Rattle.atom_csv.specs.Values.{is_same as is_same_box}
+use Rattle.isad_core.specs.Boxes.{is_same as is_same_box}
 
 -- ---- which containers a unit lies in
 

@@ -3,9 +3,10 @@ use Rattle.std.specs.Prelude.{ℕ, suc, ◌+◌, ◌-◌, nat_eq, nat_lt, Bool, 
 use Rattle.std.specs.List.{flat_map}
 use Rattle.std.specs.Option.{option_eq, option_to_list}
 use Rattle.std.specs.Str.{bytes_eq}
+use Rattle.isad_core.specs.Limits.{most_deep}
 use Rattle.isad_core.specs.Texts.{Bytes}
 use Rattle.isad_core.specs.declared.values.BoxKey.{BoxKey}
-use Rattle.atom_csv.specs.Values.{distinct, is_same}
+use Rattle.isad_core.specs.Boxes.{distinct, is_same}
 use Rattle.atom_csv.specs.declared.file.Row.{Row}
 use Rattle.tree_core.specs.Forest.{Forest, Empty, Node, nodes, has, path, each, join}
 use Rattle.catalogue_core.specs.Units.{Unit, is_from}
@@ -43,10 +44,10 @@ depth_under f source (Some parent) (row ∷ above) =
     if has_legacy parent row then option_map suc (depth_under f source row.parent above)
     else depth_under f source (Some parent) above
 
--- 11: no such parent; 12: deeper than 64
+-- 11: no such parent; 12: too deep
 abbrev pub cause_at : Option ℕ → Option ℕ
 cause_at None = Some 11
-cause_at (Some depth) = if nat_lt 64 depth then Some 12 else None
+cause_at (Some depth) = if nat_lt most_deep depth then Some 12 else None
 
 -- the new rows that have a cause, each by its number in the file, with that cause
 abbrev pub faults_below : Forest Unit → Bytes → List Row → List Row → List (ℕ × ℕ)

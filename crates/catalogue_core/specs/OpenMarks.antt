@@ -2,7 +2,7 @@
 use Rattle.std.specs.Prelude.{◌≡◌, ℕ, ℤ, Bool, true, false, not, ◌&&◌, List, map, filter}
 use Rattle.std.specs.List.{list_any, list_all}
 use Rattle.isad_core.specs.declared.values.BoxKey.{BoxKey}
-use Rattle.atom_csv.specs.Values.{is_same as is_same_box}
+use Rattle.isad_core.specs.Boxes.{is_same as is_same_box}
 use Rattle.tree_core.specs.Forest.{Forest, Empty, Node, nodes, each, has, path, tree, HasDistinctIds}
 use Rattle.tree_core.specs.Marks.{IsNumbered, withholds, contents_paths}
 use Rattle.tree_core.specs.declared.marks.Mark.{Mark}

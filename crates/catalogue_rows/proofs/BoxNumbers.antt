@@ -9,8 +9,8 @@ use Rattle.std.proofs.lemmas.List.Elements.{filter-append}
 use Rattle.std.proofs.lemmas.Slice.Eq.{bytes_eq-Decides}
 use Rattle.sqlite_rules.proofs.ListLemmas.{some_from, test_from, has_right}
 use Rattle.isad_core.specs.declared.values.BoxKey.{BoxKey}
-use Rattle.atom_csv.specs.Values.{distinct, is_same}
-use Rattle.atom_csv.proofs.BoxLemmas.{distinct_more, same_sym}
+use Rattle.isad_core.specs.Boxes.{distinct, is_same}
+use Rattle.isad_core.proofs.BoxLemmas.{distinct_more, same_sym}
 use Rattle.catalogue_core.specs.Merging.{number_in, box_number}
 use Rattle.office_tables.proofs.Rows.{filters, same_test, kept_all}
 

@@ -9,7 +9,7 @@ use Rattle.sqlite.specs.Edit.{next_rowid, is_taken}
 use Rattle.sqlite.specs.Effect.{Database}
 use Rattle.sqlite.specs.Tree.{Trees, put_row}
 use Rattle.isad_core.specs.declared.values.BoxKey.{BoxKey}
-use Rattle.atom_csv.specs.Values.{distinct, is_same}
+use Rattle.isad_core.specs.Boxes.{distinct, is_same}
 use Rattle.catalogue_rows.specs.Adding.{AreHoused, WithHousings}
 use Rattle.catalogue_core.specs.Describing.{with_boxes}
 use Rattle.catalogue_core.specs.Merging.{box_number}

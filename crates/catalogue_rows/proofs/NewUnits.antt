@@ -12,7 +12,7 @@ use Rattle.sqlite.specs.Tree.{Trees, put_row}
 use Rattle.sqlite_rules.proofs.ListLemmas.{all_has, all_from, some_has, some_from}
 use Rattle.sqlite_trees.proofs.ListLemmas.{all_both, all_weaker, all-permutation, IsPermutation-filter}
 use Rattle.isad_core.specs.declared.values.BoxKey.{BoxKey}
-use Rattle.atom_csv.specs.Values.{is_same}
+use Rattle.isad_core.specs.Boxes.{is_same}
 use Rattle.tree_core.specs.Forest.{Forest, nodes, each, has, has_place, add}
 use Rattle.tree_core.proofs.EachLemmas.{add-each}
 use Rattle.tree_core.proofs.Lists.{eqb_comm}

@@ -13,7 +13,7 @@ use Rattle.sqlite_rules.specs.Lists.{Has}
 use Rattle.sqlite_rules.proofs.ListLemmas.{all_has}
 use Rattle.sqlite_trees.proofs.ListLemmas.{all_weaker, ascending-filter}
 use Rattle.isad_core.specs.declared.values.BoxKey.{BoxKey}
-use Rattle.atom_csv.specs.Values.{is_same}
+use Rattle.isad_core.specs.Boxes.{is_same}
 use Rattle.catalogue_core.specs.Merging.{number_in}
 use Rattle.office_tables.specs.Order.{Rises, IsOrdered}
 use Rattle.office_tables.specs.Put.{put_by}

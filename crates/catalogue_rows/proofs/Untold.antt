@@ -16,8 +16,8 @@ use Rattle.isad_core.specs.Texts.{Bytes}
 use Rattle.isad_core.specs.declared.values.BoxKey.{BoxKey}
 use Rattle.isad_core.specs.declared.values.Values.{Values}
 use Rattle.tree_core.specs.Forest.{Forest, has}
-use Rattle.atom_csv.specs.Values.{distinct, is_same}
-use Rattle.atom_csv.proofs.BoxLemmas.{same_sym}
+use Rattle.isad_core.specs.Boxes.{distinct, is_same}
+use Rattle.isad_core.proofs.BoxLemmas.{same_sym}
 use Rattle.catalogue_rows.specs.Adding.{HasUnit, WithCells, WithTexts, cell_of, WithHousings, housing_cell}
 use Rattle.catalogue_core.specs.Describing.{with_boxes}
 use Rattle.catalogue_core.specs.Merging.{number_in, box_number}

@@ -6,7 +6,7 @@ use Rattle.sqlite.specs.Tree.{Trees}
 use Rattle.isad_core.specs.Texts.{Bytes}
 use Rattle.isad_core.specs.declared.values.BoxKey.{BoxKey}
 use Rattle.isad_core.specs.declared.values.Values.{Values}
-use Rattle.atom_csv.specs.Values.{distinct}
+use Rattle.isad_core.specs.Boxes.{distinct}
 use Rattle.office_tables.specs.Order.{Rises}
 use Rattle.catalogue_rows.specs.Rows.{unit_row, ElementRow, element_row, HousingRow, housing_row}
 use Rattle.catalogue_rows.specs.Shows.{ShowsContainers, texts_from, element_number, element_cells, housing_cells}

@@ -6,7 +6,7 @@ use Rattle.std.proofs.lemmas.Bool.{cases_Bool, eqb-true}
 use Rattle.sqlite_rules.specs.Lists.{Has}
 use Rattle.sqlite_rules.proofs.ListLemmas.{has_filtered, has_last}
 use Rattle.isad_core.specs.declared.values.BoxKey.{BoxKey}
-use Rattle.atom_csv.specs.Values.{is_same}
+use Rattle.isad_core.specs.Boxes.{is_same}
 use Rattle.catalogue_core.specs.Merging.{number_in, box_number}
 use Rattle.catalogue_rows.specs.Rows.{counted_from}
 use Rattle.catalogue_rows.proofs.BoxNumbers.{same_box}

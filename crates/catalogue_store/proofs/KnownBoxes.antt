@@ -5,7 +5,7 @@ use Rattle.sqlite_rules.proofs.ListLemmas.{test_from, test_has}
 use Rattle.sqlite_trees.proofs.ListLemmas.{all-append, all_weaker}
 use Rattle.isad_core.specs.declared.values.BoxKey.{BoxKey}
 use Rattle.isad_core.specs.declared.values.Values.{Values}
-use Rattle.atom_csv.specs.Values.{distinct, is_same}
+use Rattle.isad_core.specs.Boxes.{distinct, is_same}
 use Rattle.tree_core.specs.Forest.{Forest, Empty, Node, nodes, join, put_below, add}
 use Rattle.catalogue_core.specs.Describing.{with_boxes, KnowsItsContainers, with_unit, with_values}
 use Rattle.catalogue_core.specs.Merging.{Catalogue}

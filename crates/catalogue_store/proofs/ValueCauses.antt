@@ -13,7 +13,7 @@ use Rattle.sqlite_trees.proofs.ListLemmas.{all-get_or}
 use Rattle.isad_core.specs.Texts.{Bytes}
 use Rattle.isad_core.specs.declared.values.BoxKey.{BoxKey}
 use Rattle.isad_core.specs.declared.values.Values.{Values}
-use Rattle.atom_csv.specs.Values.{is_same}
+use Rattle.isad_core.specs.Boxes.{is_same}
 use Rattle.tree_core.specs.Forest.{Forest, nodes, has}
 use Rattle.catalogue_core.specs.Bounds.{IsLegibleUnit}
 use Rattle.isad_core.specs.Legible.{IsLegibleBox}

@@ -9,7 +9,7 @@ use Rattle.sqlite.specs.Tree.{Trees}
 use Rattle.sqlite_trees.proofs.ListLemmas.{all_both, all_weaker}
 use Rattle.isad_core.specs.declared.values.BoxKey.{BoxKey}
 use Rattle.isad_core.specs.declared.values.Values.{Values}
-use Rattle.atom_csv.specs.Values.{is_same}
+use Rattle.isad_core.specs.Boxes.{is_same}
 use Rattle.tree_core.specs.Forest.{Forest, nodes, each, has}
 use Rattle.catalogue_rows.specs.Adding.{WithTexts, cell_of, WithHousings, housing_cell, IsDescribed}
 use Rattle.catalogue_core.specs.Describing.{with_boxes, with_values, KnowsItsContainers}

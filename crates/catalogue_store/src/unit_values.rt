@@ -6,7 +6,7 @@ ghost use Rattle.sqlite.specs.Held.{state};
 ghost use Rattle.sqlite.specs.State.{HasCleanDisk};
 ghost use Rattle.isad_core.specs.declared.values.BoxKey.{BoxKey};
 ghost use Rattle.isad_core.specs.declared.values.Values.{«Values» as Description};
-ghost use Rattle.atom_csv.specs.Values.{is_same as is_same_box};
+ghost use Rattle.isad_core.specs.Boxes.{is_same as is_same_box};
 ghost use Rattle.catalogue_core.specs.Bounds.{IsKept};
 ghost use Rattle.catalogue_core.specs.Describing.{HasAllPlaces, KnowsItsContainers};
 ghost use Rattle.catalogue_store.specs.Valuing.{values_of};

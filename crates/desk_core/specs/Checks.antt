@@ -1,11 +1,8 @@
 -- What the desk looks at before an order, an issue, a seat taken and a seat left, in order.
 use Rattle.std.specs.Prelude.{ℕ, Bool, nat_le, nat_lt, List, [], ◌∷◌, Option, is_none}
+use Rattle.isad_core.specs.Limits.{most_orders}
 use Rattle.desk_core.specs.declared.refusal.Refusal.TheVariants.{UnknownTicket, UnknownContainer, TicketExpired, NotAvailable, AlreadyOrdered, DailyLimit, NoSeatFree, AlreadySeated, NotSeated, HoldsContainers, NotAtDesk, NotFirst, HandsFull, Full}
 use Rattle.desk_core.specs.Refusals.{Check, when, unless}
-
--- how many orders there may ever be
-abbrev pub most_orders : ℕ
-most_orders = 10000000
 
 -- ---- a ticket orders a container
 

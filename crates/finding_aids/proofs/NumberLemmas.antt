@@ -12,8 +12,9 @@ use Rattle.std.proofs.lemmas.Slice.Eq.{bytes_eq-Decides}
 use Rattle.std.specs.Str.{bytes_eq}
 use Rattle.isad_core.specs.Texts.{Bytes}
 use Rattle.isad_core.specs.declared.values.BoxKey.{BoxKey}
-use Rattle.atom_csv.specs.Values.{distinct, is_same}
-use Rattle.atom_csv.proofs.BoxLemmas.{distinct_more, same_compared, same_sym}
+use Rattle.isad_core.specs.Boxes.{distinct, is_same}
+use Rattle.isad_core.proofs.BoxLemmas.{distinct_more, same_sym}
+use Rattle.atom_csv.proofs.BoxLemmas.{same_compared}
 use Rattle.catalogue_core.specs.Merging.{number_in}
 use Rattle.finding_aids.specs.Numbers.{AreNumbered, Texts, compared, number_at}
 use Rattle.finding_aids.proofs.PlantLemmas.{length-push}

@@ -6,6 +6,7 @@ use Rattle.std.proofs.lemmas.Bool.{cases_Bool, eq-eqb, eqb-false, eqb-true, le-l
 use Rattle.std.proofs.lemmas.List.{append-nil, drop_more, length-append, length-reverse, reverse-append, take-append-drop, take_more}
 use Rattle.std.proofs.lemmas.List.Elements.{All-nil, All-push}
 use Rattle.std.specs.Str.{bytes_eq}
+use Rattle.isad_core.specs.Limits.{most_deep}
 use Rattle.isad_core.specs.Texts.{Bytes}
 use Rattle.atom_csv.specs.declared.file.Row.{Row}
 use Rattle.tree_core.specs.Forest.{Empty}
@@ -151,13 +152,13 @@ faults-at xs x ys none =
 -- ---- one more row
 
 pub placing_more : (xs : List Row) (x : Row) (known more : Bytes → Option ℕ) (places : List Place) (place : Place)
-    → IsPlacing xs known places → place_of known places x.parent ≡ Some place → place.depth ≤ 64
+    → IsPlacing xs known places → place_of known places x.parent ≡ Some place → place.depth ≤ most_deep
     → ((legacy : Bytes) → more legacy ≡ (if bytes_eq legacy x.legacy then Some (length xs) else known legacy))
     → IsPlacing (xs ++ x ∷ []) more (places ++ place ∷ [])
 placing_more xs x known more places place h found shallow grows =
     let depth : depth_below (reverse xs) x.parent ≡ Some place.depth =
     sym (place_of-depth known (reverse xs) places x.parent h.knows h.placed) ∙ ap (option_map (λ (p : Place). p.depth)) found in
-    let fits : nat_lt 64 place.depth ≡ false = le-ltb 64 place.depth shallow in
+    let fits : nat_lt most_deep place.depth ≡ false = le-ltb most_deep place.depth shallow in
     let is : IsPlaced (reverse xs) x place = record {
       parent = place_of-parent known (reverse xs) places x.parent place h.knows found;
       depth = depth;
@@ -173,7 +174,7 @@ placing_more xs x known more places place h found shallow grows =
           ∙ ap (index_of legacy) (sym rows)));
       placed = subst (λ (r : List Row). AllPlaced r (reverse (places ++ place ∷ []))) (sym rows)
           (subst (λ (p : List Place). AllPlaced (x ∷ reverse xs) p) (sym turned) (is, h.placed));
-      shallow = All-push (λ (p : Place). p.depth ≤ 64) places place h.shallow shallow;
+      shallow = All-push (λ (p : Place). p.depth ≤ most_deep) places place h.shallow shallow;
     }
 
 -- ---- a row that has no place
@@ -192,7 +193,7 @@ pub fault_deep : (xs : List Row) (x : Row) (ys : List Row) (known : Bytes → Op
 fault_deep xs x ys known places place h found deep =
     let depth : depth_below (reverse xs) x.parent ≡ Some place.depth =
     sym (place_of-depth known (reverse xs) places x.parent h.knows h.placed) ∙ ap (option_map (λ (p : Place). p.depth)) found in
-    let over : nat_lt 64 place.depth ≡ true = lt-ltb 64 place.depth deep in
+    let over : nat_lt most_deep place.depth ≡ true = lt-ltb most_deep place.depth deep in
     (faults_below Empty [] (x ∷ reverse xs) ys, faults-at xs x ys h.none_bad ∙ rw (depth, over) refl)
 
 -- ---- the beginning
@@ -202,7 +203,7 @@ placing_none known nothing = record {
   none_bad = refl;
   knows = nothing;
   placed = tt;
-  shallow = All-nil (λ (p : Place). p.depth ≤ 64);
+  shallow = All-nil (λ (p : Place). p.depth ≤ most_deep);
 }
 
 -- ---- a row of the code, in the list

@@ -7,6 +7,7 @@ use Rattle.std.proofs.lemmas.Bool.{cases_Bool, eqb-true}
 use Rattle.std.proofs.lemmas.List.{drop_all, drop_more, length-map, length-reverse, length-take-le, map-append, reverse-append, take_all}
 use Rattle.std.proofs.lemmas.Option.{get_or_from_slice_get, slice_get-map, slice_get_within}
 use Rattle.std.specs.List.{All}
+use Rattle.isad_core.specs.Limits.{most_deep}
 use Rattle.isad_core.specs.Texts.{Bytes}
 use Rattle.atom_csv.specs.declared.file.Row.{Row}
 use Rattle.tree_core.specs.Forest.{Forest, Empty, Node, each, join}
@@ -228,8 +229,8 @@ pub record Last (rows : List Row) (slots : List Slot) (slot : Slot) (tops : List
   pub children : planted slot.children.items ≡ seen_below (Some (suc (length slots))) (rest_of rows (suc (length slots)))
   pub grown : (p : Option ℕ) → IsBelow (length slots) p → planted (grown_at slots tops p) ≡ seen_below (option_map suc p) (rest_of rows (suc (length slots)))
   pub deep : slot.place.depth ≡ suc (depth_at slots slot.place.parent)
-  pub low_children : height_of_all slot.children.items + slot.place.depth ≤ 64
-  pub low : (p : Option ℕ) → IsBelow (length slots) p → height_of_all (grown_at slots tops p) + depth_at slots p ≤ 64
+  pub low_children : height_of_all slot.children.items + slot.place.depth ≤ most_deep
+  pub low : (p : Option ℕ) → IsBelow (length slots) p → height_of_all (grown_at slots tops p) + depth_at slots p ≤ most_deep
 
 pub last_slot : (rows : List Row) (slots : List Slot) (slot : Slot) (tops : List Tree) (x : Row)
     → HasGrown rows (slots ++ slot ∷ []) tops → x ≡ get_or rows (length slots) x → Last rows slots slot tops x
@@ -255,11 +256,11 @@ last_slot rows slots slot tops x h is =
           ∙ (h.grown p (subst (λ (n : ℕ). IsBelow n p) (sym count) (below_more k p below)) ∙ ap (seen_below (option_map suc p)) behind);
       deep = deeper (reverse (take k rows)) (map (λ (s : Slot). s.place) slots) x slot.place parts.0 parts.1
           ∙ ap suc (sym (depth_at-places slots slot.place.parent));
-      low_children = subst (λ (n : ℕ). height_of_all slot.children.items + n ≤ 64) (depth_at-last slots slot)
-          (subst (λ (trees : List Tree). height_of_all trees + depth_at (slots ++ slot ∷ []) (Some k) ≤ 64) (grown_at-last slots slot tops)
+      low_children = subst (λ (n : ℕ). height_of_all slot.children.items + n ≤ most_deep) (depth_at-last slots slot)
+          (subst (λ (trees : List Tree). height_of_all trees + depth_at (slots ++ slot ∷ []) (Some k) ≤ most_deep) (grown_at-last slots slot tops)
           (h.low (Some k) (subst (λ (n : ℕ). k < n) (sym count) (omega arith))));
-      low = λ p below. subst (λ (n : ℕ). height_of_all (grown_at slots tops p) + n ≤ 64) (depth_at-front slots slot p below)
-          (subst (λ (trees : List Tree). height_of_all trees + depth_at (slots ++ slot ∷ []) p ≤ 64) (grown_at-front slots slot tops p below)
+      low = λ p below. subst (λ (n : ℕ). height_of_all (grown_at slots tops p) + n ≤ most_deep) (depth_at-front slots slot p below)
+          (subst (λ (trees : List Tree). height_of_all trees + depth_at (slots ++ slot ∷ []) p ≤ most_deep) (grown_at-front slots slot tops p below)
           (h.low p (subst (λ (n : ℕ). IsBelow n p) (sym count) (below_more k p below))));
     }
 
@@ -318,8 +319,8 @@ grown_published rows slots more slot tops later x t h is published id row childr
       grown = λ p below. ap planted (puts p)
           ∙ (by_place p (option_eq nat_eq slot.place.parent p) (subst (λ (n : ℕ). IsBelow n p) count below)
           ∙ (sym (seen_below-published k slot.place.parent p x rest published) ∙ ap (seen_below (option_map suc p)) (sym behind)));
-      low = λ p below. subst (λ (trees : List Tree). height_of_all trees + depth_at more p ≤ 64) (sym (puts p))
-          (subst (λ (n : ℕ). height_of_all (if option_eq nat_eq slot.place.parent p then grown_at slots tops p ++ t ∷ [] else grown_at slots tops p) + n ≤ 64) (sym (same_depth p))
+      low = λ p below. subst (λ (trees : List Tree). height_of_all trees + depth_at more p ≤ most_deep) (sym (puts p))
+          (subst (λ (n : ℕ). height_of_all (if option_eq nat_eq slot.place.parent p then grown_at slots tops p ++ t ∷ [] else grown_at slots tops p) + n ≤ most_deep) (sym (same_depth p))
           (low_at p (option_eq nat_eq slot.place.parent p) refl (subst (λ (n : ℕ). IsBelow n p) count below)));
     }
   where
@@ -327,7 +328,7 @@ grown_published rows slots more slot tops later x t h is published id row childr
     same_depth p = depth_at-places more p ∙ (ap (λ (ps : List Place). depth_in ps p) places ∙ sym (depth_at-places slots p))
 
     low_at : (p : Option ℕ) (b : Bool) → option_eq nat_eq slot.place.parent p ≡ b → IsBelow (length slots) p
-        → height_of_all (if b then grown_at slots tops p ++ t ∷ [] else grown_at slots tops p) + depth_at slots p ≤ 64
+        → height_of_all (if b then grown_at slots tops p ++ t ∷ [] else grown_at slots tops p) + depth_at slots p ≤ most_deep
     low_at p true e below =
         let same : depth_at slots slot.place.parent ≡ depth_at slots p = ap (depth_at slots) (option_eq-true slot.place.parent p e) in
         let tall : height t ≡ suc (height_of_all slot.children.items) = height-parts t ∙ ap suc (ap height_of_all children ∙ height_of_all-reverse slot.children.items) in
@@ -349,15 +350,15 @@ grown_published rows slots more slot tops later x t h is published id row childr
 -- ---- the beginning and the end
 
 pub grown_none : (rows : List Row) (slots : List Slot) (places : List Place) → ArePlaced rows places
-    → All (λ (place : Place). place.depth ≤ 64) places
+    → All (λ (place : Place). place.depth ≤ most_deep) places
     → map (λ (s : Slot). s.place) slots ≡ places → All (λ (s : Slot). s.children.items ≡ []) slots → HasGrown rows slots []
 grown_none rows slots places placed shallow are bare = record {
   few = omega (arith, count);
   placed = subst (λ (r : List Row). AllPlaced (reverse r) (reverse (map (λ (s : Slot). s.place) slots))) (sym (take_all (length slots) rows (omega (arith, count))))
       (subst (λ (p : List Place). AllPlaced (reverse rows) (reverse p)) (sym are) placed);
   grown = λ p below. ap planted (empty p) ∙ ap (seen_below (option_map suc p)) (sym nothing);
-  low = λ p below. subst (λ (trees : List Tree). height_of_all trees + depth_at slots p ≤ 64) (sym (empty p))
-      (subst (λ (n : ℕ). 0 + n ≤ 64) (sym (depth_at-places slots p ∙ ap (λ (ps : List Place). depth_in ps p) are)) (shallow_in p));
+  low = λ p below. subst (λ (trees : List Tree). height_of_all trees + depth_at slots p ≤ most_deep) (sym (empty p))
+      (subst (λ (n : ℕ). 0 + n ≤ most_deep) (sym (depth_at-places slots p ∙ ap (λ (ps : List Place). depth_in ps p) are)) (shallow_in p));
 }
   where
     count : length slots ≡ length rows
@@ -367,11 +368,11 @@ grown_none rows slots places placed shallow are bare = record {
     nothing : rest_of rows (length slots) ≡ []
     nothing = ap (numbered_from Empty [] (suc (length slots)) (reverse (take (length slots) rows))) (drop_all (length slots) rows (omega (arith, count)))
 
-    shallow_at : (j : ℕ) (o : Option Place) → slice_get places j ≡ o → option_map_or (λ (place : Place). place.depth) o 0 ≤ 64
+    shallow_at : (j : ℕ) (o : Option Place) → slice_get places j ≡ o → option_map_or (λ (place : Place). place.depth) o 0 ≤ most_deep
     shallow_at j None e = omega arith
-    shallow_at j (Some place) e = subst (λ (p : Place). p.depth ≤ 64) (get_or_from_slice_get places j place place e) (shallow j place (slice_get_within places j place e))
+    shallow_at j (Some place) e = subst (λ (p : Place). p.depth ≤ most_deep) (get_or_from_slice_get places j place place e) (shallow j place (slice_get_within places j place e))
 
-    shallow_in : (p : Option ℕ) → 0 + depth_in places p ≤ 64
+    shallow_in : (p : Option ℕ) → 0 + depth_in places p ≤ most_deep
     shallow_in None = omega arith
     shallow_in (Some j) = omega (arith, shallow_at j (slice_get places j) refl)
 

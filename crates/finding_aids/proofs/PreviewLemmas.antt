@@ -12,7 +12,7 @@ use Rattle.atom_csv.specs.declared.file.Row.{Row}
 use Rattle.atom_csv.specs.Reads.{IsBad}
 use Rattle.atom_csv.specs.declared.file.FileFault.{FileFault}
 use Rattle.atom_csv.specs.declared.file.FileFault.TheVariants.{Bad, Memory}
-use Rattle.atom_csv.specs.Values.{distinct}
+use Rattle.isad_core.specs.Boxes.{distinct}
 use Rattle.tree_core.specs.Forest.{Forest, Empty, Node}
 use Rattle.catalogue_core.specs.Merging.{box_number, empty_catalogue, is_known, merge, merged, numbered_from, or_first}
 use Rattle.catalogue_core.specs.Publishing.{PublicUnit, Told, Stub}

@@ -3,6 +3,7 @@ use Rattle.std.proofs.Common.{◌≡◌, ℕ, zero, suc, ◌+◌, ◌-◌, ◌<�
 use Rattle.std.proofs.Math.Seq.{take-append_seam}
 use Rattle.std.proofs.lemmas.Grind.{flat_map-append}
 use Rattle.std.proofs.lemmas.List.{append-nil, map-append, take_more}
+use Rattle.isad_core.specs.Limits.{most_deep}
 use Rattle.isad_core.specs.Texts.{Bytes}
 use Rattle.isad_core.specs.Printed.{aid, unit_lines}
 use Rattle.isad_core.specs.Values.{identifier}
@@ -24,8 +25,8 @@ highest-le [] i t within is = absurd (omega arith)
 highest-le (u ∷ trees) zero t within is = omega (arith, ap height is)
 highest-le (u ∷ trees) (suc i) t within is = omega (arith, highest-le trees i t (omega arith) is)
 
-pub child_fits : (depth : ℕ) (trees : List Tree) (i : ℕ) (t : Tree) → i < length trees → t ≡ get_or trees i t → depth + height_of_all trees ≤ 64
-    → depth + 1 + height_of_all (out-Tree t).children.items ≤ 64
+pub child_fits : (depth : ℕ) (trees : List Tree) (i : ℕ) (t : Tree) → i < length trees → t ≡ get_or trees i t → depth + height_of_all trees ≤ most_deep
+    → depth + 1 + height_of_all (out-Tree t).children.items ≤ most_deep
 child_fits depth trees i t within is fits = omega (arith, highest-le trees i t within is, height-parts t)
 
 -- ---- forests side by side

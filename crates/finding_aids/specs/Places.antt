@@ -1,6 +1,7 @@
 -- Where the rows of a file stand, in an office that has nothing yet.
 use Rattle.std.specs.Prelude.{◌≡◌, ℕ, ◌+◌, ◌≤◌, if◌then◌else◌, List, [], ◌∷◌, length, reverse, Option, Some, None, option_and_then, option_map, slice_get}
 use Rattle.std.specs.List.{All}
+use Rattle.isad_core.specs.Limits.{most_deep}
 use Rattle.isad_core.specs.Texts.{Bytes}
 use Rattle.atom_csv.specs.declared.file.Row.{Row}
 use Rattle.tree_core.specs.Forest.{Empty}
@@ -24,7 +25,7 @@ faults = faults_below Empty [] []
 pub record IsPlaced (above : List Row) (row : Row) (place : Place) : Type 0 where
   pub parent : place.parent ≡ option_and_then (λ legacy. index_of legacy above) row.parent
   pub depth : depth_below above row.parent ≡ Some place.depth
-  pub shallow : place.depth ≤ 64
+  pub shallow : place.depth ≤ most_deep
 
 -- rows have these places, the last row and its place first
 abbrev pub AllPlaced : List Row → List Place → Type 0
@@ -51,4 +52,4 @@ pub record IsPlacing (rows : List Row) (known : Bytes → Option ℕ) (places : 
   pub none_bad : faults rows ≡ []
   pub knows : (legacy : Bytes) → known legacy ≡ index_of legacy (reverse rows)
   pub placed : ArePlaced rows places
-  pub shallow : All (λ (place : Place). place.depth ≤ 64) places
+  pub shallow : All (λ (place : Place). place.depth ≤ most_deep) places

@@ -1,6 +1,7 @@
 -- What has grown below each row and at the top.
 use Rattle.std.specs.Prelude.{◌≡◌, ℕ, suc, ◌+◌, ◌≤◌, ◌<◌, List, [], length, map, take, reverse, Option, Some, None, option_map, slice_get}
 use Rattle.std.specs.Option.{option_map_or}
+use Rattle.isad_core.specs.Limits.{most_deep}
 use Rattle.atom_csv.specs.declared.file.Row.{Row}
 use Rattle.finding_aids.specs.declared.previews.planting.Slot.{Slot}
 use Rattle.finding_aids.specs.declared.previews.planting.Tree.{Tree}
@@ -32,4 +33,4 @@ pub record HasGrown (rows : List Row) (slots : List Slot) (tops : List Tree) : T
   pub grown : (parent : Option ℕ) → IsBelow (length slots) parent
       → planted (grown_at slots tops parent) ≡ seen_below (option_map suc parent) (rest_of rows (length slots))
   pub low : (parent : Option ℕ) → IsBelow (length slots) parent
-      → height_of_all (grown_at slots tops parent) + depth_at slots parent ≤ 64
+      → height_of_all (grown_at slots tops parent) + depth_at slots parent ≤ most_deep

@@ -1,3 +1,4 @@
+pub mod BoxLemmas
 pub mod DateLemmas
 pub mod DayLemmas
 pub mod PrintLemmas

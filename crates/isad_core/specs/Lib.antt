@@ -1,7 +1,9 @@
+pub mod Boxes
 pub mod Codes
 pub mod Days
 pub mod Elements
 pub mod Levels
+pub mod Limits
 pub mod Printed
 pub mod Texts
 pub mod Values

@@ -12,13 +12,13 @@ use Rattle.isad_core.specs.declared.values.Values.{Values}
 use Rattle.tree_core.specs.Forest.{Forest, Empty, Node, nodes, each, has_place, size, cut, move_last}
 use Rattle.tree_core.proofs.Lists.{eqb_comm}
 use Rattle.tree_core.proofs.EachLemmas.{nodes-each, size-each}
-use Rattle.atom_csv.specs.Values.{distinct, is_same}
+use Rattle.isad_core.specs.Boxes.{distinct, is_same}
 use Rattle.catalogue_core.specs.Units.{Unit, has_id}
 use Rattle.catalogue_core.proofs.NodeLemmas.{length-nodes}
 use Rattle.office_core.specs.State.{State, Permit, has_unit}
-use Rattle.office_core.specs.Intake.{most_units}
-use Rattle.office_core.specs.Rules.{is_into_itself, depth_after, is_source, most_deep}
-use Rattle.office_core.specs.Soundness.{most_bytes, is_good_text, IsGoodUnit, is_same_unit, AreGoodUnits}
+use Rattle.isad_core.specs.Limits.{most_units, most_deep, most_bytes}
+use Rattle.office_core.specs.Rules.{is_into_itself, depth_after, is_source}
+use Rattle.office_core.specs.Soundness.{is_good_text, IsGoodUnit, is_same_unit, AreGoodUnits}
 use Rattle.office_core.proofs.Again.{all_append, all_split, all_each}
 use Rattle.catalogue_core.proofs.DistinctLists.{all_so, distinct_so, distinct_mapped, distinct_unmapped, distinct_beside, distinct_parts}
 use Rattle.office_core.proofs.Days.{all_cut, all_moved}

@@ -3,7 +3,7 @@ use Rattle.std.proofs.Common.{◌≡◌, ◌≢◌, ℕ, zero, suc, true, List, 
 use Rattle.std.specs.Prelude.{ℤ, int_lt, ◌≤ℤ◌, is_some}
 use Rattle.std.proofs.lemmas.Int.{ints}
 use Rattle.isad_core.specs.Texts.{Bytes}
-use Rattle.atom_csv.specs.Values.{distinct}
+use Rattle.isad_core.specs.Boxes.{distinct}
 use Rattle.std.proofs.lemmas.Bool.{false≢true}
 use Rattle.office_core.specs.Words.{numbered}
 use Rattle.desk_core.specs.declared.reader.Place.TheVariants.{Shelf, Desk, Out}

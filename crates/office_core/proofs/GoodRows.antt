@@ -11,13 +11,15 @@ use Rattle.atom_csv.specs.Entries.{entries, filled, joined}
 use Rattle.atom_csv.specs.Fields.{Fields, is_empty, value}
 use Rattle.atom_csv.specs.FileOf.{lines_below, row_number, is_long, row_of, row_told, fault_of, file_of}
 use Rattle.atom_csv.specs.Told.{IsThere, AreValues}
-use Rattle.atom_csv.specs.Values.{nonblank, text_of, described, triples, is_named_box, distinct}
+use Rattle.atom_csv.specs.Values.{nonblank, text_of, described, triples, is_named_box}
+use Rattle.isad_core.specs.Boxes.{distinct}
 use Rattle.atom_csv.specs.declared.column.Column.{Column}
 use Rattle.atom_csv.specs.declared.column.Column.TheVariants as column
 use Rattle.atom_csv.specs.declared.file.File.{File}
 use Rattle.atom_csv.specs.declared.file.Row.{Row}
 use Rattle.atom_csv.proofs.ToldLemmas.{file_sound}
-use Rattle.office_core.specs.Soundness.{is_good_text, most_bytes}
+use Rattle.office_core.specs.Soundness.{is_good_text}
+use Rattle.isad_core.specs.Limits.{most_bytes}
 use Rattle.catalogue_core.proofs.EachOf.{all_and}
 use Rattle.catalogue_core.proofs.FileRows.{read_from, tells, line_at, no_fault_cons}
 use Rattle.office_core.proofs.Imports.{distinct_again}
@@ -36,7 +38,7 @@ any_at p (y ∷ ys) zero x e h = subst (λ z. p z ≡ false) (let s : y ≡ x = 
 any_at p (y ∷ ys) (suc i) x e h = any_at p ys i x (or_parts (p y) (list_any p ys) e).1 h
 
 short_column : (header fields : Fields) (i : ℕ) (k : Column) → is_long header fields ≡ false → slice_get columns i ≡ Some k → length (value k header fields) ≤ most_bytes
-short_column header fields i k e h = ltb-false 65535 (length (value k header fields)) (any_at (λ k. nat_lt 65535 (length (value k header fields))) columns i k e h)
+short_column header fields i k e h = ltb-false most_bytes (length (value k header fields)) (any_at (λ k. nat_lt most_bytes (length (value k header fields))) columns i k e h)
 
 legacy_at : slice_get columns 0 ≡ Some column.LegacyId
 unfolding columns

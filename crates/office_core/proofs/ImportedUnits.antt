@@ -13,7 +13,8 @@ use Rattle.catalogue_core.specs.Units.{Unit}
 use Rattle.catalogue_core.specs.Merging.{Catalogue, New, numbered_from, new_unit, revised, merged_forest, merged_boxes, is_known}
 use Rattle.office_core.specs.declared.command.Command.TheVariants as command
 use Rattle.office_core.specs.State.{State, has_unit}
-use Rattle.office_core.specs.Intake.{Intake, Taken, too_much, is_full, most_units, most_unit_numbers, most_containers}
+use Rattle.office_core.specs.Intake.{Intake, Taken, too_much, is_full}
+use Rattle.isad_core.specs.Limits.{most_units, most_unit_numbers, most_containers}
 use Rattle.office_core.specs.Rules.{is_source, catalogue, taken, imported, checks, after}
 use Rattle.office_core.specs.Soundness.{AreGoodUnits, AreGoodContainers, ArePermitsOfUnits, IsGoodUnit, IsSound}
 use Rattle.office_core.specs.Imported.{IsSoundCatalogue, ImportsKeepTheCatalogue}

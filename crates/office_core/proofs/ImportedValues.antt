@@ -8,13 +8,14 @@ use Rattle.std.proofs.lemmas.List.Folds.{list_any-append}
 use Rattle.isad_core.specs.Texts.{Bytes}
 use Rattle.isad_core.specs.declared.values.BoxKey.{BoxKey}
 use Rattle.isad_core.specs.declared.values.Values.{Values}
-use Rattle.atom_csv.specs.Values.{distinct, is_same as is_same_box}
+use Rattle.isad_core.specs.Boxes.{distinct, is_same as is_same_box}
 use Rattle.atom_csv.specs.declared.file.Row.{Row}
-use Rattle.atom_csv.proofs.BoxLemmas.{same_sym}
+use Rattle.isad_core.proofs.BoxLemmas.{same_sym}
 use Rattle.catalogue_core.specs.Units.{Unit}
 use Rattle.catalogue_core.specs.Merging.{New, new_unit, revised, has_legacy, merged_boxes}
 use Rattle.office_core.specs.Rules.{is_source}
-use Rattle.office_core.specs.Soundness.{most_bytes, is_good_text, IsGoodUnit}
+use Rattle.isad_core.specs.Limits.{most_bytes}
+use Rattle.office_core.specs.Soundness.{is_good_text, IsGoodUnit}
 use Rattle.catalogue_core.proofs.EachOf.{all_and, all_of_found}
 use Rattle.office_core.proofs.GoodRows.{IsGoodRow}
 use Rattle.office_core.proofs.Again.{box_itself, stands_box, still_stands}

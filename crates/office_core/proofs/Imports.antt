@@ -11,7 +11,7 @@ use Rattle.atom_csv.specs.FileOf.{file_of}
 use Rattle.atom_csv.specs.declared.file.File.{File}
 use Rattle.atom_csv.specs.declared.file.Row.{Row}
 use Rattle.catalogue_core.specs.Merging.{Catalogue, merge, merged, or_first, faults_below, numbered_from, is_known, merged_boxes}
-use Rattle.atom_csv.specs.Values.{distinct, is_same as is_same_box}
+use Rattle.isad_core.specs.Boxes.{distinct, is_same as is_same_box}
 use Rattle.office_core.specs.Intake.{Intake, take, take_rows, with_file}
 
 -- the rows of units that are not catalogued

@@ -9,7 +9,7 @@ use Rattle.office_core.specs.declared.command.Command.{Command}
 use Rattle.office_core.specs.declared.command.Command.TheVariants as command
 use Rattle.office_core.specs.Rules.{catalogue, after, told, step, renewed, cancelled, issued, returned, imported, taken}
 use Rattle.isad_core.specs.Texts.{Bytes}
-use Rattle.atom_csv.specs.Values.{distinct}
+use Rattle.isad_core.specs.Boxes.{distinct}
 use Rattle.desk_core.specs.declared.refusal.Refusal.{Refusal}
 use Rattle.office_core.specs.Intake.{Taken}
 use Rattle.office_core.specs.Sound.{IsAscending}

@@ -14,9 +14,9 @@ use Rattle.office_core.specs.Rules.{checks, after, ordered, cancelled, issued, r
 use Rattle.std.specs.Ordering.{int_eq}
 use Rattle.std.proofs.lemmas.Bool.Decides.{Decides-int_eq}
 use Rattle.isad_core.specs.declared.values.BoxKey.{BoxKey}
-use Rattle.desk_core.specs.Checks.{most_orders}
+use Rattle.isad_core.specs.Limits.{most_orders}
 use Rattle.catalogue_core.specs.Housing.{is_open}
-use Rattle.atom_csv.specs.Values.{distinct}
+use Rattle.isad_core.specs.Boxes.{distinct}
 use Rattle.office_core.specs.Intake.{Taken}
 use Rattle.office_core.specs.Sound.{ExactlyOne, IsFiled, is_out_for, AreFiled, IsGoodOrder, AreGoodOrders}
 use Rattle.office_core.proofs.Words.{same_number, put_each, numbered-push, numbered-push_last}

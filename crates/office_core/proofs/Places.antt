@@ -6,7 +6,7 @@ use Rattle.std.proofs.lemmas.Bool.{eqb-true, ltb-false, leb-false, cases_eq, cas
 use Rattle.office_core.specs.Words.{numbered, put, some_and, stands, first}
 use Rattle.isad_core.specs.declared.values.BoxKey.{BoxKey}
 use Rattle.catalogue_core.specs.Housing.{is_open}
-use Rattle.atom_csv.specs.Values.{distinct}
+use Rattle.isad_core.specs.Boxes.{distinct}
 use Rattle.desk_core.specs.declared.reader.Place.TheVariants.{Shelf, Desk, Out}
 use Rattle.desk_core.specs.declared.reader.Place.{Place}
 use Rattle.office_core.specs.State.{State, Permit, is_permitted, is_seat_of, Order, Line, Run, is_seated, containers, is_container, opens, container_of, is_by, order_out, is_out, is_out_with, held, picked, line_for, next_run, brings, idle, granted}

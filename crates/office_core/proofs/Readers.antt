@@ -6,13 +6,14 @@ use Rattle.std.proofs.lemmas.Bool.{eqb-true, eqb-false, ltb-true, ltb-false, leb
 use Rattle.office_core.specs.Words.{numbered}
 use Rattle.tree_core.specs.Forest.{cut}
 use Rattle.catalogue_core.specs.Units.{has_id}
-use Rattle.atom_csv.specs.Values.{distinct}
+use Rattle.isad_core.specs.Boxes.{distinct}
 use Rattle.desk_core.specs.declared.reader.Place.TheVariants.{Shelf, Desk, Out}
 use Rattle.desk_core.specs.declared.reader.Place.{Place}
 use Rattle.office_core.specs.State.{State, Reader, Permit, has_unit, container_of, is_ticket, has_permit, granted, revoked}
 use Rattle.office_core.specs.declared.command.Command.{Command}
 use Rattle.office_core.specs.declared.command.Command.TheVariants as command
-use Rattle.office_core.specs.Rules.{most_tickets, most_permits, is_name, renewed, checks, after, cancelled, issued, returned, imported, taken, removed}
+use Rattle.isad_core.specs.Limits.{most_tickets, most_permits}
+use Rattle.office_core.specs.Rules.{is_name, renewed, checks, after, cancelled, issued, returned, imported, taken, removed}
 use Rattle.office_core.specs.Intake.{Taken}
 use Rattle.office_core.specs.Sound.{AreGoodReaders, ByUnit, AreGoodPermits}
 use Rattle.office_core.proofs.Words.{put_each, numbered-push, numbered-push_last, other_number}

@@ -9,8 +9,9 @@ use Rattle.desk_core.specs.declared.reader.Place.{Place}
 use Rattle.office_core.specs.State.{State, Order, Line, Run, container_of, is_shelf, opens, is_due, picked, line_for, next_run}
 use Rattle.office_core.specs.declared.command.Command.{Command}
 use Rattle.office_core.specs.declared.command.Command.TheVariants as command
-use Rattle.office_core.specs.Rules.{most_runs, checks, after, fetched, cancelled, issued, returned, imported, taken}
-use Rattle.atom_csv.specs.Values.{distinct}
+use Rattle.isad_core.specs.Limits.{most_runs}
+use Rattle.office_core.specs.Rules.{checks, after, fetched, cancelled, issued, returned, imported, taken}
+use Rattle.isad_core.specs.Boxes.{distinct}
 use Rattle.office_core.specs.Intake.{Taken}
 use Rattle.office_core.specs.Sound.{IsAscending, IsGoodLine, AreApart, IsGoodRun, AreGoodRuns}
 use Rattle.office_core.proofs.Words.{same_number, all-push, ascending-push, numbered-push, numbered-push_last}

@@ -10,7 +10,7 @@ use Rattle.office_core.specs.State.{is_seated, State, container_of, is_ticket, i
 use Rattle.office_core.specs.declared.command.Command.{Command}
 use Rattle.office_core.specs.declared.command.Command.TheVariants as command
 use Rattle.office_core.specs.Rules.{checks, after, cancelled, issued, returned, imported, taken}
-use Rattle.atom_csv.specs.Values.{distinct}
+use Rattle.isad_core.specs.Boxes.{distinct}
 use Rattle.office_core.specs.Intake.{Taken}
 use Rattle.office_core.specs.Sound.{SitOnce, AreGoodSeats}
 use Rattle.office_core.proofs.Words.{same_number, other_number}

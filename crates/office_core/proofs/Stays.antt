@@ -13,8 +13,8 @@ use Rattle.office_core.specs.declared.command.Command.{Command}
 use Rattle.office_core.specs.declared.command.Command.TheVariants as command
 use Rattle.office_core.specs.Words.{put}
 use Rattle.office_core.specs.State.{State, Permit, has_unit, container_of, granted, revoked}
-use Rattle.office_core.specs.Intake.{most_units, most_unit_numbers, most_containers}
-use Rattle.office_core.specs.Rules.{height, depth_after, is_into_itself, most_deep, checks, after, removed, cancelled, issued, returned, is_chosen, state_after}
+use Rattle.isad_core.specs.Limits.{most_units, most_unit_numbers, most_containers, most_deep}
+use Rattle.office_core.specs.Rules.{height, depth_after, is_into_itself, checks, after, removed, cancelled, issued, returned, is_chosen, state_after}
 use Rattle.office_core.specs.Soundness.{IsGoodUnit, is_same_unit, AreGoodSettings, AreGoodUnits, AreGoodContainers, ArePermitsOfUnits, IsSound, NamesDays}
 use Rattle.office_core.specs.Imported.{IsSoundCatalogue}
 use Rattle.office_core.proofs.Steps.{Passes, held_so, held_not, run_keeps_if}

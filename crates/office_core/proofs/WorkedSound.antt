@@ -14,7 +14,8 @@ use Rattle.tree_core.specs.Forest.{nodes, size}
 use Rattle.catalogue_core.specs.Units.{Unit}
 use Rattle.office_core.specs.Words.{numbered}
 use Rattle.office_core.specs.State.{Reader, Permit, has_unit, is_ticket}
-use Rattle.office_core.specs.Rules.{height, is_name, most_permits}
+use Rattle.office_core.specs.Rules.{height, is_name}
+use Rattle.isad_core.specs.Limits.{most_permits}
 use Rattle.office_core.specs.Sound.{ByUnit, IsSoundDesk}
 use Rattle.office_core.specs.Soundness.{IsSomeDay, IsGoodUnit, is_same_unit, AreGoodUnits, IsSound}
 use Rattle.office_core.specs.Worked.{office, march_1, march_31, year_end, titled, units_from, permits_from, hundred_permits}

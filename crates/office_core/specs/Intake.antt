@@ -4,6 +4,7 @@ use Rattle.std.specs.List.{list_all, flat_map}
 use Rattle.std.specs.Option.{option_eq}
 use Rattle.std.specs.Str.{bytes_eq}
 use Rattle.std.specs.Cmp.Lexicographic.{pointwise}
+use Rattle.isad_core.specs.Limits.{most_units, most_unit_numbers, most_containers}
 use Rattle.isad_core.specs.Texts.{Bytes, is_blank_text}
 use Rattle.isad_core.specs.Levels.{rank_of}
 use Rattle.isad_core.specs.Values.{text_of}
@@ -17,7 +18,7 @@ use Rattle.desk_core.specs.Refusals.{Check, when}
 use Rattle.desk_core.specs.declared.refusal.Refusal.TheVariants.{BadFile, Full}
 use Rattle.catalogue_core.specs.Units.{Unit, is_from}
 use Rattle.catalogue_core.specs.Merging.{Catalogue, merge, is_known}
-use Rattle.atom_csv.specs.Values.{is_same as is_same_box}
+use Rattle.isad_core.specs.Boxes.{is_same as is_same_box}
 use Rattle.office_core.specs.declared.done.Done.{Done}
 use Rattle.office_core.specs.declared.done.Done.TheVariants as done
 use Rattle.office_core.specs.declared.done.Remark.{Remark}
@@ -25,16 +26,6 @@ use Rattle.office_core.specs.declared.done.Remark.TheVariants.{LevelTooHigh, Lac
 use Rattle.office_core.specs.Words.{some_and}
 
 -- ---- how much the catalogue may have
-
-abbrev pub most_units : ℕ
-most_units = 200000
-
--- unit numbers that are ever given
-abbrev pub most_unit_numbers : ℕ
-most_unit_numbers = 100000000
-
-abbrev pub most_containers : ℕ
-most_containers = 100000
 
 abbrev pub is_full : Catalogue → Bool
 is_full c =

@@ -1,6 +1,7 @@
 -- The rules of the office: what each command asks for, in order, what it does, and what is told of it.
 use Rattle.std.specs.Prelude.{option_map, ℕ, ℤ, int_lt, zero, suc, ◌+◌, Bool, true, false, not, ◌&&◌, ◌||◌, cond, List, [], ◌∷◌, ◌++◌, length, filter, replicate, Option, Some, None, Result, Ok, Err, unwrap_or, is_some, nat_eq, nat_lt, nat_le, max}
 use Rattle.std.specs.List.{list_any, list_all}
+use Rattle.isad_core.specs.Limits.{most_deep, most_tickets, most_runs, most_permits}
 use Rattle.isad_core.specs.Texts.{Bytes, is_blank_text}
 use Rattle.tree_core.specs.Forest.{Forest, Empty, Node, each, path, tree, branch, cut, move_last, has_place}
 use Rattle.desk_core.specs.Checks.{order_checks, issue_checks, take_seat_checks, leave_seat_checks}
@@ -92,9 +93,6 @@ depth (Some u) f = length (path (has_id u) f)
 abbrev pub depth_after : ℕ → Option ℕ → Forest Unit → ℕ
 depth_after u parent f = depth parent f + height (tree (has_id u) f)
 
-abbrev pub most_deep : ℕ
-most_deep = 64
-
 -- ---- what a command does where no check holds
 
 abbrev pub opened : State → ℤ → State
@@ -183,16 +181,6 @@ after s (command.Permit t u until) = record s { permits = put s.permits t (grant
 after s (command.Revoke t u) = record s { permits = put s.permits t (revoked u (s.permits t)) }
 
 -- ---- what a command asks for, in order
-
-abbrev pub most_tickets : ℕ
-most_tickets = 1000000
-
-abbrev pub most_runs : ℕ
-most_runs = 1000000
-
--- of one ticket
-abbrev pub most_permits : ℕ
-most_permits = 100
 
 abbrev pub checks : State → Command → List Check
 checks s (command.OpenDay day) =

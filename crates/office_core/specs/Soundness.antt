@@ -4,14 +4,14 @@ use Rattle.std.specs.List.{list_any, list_all, AllByRecursion, IsDistinct}
 use Rattle.isad_core.specs.Texts.{Bytes, is_blank_text}
 use Rattle.isad_core.specs.Days.{IsDayNumber}
 use Rattle.isad_core.specs.declared.values.BoxKey.{BoxKey}
-use Rattle.atom_csv.specs.Values.{distinct, is_same as is_same_box}
+use Rattle.isad_core.specs.Boxes.{distinct, is_same as is_same_box}
 use Rattle.tree_core.specs.Forest.{nodes, size}
 use Rattle.catalogue_core.specs.Units.{Unit, is_from}
 use Rattle.office_core.specs.declared.command.Command.{Command}
 use Rattle.office_core.specs.declared.command.Command.TheVariants as command
 use Rattle.office_core.specs.State.{Settings, State, has_unit}
-use Rattle.office_core.specs.Intake.{most_units, most_unit_numbers, most_containers}
-use Rattle.office_core.specs.Rules.{is_source, is_between, height, most_deep}
+use Rattle.isad_core.specs.Limits.{most_bytes, most_units, most_unit_numbers, most_containers, most_deep}
+use Rattle.office_core.specs.Rules.{is_source, is_between, height}
 use Rattle.office_core.specs.Sound.{IsSoundDesk}
 
 -- ---- settings
@@ -47,9 +47,6 @@ pub record AreGoodDays (s : State) : Type 0 where
   pub closures : AllByRecursion (λ unit. IsSomeDay unit.until) (nodes s.forest)
 
 -- ---- units
-
-abbrev pub most_bytes : ℕ
-most_bytes = 65535
 
 -- a text of an element, where there is one, is not blank
 abbrev pub is_good_text : Option Bytes → Bool

@@ -5,7 +5,7 @@ use Rattle.std.specs.List.{IsDistinct, AllByRecursion, flat_map}
 use Rattle.std.proofs.lemmas.Bool.{and_left, and_right, false≢true, not-true}
 use Rattle.std.proofs.lemmas.List.Concat.{flat_map-cons}
 use Rattle.isad_core.specs.declared.values.BoxKey.{BoxKey}
-use Rattle.atom_csv.specs.Values.{distinct, is_same as is_same_box}
+use Rattle.isad_core.specs.Boxes.{distinct, is_same as is_same_box}
 use Rattle.tree_core.proofs.Lists.{In, In-append, In-map, head_apart, any_from_In}
 use Rattle.catalogue_core.specs.Units.{Unit}
 use Rattle.office_rows.specs.Reading.{number_of}

@@ -7,7 +7,7 @@ use Rattle.std.proofs.lemmas.Bool.{and_from, and_parts, le-leb, cases_Bool, fals
 use Rattle.std.proofs.lemmas.List.Sums.{length-filter}
 use Rattle.isad_core.specs.Days.{IsDayNumber, is_day_number}
 use Rattle.isad_core.proofs.DayLemmas.{is_day_number-true}
-use Rattle.desk_core.specs.Checks.{most_orders}
+use Rattle.isad_core.specs.Limits.{most_orders}
 use Rattle.desk_core.specs.declared.reader.Place.{Place}
 use Rattle.desk_core.specs.declared.reader.Place.TheVariants.{Shelf, Desk, Out}
 use Rattle.office_core.specs.Words.{numbered, some_and, stands}

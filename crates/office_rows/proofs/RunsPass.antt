@@ -12,7 +12,7 @@ use Rattle.office_core.specs.State.{State, Order, Line, Run, containers, is_seat
 use Rattle.office_core.specs.Secrecy.{StandsIn}
 use Rattle.office_core.specs.Sound.{IsGoodLine}
 use Rattle.office_core.specs.Soundness.{IsSound}
-use Rattle.office_core.specs.Rules.{most_runs}
+use Rattle.isad_core.specs.Limits.{most_runs}
 use Rattle.office_rows.specs.Tables.{RunRow, run_row, run_rows, RunLineRow, run_line_row, lines_from, run_line_rows, OrderRow}
 use Rattle.tree_core.specs.Versions.{Version}
 use Rattle.office_rows.specs.Reading.{line_from, run_from, tables}

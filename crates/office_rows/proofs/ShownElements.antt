@@ -5,13 +5,13 @@ use Rattle.std.specs.List.{IsDistinct, AllByRecursion, list_any, list_all}
 use Rattle.std.proofs.lemmas.Bool.{and_from, and_parts, le-leb, ltb-true, ltb-false, not-true, not_from_false, false≢true}
 use Rattle.isad_core.specs.Texts.{Bytes, is_blank_text}
 use Rattle.isad_core.specs.declared.values.BoxKey.{BoxKey}
-use Rattle.atom_csv.specs.Values.{is_same as is_same_box}
+use Rattle.isad_core.specs.Boxes.{is_same as is_same_box}
 use Rattle.tree_core.specs.Forest.{nodes}
 use Rattle.tree_core.proofs.Lists.{In, In-map, any_from_In}
 use Rattle.tree_core.specs.Versions.{Version}
 use Rattle.catalogue_core.specs.Units.{Unit}
 use Rattle.catalogue_core.specs.Merging.{box_number}
-use Rattle.office_core.specs.Intake.{most_containers}
+use Rattle.isad_core.specs.Limits.{most_containers}
 use Rattle.office_core.specs.Laws.{numbers_from}
 use Rattle.office_core.specs.State.{State}
 use Rattle.office_core.specs.Words.{numbered, stands}

@@ -13,17 +13,17 @@ use Rattle.std.proofs.lemmas.Map.Keys.{IsDistinct-IsPermutation}
 use Rattle.isad_core.specs.Texts.{is_blank_text}
 use Rattle.isad_core.specs.Days.{IsDayNumber, is_day_number}
 use Rattle.isad_core.specs.declared.values.BoxKey.{BoxKey}
-use Rattle.atom_csv.specs.Values.{distinct, is_same as is_same_box}
+use Rattle.isad_core.specs.Boxes.{distinct, is_same as is_same_box}
 use Rattle.tree_core.specs.Forest.{Forest, Empty, Node, nodes, each, size}
 use Rattle.tree_core.proofs.Lists.{In, In-map}
 use Rattle.tree_core.proofs.EachLemmas.{nodes-each}
 use Rattle.tree_core.specs.Versions.{Version, version_number}
 use Rattle.catalogue_core.specs.Units.{Unit}
 use Rattle.catalogue_core.proofs.NodeLemmas.{length-nodes}
-use Rattle.office_core.specs.Intake.{most_units, most_unit_numbers, most_containers}
+use Rattle.isad_core.specs.Limits.{most_units, most_unit_numbers, most_containers, most_deep, most_bytes}
 use Rattle.office_core.specs.Words.{stands}
-use Rattle.office_core.specs.Rules.{is_source, is_between, height, most_deep}
-use Rattle.office_core.specs.Soundness.{is_country, is_repository, most_bytes, IsSomeDay, IsGoodUnit, AreGoodSettings, AreGoodUnits, is_same_unit}
+use Rattle.office_core.specs.Rules.{is_source, is_between, height}
+use Rattle.office_core.specs.Soundness.{is_country, is_repository, IsSomeDay, IsGoodUnit, AreGoodSettings, AreGoodUnits, is_same_unit}
 use Rattle.office_core.specs.Laws.{numbers_from}
 use Rattle.office_rows.specs.Reading.{OfficeRow, UnitRow, unit_row, number_of, ElementRow, ContainerRow, HousingRow, Rows, place_rows, state_of, box_from, text_said, boxes_said, places_said, unit_said, unit_from, housings_of}
 use Rattle.office_rows.specs.DeskCauses.{are_numbered_from}

@@ -4,7 +4,7 @@ use Rattle.std.specs.Prelude.{filter, option_map, unwrap_or, slice_get}
 use Rattle.std.specs.List.{IsDistinct, AllByRecursion, list_any}
 use Rattle.std.proofs.lemmas.Bool.{and_parts, eqb-true, eq-eqb, false≢true, false_from_ne_true, or_left, or_right}
 use Rattle.isad_core.specs.declared.values.BoxKey.{BoxKey}
-use Rattle.atom_csv.specs.Values.{distinct, is_same as is_same_box}
+use Rattle.isad_core.specs.Boxes.{distinct, is_same as is_same_box}
 use Rattle.catalogue_core.specs.Merging.{box_number, number_in}
 use Rattle.tree_core.proofs.Lists.{In}
 use Rattle.office_core.specs.Words.{numbered}

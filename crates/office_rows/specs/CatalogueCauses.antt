@@ -6,17 +6,17 @@ use Rattle.std.specs.List.Sorted.{IsPermutation}
 use Rattle.std.specs.Str.{bytes_eq}
 use Rattle.isad_core.specs.Texts.{is_blank_text}
 use Rattle.isad_core.specs.Days.{is_day_number}
-use Rattle.atom_csv.specs.Values.{is_same as is_same_box}
+use Rattle.isad_core.specs.Boxes.{is_same as is_same_box}
 use Rattle.tree_core.specs.declared.rows.Link.{Link}
 use Rattle.tree_core.specs.declared.rows.Span.{Span}
 use Rattle.tree_core.specs.LinkFaults.{link_fault}
 use Rattle.tree_core.specs.SpanFaults.{span_fault}
 use Rattle.tree_core.specs.Versions.{version_number, Version, Links, Spans}
 use Rattle.office_core.specs.Words.{stands}
-use Rattle.office_core.specs.Intake.{most_units, most_unit_numbers, most_containers}
+use Rattle.isad_core.specs.Limits.{most_units, most_unit_numbers, most_containers, most_deep, most_bytes}
 use Rattle.office_core.specs.State.{State}
-use Rattle.office_core.specs.Rules.{is_source, is_between, height, most_deep}
-use Rattle.office_core.specs.Soundness.{is_country, is_repository, most_bytes}
+use Rattle.office_core.specs.Rules.{is_source, is_between, height}
+use Rattle.office_core.specs.Soundness.{is_country, is_repository}
 use Rattle.office_rows.specs.Reading.{OfficeRow, UnitRow, ElementRow, ContainerRow, HousingRow, PlaceRows, LinkRows, SpanRows, Rows, tables, state_of, box_from, housings_of}
 use Rattle.office_rows.specs.DeskCauses.{are_numbered_from}
 

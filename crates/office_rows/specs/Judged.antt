@@ -3,7 +3,7 @@
 use Rattle.std.specs.Prelude.{◌≡◌, None}
 use Rattle.std.specs.List.{AllByRecursion}
 use Rattle.isad_core.specs.Days.{IsDayNumber}
-use Rattle.atom_csv.specs.Values.{distinct}
+use Rattle.isad_core.specs.Boxes.{distinct}
 use Rattle.tree_core.specs.Forest.{nodes}
 use Rattle.tree_core.specs.Versions.{Version}
 use Rattle.office_core.specs.State.{State}

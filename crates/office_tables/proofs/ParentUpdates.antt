@@ -1,8 +1,7 @@
 -- UPDATE of a table that foreign keys refer to with no ON UPDATE.
-use Rattle.std.proofs.Common.{◌≡◌, ℕ, List, [], ◌∷◌, ◌++◌, length, Bool, true, false, ◌&&◌, ◌==◌, None, refl, sym, ap, ap₂, ◌∙◌, arith}
+use Rattle.std.proofs.Common.{◌≡◌, ℕ, List, [], ◌∷◌, ◌++◌, length, Bool, true, false, ◌&&◌, ◌==◌, None, refl, sym, ap, ap₂, ◌∙◌, arith, map, drop}
 use Rattle.std.specs.List.{list_all, flat_map, filter_map, cons_option}
 use Rattle.std.proofs.lemmas.Bool.Decides.{nat_tests}
-use Rattle.std.proofs.Common.{map, drop}
 use Rattle.std.proofs.lemmas.List.{length-map}
 use Rattle.sqlite.specs.Cast.{cast_row}
 use Rattle.sqlite.specs.Edit.{edit_of, taken_by, row_at, id_in, without_all}

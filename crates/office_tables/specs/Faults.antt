@@ -1,6 +1,5 @@
 -- Why a call that is accepted fails.
-use Rattle.std.specs.Prelude.{◌≡◌, ◌⊎◌, ◌≤◌, false, ⊤, None}
-use Rattle.tree_core.specs.Forest.{Forest, size}
+use Rattle.std.specs.Prelude.{◌≡◌, ◌⊎◌, false, ⊤, None}
 use Rattle.sqlite_disk.specs.Disk.{MoreFaults}
 use Rattle.sqlite.specs.State.{State}
 use Rattle.sqlite.specs.declared.error.Error.{Error}
@@ -37,7 +36,3 @@ abbrev pub BlamesDisk : State → State → StoreFault → Type 0
 BlamesDisk old new fault.Memory = ⊤
 BlamesDisk old new fault.Disk = HasCause old new fault.Disk
 BlamesDisk old new fault.Schema = ⊤
-
--- an office keeps so many units at most
-abbrev pub FitsOffice : {A : Type 0} → Forest A → Type 0
-FitsOffice f = size f ≤ 200000

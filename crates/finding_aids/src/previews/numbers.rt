@@ -3,7 +3,7 @@ ghost use Rattle.std.specs.Prelude.{◌≡◌, ◌+◌, ◌++◌, ◌∷◌, [],
 ghost use Rattle.std.specs.BTreeMap.{btree_map_len};
 ghost use Rattle.std.specs.List.{flat_map};
 ghost use Rattle.isad_core.specs.declared.values.BoxKey as spec;
-ghost use Rattle.atom_csv.specs.Values.{is_same};
+ghost use Rattle.isad_core.specs.Boxes.{is_same};
 ghost use Rattle.finding_aids.specs.Numbers.{AreNumbered, number_at};
 
 use atom_csv::Row;

@@ -3,6 +3,7 @@ ghost use Rattle.std.specs.Prelude.{◌≡◌, ◌≤◌, ◌∷◌, [], ℕ, Bo
 ghost use Rattle.std.specs.BTreeMap.{get_by_text};
 ghost use Rattle.std.specs.List.{All};
 ghost use Rattle.std.specs.Str.{bytes_eq};
+ghost use Rattle.isad_core.specs.Limits.{most_deep};
 ghost use Rattle.isad_core.specs.Texts.{Bytes};
 ghost use Rattle.atom_csv.specs.Reads.{IsBad};
 ghost use Rattle.finding_aids.specs.Places.{ArePlaced, faults};
@@ -33,7 +34,7 @@ type Known = BTreeMap<String, usize>;
 pub fn place_rows(alloc: Global, rows: &[Row]) -> Result<Vec<Place>, FileFault>
     ensures none_bad { IfOk result (λ places. faults rows.now ≡ []) }
     ensures places { IfOk result (λ places. ArePlaced rows.now places.items) }
-    ensures shallow { IfOk result (λ places. All (λ place. place.depth ≤ 64) places.items) }
+    ensures shallow { IfOk result (λ places. All (λ place. place.depth ≤ most_deep) places.items) }
     ensures bad { IfErr result (λ e. IsBad e (λ row cause. (later : _) × (faults rows.now ≡ (row, cause) ∷ later))) }
 {
     let mut known: Known = BTreeMap::new(alloc);
@@ -63,7 +64,7 @@ fn bad(row: &Row, cause: u8) -> FileFault
 
 /// The place below this parent, or of a top, where the parent is known.
 fn place_of(known: &Known, places: &[Place], parent: Option<&Text>) -> Option<Place>
-    requires { All (λ p. p.depth ≤ 64) places.now }
+    requires { All (λ p. p.depth ≤ most_deep) places.now }
     ensures { result ≡ spec.place_of (get_by_text known.now) places.now (option_copied parent.entry) }
 {
     match parent {
@@ -84,7 +85,7 @@ fn index_of(known: &Known, legacy: &Text) -> Option<usize>
 
 /// The place right below a row.
 fn place_at(places: &[Place], index: usize) -> Option<Place>
-    requires { All (λ p. p.depth ≤ 64) places.now }
+    requires { All (λ p. p.depth ≤ most_deep) places.now }
     ensures { result ≡ spec.place_at places.now index }
 {
     let above = places.get(index)?;

@@ -4,6 +4,7 @@ ghost use Rattle.std.specs.List.{All};
 ghost use Rattle.std.specs.Option.{option_eq};
 ghost use Rattle.catalogue_core.specs.Merging.{numbered_from};
 ghost use Rattle.tree_core.specs.Forest.{Empty};
+ghost use Rattle.isad_core.specs.Limits.{most_deep};
 ghost use Rattle.finding_aids.specs.Places.{ArePlaced};
 ghost use Rattle.finding_aids.specs.Planting.{grove, height_of_all, seen_below};
 ghost use Rattle.finding_aids.specs.Slots.{IsBelow, children_at, grown_at};
@@ -35,9 +36,9 @@ pub fn plant<'a>(
     places: &[Place],
 ) -> Result<Vec<Tree<'a>>, AllocError>
     requires placed { ArePlaced rows.now places.now }
-    requires shallow { All (λ place. place.depth ≤ 64) places.now }
+    requires shallow { All (λ place. place.depth ≤ most_deep) places.now }
     ensures grove { IfOk result (λ tops. grove tops.items ≡ seen_below None (numbered_from Empty [] 1 [] rows.now)) }
-    ensures low { IfOk result (λ tops. height_of_all tops.items ≤ 64) }
+    ensures low { IfOk result (λ tops. height_of_all tops.items ≤ most_deep) }
 {
     let mut slots = bare_slots(alloc, places)?;
     let mut tops = Vec::new(alloc);

@@ -1,5 +1,6 @@
 //! The finding aids of a file's trees.
 ghost use Rattle.std.specs.Prelude.{◌≡◌, ◌≤◌, ◌+◌, ◌++◌, ◌∷◌, [], IfOk, OnOk, List, map, option_copied, unwrap_or};
+ghost use Rattle.isad_core.specs.Limits.{most_deep};
 ghost use Rattle.isad_core.specs.Printed.{aid, unit_lines};
 ghost use Rattle.finding_aids.specs.Planting.{grove, height_of_all};
 ghost use Rattle.finding_aids.specs.Printing.{number_by, shown_by, shown_told};
@@ -45,7 +46,7 @@ impl<'a> Printer<'a> {
         depth: u32,
         trees: &[Tree<'a>],
     ) -> Result<(), AllocError>
-        requires { depth + height_of_all trees.now ≤ 64 }
+        requires { depth + height_of_all trees.now ≤ most_deep }
         ensures printed { OnOk result (out.new.items ≡ out.old.items ++ aid (shown_by (record { country = self.now.country.now; repo = self.now.repo.now }) (number_by self.now.numbers) ids.old.items depth (grove trees.now))) }
         ensures ids { OnOk result (ids.new.items ≡ ids.old.items) }
     {

@@ -5,7 +5,8 @@ use Rattle.isad_core.specs.Texts.{Bytes}
 use Rattle.isad_core.specs.declared.values.BoxKey.{BoxKey}
 use Rattle.atom_csv.specs.Entries.{entries}
 use Rattle.atom_csv.specs.Fields.{seen}
-use Rattle.atom_csv.specs.Values.{distinct, entry_at, is_named_box, is_same, triples}
+use Rattle.isad_core.specs.Boxes.{distinct, is_same}
+use Rattle.atom_csv.specs.Values.{entry_at, is_named_box, triples}
 use Rattle.atom_csv.proofs.BoxLemmas.{Told, holds_more, key_of, length-triples}
 use Rattle.atom_csv.proofs.boxes.boxes.Goals as goal
 

@@ -14,7 +14,7 @@ use Rattle.catalogue_store.specs.declared.unit_values.UnitValues.{UnitValues}
 use Rattle.office_tables.proofs.Calls.{cut_then, early, goes_then, looks_then}
 use Rattle.catalogue_rows.proofs.FoundUnits.{none_found, one_found}
 use Rattle.std.specs.List.{list_any, list_all}
-use Rattle.atom_csv.specs.Values.{is_same}
+use Rattle.isad_core.specs.Boxes.{is_same}
 use Rattle.office_tables.specs.Faults.{IsUnlimited}
 use Rattle.office_tables.proofs.Causes.{cause_then, still_unlimited}
 use Rattle.catalogue_store.proofs.MarkCauses.{legible_units}
