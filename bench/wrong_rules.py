@@ -174,8 +174,37 @@ E=[
 ('something in no container',R+'CatalogueCauses.antt','is_between 1 (length t.containers) row.container','true'),
 ('containers of a unit with a gap',R+'CatalogueCauses.antt','is_between 1 (length (housings_of row.unit t.housings)) row.ord','nat_le 1 row.ord'),
 ('the second cause before the first',R+'CatalogueCauses.antt','office_is_bad version t ∷ places_are_bad version t ∷','places_are_bad version t ∷ office_is_bad version t ∷'),
+# what a rule nearly says: the rows of DeskRows, CatalogueRows and ShownRows
+('Renew renews ticket 1',O+'Rules.antt','renewed until s.readers t','renewed until s.readers 1'),
+('Register refuses a day that is past',O+'Rules.antt','unless (is_name name) BadName\n','unless (is_name name) BadName\n    ∷ when (int_lt until s.day) BadName\n'),
+('Run looks at the last day of the ticket',O+'State.antt','opens s order.ticket order.container))','opens s order.ticket order.container && not (is_expired s order.ticket)))'),
+('Reshelve tells the containers backwards',O+'Rules.antt','done.Reshelve (idle s)','done.Reshelve (Rattle.std.specs.Prelude.reverse (idle s))'),
+('Issue tells TicketExpired before NotFirst',O+'Rules.antt','first = some_and (is_by s t) (first (s.queue c));','first = is_expired s t || some_and (is_by s t) (first (s.queue c));'),
+('Issue tells NotAvailable before HandsFull',O+'Rules.antt','hands = s.settings.hands;','hands = cond (opens s t c) s.settings.hands (suc (held s t));'),
+('Order tells AlreadyOrdered before NotAvailable',O+'Rules.antt','available = opens s t c;\n      ordered','available = has_ordered s t c || opens s t c;\n      ordered'),
+('Permit tells UnknownUnit before UnknownTicket',O+'Rules.antt','unless (is_ticket s t) UnknownTicket\n    ∷ unless (has_unit s.forest u) UnknownUnit\n    ∷ when','unless (has_unit s.forest u) UnknownUnit\n    ∷ unless (is_ticket s t) UnknownTicket\n    ∷ when'),
+('Import tells WithReader before Full',O+'Rules.antt','    ∷ too_much (taken s source file)\n    ∷ gate (after s (command.Import source file))\n','    ∷ gate (after s (command.Import source file))\n    ∷ too_much (taken s source file)\n'),
+('a branch counts what changed alone',O+'Rules.antt','done.SetStatus (chosen whole u','done.SetStatus ((λ (f : Forest Unit). length (filter (λ (unit : Unit). is_chosen whole u f unit && cond draft (not unit.draft) unit.draft) (Rattle.tree_core.specs.Forest.nodes f)))'),
+('Move goes before the other tops',O+'Rules.antt','move_last has_id u parent','(λ (f : Forest Unit). cond (is_some parent) (move_last has_id u parent f) (Rattle.tree_core.specs.Forest.join (tree (has_id u) f) (cut (has_id u) f)))'),
+('Move goes before the other children',O+'Rules.antt','branch, cut, move_last, has_place}','branch, cut, put_last, join, has_place}\n\nput_first : {A : Type 0} → (A → Bool) → Forest A → Forest A → Forest A\nput_first is g Empty = Empty\nput_first is g (Node a children others) = Node a (cond (is a) (join g children) (put_first is g children)) (put_first is g others)\n\nmove_last : {A : Type 0} → (ℕ → A → Bool) → ℕ → Option ℕ → Forest A → Forest A\nmove_last is u None f = put_last is None (tree (is u) f) (cut (is u) f)\nmove_last is u (Some p) f = put_first (is p) (tree (is u) f) (cut (is u) f)\n'),
+('a file changes the units of other sources',C+'Merging.antt','if bytes_eq unit.source source','if bytes_eq unit.source unit.source'),
+('new children stand before the old ones',C+'Merging.antt','join (grown source new children) (new_units source (Some unit.id) new)','join (new_units source (Some unit.id) new) (grown source new children)'),
+('new tops stand before the old ones',C+'Merging.antt','join (grown source new (each (revised source rows) f)) (new_units source None new)','join (new_units source None new) (grown source new (each (revised source rows) f))'),
+('a known row without its parent is faulty',C+'Merging.antt','or_first (faults_below s.forest source [] new)','or_first (faults_below s.forest source [] rows)'),
+('containers in another order are the same',O+'Intake.antt','pointwise is_same_box a.boxes b.boxes','(list_all (λ x. Rattle.std.specs.List.list_any (is_same_box x) b.boxes) a.boxes && list_all (λ x. Rattle.std.specs.List.list_any (is_same_box x) a.boxes) b.boxes)'),
+('levels are held against the top',O+'Intake.antt','remark_on row (first ∷ parent ∷ unit ∷ path) = remark_on row (parent ∷ unit ∷ path)','remark_on row (first ∷ parent ∷ unit ∷ path) = remark_on row (first ∷ unit ∷ path)'),
+('a closed unit has no aid of its own',O+'Queries.antt','cond (has (is_numbered u) f) (Text','cond (has (λ (unit : PublicUnit). is_numbered u unit && Rattle.std.specs.Prelude.nat_eq (Rattle.std.specs.Prelude.length (Rattle.isad_core.specs.Printed.heading [] (Rattle.catalogue_core.specs.Aids.shown_unit press.at press.containers [] 0 unit).body)) 1) f) (Text'),
+('closed tops are left out',O+'Pages.antt','(side_by_side press [] f)','(Rattle.std.specs.Prelude.filter (λ (top : ℕ × Shown). Rattle.std.specs.Prelude.nat_eq (Rattle.std.specs.Prelude.length (Rattle.isad_core.specs.Printed.heading [] top.1.body)) 1) (side_by_side press [] f))'),
+('closed children are left off a page',O+'Pages.antt','below = side_by_side press (map identifier_of way) children;','below = Rattle.std.specs.Prelude.filter (λ (child : ℕ × Shown). Rattle.std.specs.Prelude.nat_eq (Rattle.std.specs.Prelude.length (Rattle.isad_core.specs.Printed.heading [] child.1.body)) 1) (side_by_side press (map identifier_of way) children);'),
+('a page lists its children backwards',O+'Pages.antt','below = side_by_side press (map identifier_of way) children;','below = Rattle.std.specs.Prelude.reverse (side_by_side press (map identifier_of way) children);'),
+('the slip of an older run has the date of today',O+'Queries.antt','slip n run.day','slip n s.day'),
+('the slip of an older run has the number of the last',O+'Queries.antt','slip n run.day','slip (length s.runs) run.day'),
+('a queue is shown backwards',O+'Queries.antt','filter_map (waiting_json s) (s.queue c)','Rattle.std.specs.Prelude.reverse (filter_map (waiting_json s) (s.queue c))'),
+('the orders of a reader are shown backwards',O+'Queries.antt','filter_map (order_json s) (live_orders s t)','Rattle.std.specs.Prelude.reverse (filter_map (order_json s) (live_orders s t))'),
+('IssuedNow tells one alone',O+'Queries.antt','filter_map (issued_json s) (containers s)','Rattle.std.specs.Prelude.take 1 (filter_map (issued_json s) (containers s))'),
+('expired permits are not told',O+'Queries.antt','map permit_json (s.permits t)','map permit_json (filter (λ (permit : Permit). Rattle.std.specs.Prelude.int_le s.day permit.until) (s.permits t))'),
 ]
-ROWS=['office_core::worked::worked_rows','office_core::worked::worked_answers','office_rows::worked::worked_catalogue_causes','office_rows::worked::worked_desk_causes']  # the functions whose rows are looked at first
+ROWS=['office_core::worked::worked_desk','office_core::worked::worked_catalogue','office_core::worked::worked_lists','office_core::worked::worked_rows','office_core::worked::worked_answers','office_rows::worked::worked_catalogue_causes','office_rows::worked::worked_desk_causes']  # the functions whose rows are looked at first
 def run(cmd,cwd):
     p=subprocess.run(cmd,cwd=cwd,capture_output=True,text=True); return p.stdout+p.stderr
 def errors(out):

@@ -36,3 +36,6 @@ pub mod ImportedDepth
 pub mod ImportedValues
 pub mod ImportedUnits
 pub mod ImportedCounts
+pub mod DeskRows
+pub mod CatalogueRows
+pub mod ShownRows

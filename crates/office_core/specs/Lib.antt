@@ -13,3 +13,6 @@ pub mod AnswerRows
 pub mod Secrecy
 pub mod Soundness
 pub mod Imported
+pub mod DeskRows
+pub mod CatalogueRows
+pub mod ShownRows

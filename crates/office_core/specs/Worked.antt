@@ -10,7 +10,7 @@ use Rattle.office_core.specs.declared.done.Done.TheVariants as done
 use Rattle.office_core.specs.declared.done.Remark.{Remark}
 use Rattle.office_core.specs.Words.{put}
 use Rattle.office_core.specs.State.{State, Permit, start}
-use Rattle.office_core.specs.Rules.{Reply, replies}
+use Rattle.office_core.specs.Rules.{Reply, replies, state_after}
 
 -- ---- days
 
@@ -147,6 +147,62 @@ chain n = codes "legacyId,parentId\n" ++ chain_lines n
 abbrev pub harbour : Bytes
 harbour =
     codes "legacyId,parentId,identifier,title,levelOfDescription,publicationStatus,scopeAndContent,accessConditions\n1,,HUL,Docks,Series,Published,Ships,Open\n2,1,1,Minutes,Series,Published,,\n"
+
+-- the fonds and its series, which has another title
+abbrev pub docks_renamed : Bytes
+docks_renamed =
+    codes "legacyId,parentId,identifier,title,levelOfDescription,publicationStatus\n1,,HUL,Hull Dock Company,Fonds,Published\n2,1,1,Minute books,Series,Published\n"
+
+-- another series and another fonds before the fonds and its series
+abbrev pub docks_and_mersey : Bytes
+docks_and_mersey =
+    codes "legacyId,parentId,identifier,title,levelOfDescription,publicationStatus\n3,1,2,Plans,Series,Published\n4,,MER,Mersey Docks,Fonds,Published\n1,,HUL,Hull Dock Company,Fonds,Published\n2,1,1,Minutes,Series,Published\n"
+
+-- the series with a parent that nobody knows
+abbrev pub docks_strayed : Bytes
+docks_strayed =
+    codes "legacyId,parentId,identifier,title,levelOfDescription,publicationStatus\n2,9,1,Minutes,Series,Published\n"
+
+-- the same, and another series with that parent
+abbrev pub docks_strayed_with_another : Bytes
+docks_strayed_with_another =
+    codes "legacyId,parentId,identifier,title,levelOfDescription,publicationStatus\n2,9,1,Minutes,Series,Published\n3,9,2,Plans,Series,Published\n"
+
+-- a unit in two containers
+abbrev pub two_boxes : Bytes
+two_boxes = codes "legacyId,title,publicationStatus,physicalObjectName\n1,Plans,Published,Box 1|Box 2\n"
+
+-- the same, the containers the other way round
+abbrev pub two_boxes_turned : Bytes
+two_boxes_turned = codes "legacyId,title,publicationStatus,physicalObjectName\n1,Plans,Published,Box 2|Box 1\n"
+
+-- a file in an item in a fonds
+abbrev pub file_in_an_item : Bytes
+file_in_an_item = codes "legacyId,parentId,title,levelOfDescription\n1,,Top,Fonds\n2,1,Mid,Item\n3,2,Low,File\n"
+
+-- a subfonds in a fonds in a series
+abbrev pub subfonds_in_an_odd_place : Bytes
+subfonds_in_an_odd_place = codes "legacyId,parentId,title,levelOfDescription\n1,,Top,Series\n2,1,Mid,Fonds\n3,2,Low,Subfonds\n"
+
+-- four units in their containers, and a fifth
+abbrev pub boxes_and_5 : Bytes
+boxes_and_5 = boxes ++ codes "5,E,Charts,Published,Box 5,Strongroom 1\n"
+
+-- the same, with the second in another container
+abbrev pub boxes_with_9_and_5 : Bytes
+boxes_with_9_and_5 = boxes_with_9 ++ codes "5,E,Charts,Published,Box 5,Strongroom 1\n"
+
+-- and a sixth
+abbrev pub boxes_with_9_and_two : Bytes
+boxes_with_9_and_two = boxes_with_9_and_5 ++ codes "6,F,Log books,Published,Box 6,Strongroom 1\n"
+
+-- ---- an office that has one unit number left, where Ann has container 2
+
+abbrev pub one_number_left : State
+one_number_left =
+    record (state_after office (import boxes ∷ ann ∷ command.Order 1 2 ∷ command.Run ∷ command.TakeSeat 1 ∷ command.Issue 2 1 ∷ [])) {
+      next_unit = 100000000;
+    }
 
 -- ---- an office with 101 units, where Ann has permits for the first hundred
 

@@ -2,6 +2,9 @@
 
 ghost use Rattle.office_core.specs.Rows as row;
 ghost use Rattle.office_core.specs.AnswerRows as answers;
+ghost use Rattle.office_core.specs.DeskRows as desk;
+ghost use Rattle.office_core.specs.CatalogueRows as catalogue;
+ghost use Rattle.office_core.specs.ShownRows as shown;
 
 /// The commands of each row get the replies of the row.
 pub fn worked_rows()
@@ -43,4 +46,35 @@ pub fn worked_answers()
     ensures statuses { answers.Statuses }
     ensures at_the_desk { answers.AtTheDesk }
     ensures replies { answers.Replies }
+{}
+
+/// The replies at the desk are those of the rows, where two rules are easily mistaken for one another.
+pub fn worked_desk()
+    ensures renewed_alone { desk.RenewedAlone }
+    ensures registered_too_late { desk.RegisteredTooLate }
+    ensures run_for_an_expired_ticket { desk.RunForAnExpiredTicket }
+    ensures reshelved_in_order { desk.ReshelvedInOrder }
+    ensures not_first_and_expired { desk.NotFirstAndExpired }
+    ensures hands_full_and_closed { desk.HandsFullAndClosed }
+    ensures ordered_and_closed { desk.OrderedAndClosed }
+    ensures unknown_ticket_and_unit { desk.UnknownTicketAndUnit }
+{}
+
+/// What imports, moves and statuses tell, and what is then shown, is that of the rows.
+pub fn worked_catalogue()
+    ensures sources_apart { catalogue.SourcesApart }
+    ensures known_rows_stay { catalogue.KnownRowsStay }
+    ensures boxes_turned { catalogue.BoxesTurned }
+    ensures levels_of_parents { catalogue.LevelsOfParents }
+    ensures too_much_before_the_gate { catalogue.TooMuchBeforeTheGate }
+    ensures branch_counted { catalogue.BranchCounted }
+    ensures last_places { catalogue.LastPlaces }
+    ensures boxes_in_order { catalogue.BoxesInOrder }
+{}
+
+/// Lists, and what is closed, expired or of an earlier day, are shown as in the rows.
+pub fn worked_lists()
+    ensures closed_shown { shown.ClosedShown }
+    ensures old_slips { shown.OldSlips }
+    ensures lists { shown.Lists }
 {}

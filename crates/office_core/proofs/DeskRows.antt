@@ -1,0 +1,43 @@
+-- The rows of the reading room, computed.
+use Rattle.std.proofs.Common.{refl}
+use Rattle.std.specs.Str.{is_utf8, chars}
+use Rattle.std.proofs.Math.Utf8.{encode}
+use Rattle.csv.specs.Reading.{records_from, strip_bom}
+use Rattle.csv.specs.Machine.{next_record}
+use Rattle.atom_csv.specs.Columns.{columns}
+use Rattle.atom_csv.specs.Values.{described}
+use Rattle.catalogue_core.specs.Housing.{is_open}
+use Rattle.office_core.specs.Intake.{take}
+use Rattle.office_core.specs.DeskRows.{RenewedAlone, RegisteredTooLate, RunForAnExpiredTicket, ReshelvedInOrder, NotFirstAndExpired, HandsFullAndClosed, OrderedAndClosed, UnknownTicketAndUnit}
+
+pub renewed_alone : RenewedAlone
+unfolding is_open take is_utf8 chars encode records_from strip_bom next_record columns described
+renewed_alone = refl
+
+pub registered_too_late : RegisteredTooLate
+unfolding is_open take is_utf8 chars encode records_from strip_bom next_record columns described
+registered_too_late = refl
+
+pub run_for_an_expired_ticket : RunForAnExpiredTicket
+unfolding is_open take is_utf8 chars encode records_from strip_bom next_record columns described
+run_for_an_expired_ticket = refl
+
+pub reshelved_in_order : ReshelvedInOrder
+unfolding is_open take is_utf8 chars encode records_from strip_bom next_record columns described
+reshelved_in_order = refl
+
+pub not_first_and_expired : NotFirstAndExpired
+unfolding is_open take is_utf8 chars encode records_from strip_bom next_record columns described
+not_first_and_expired = refl
+
+pub hands_full_and_closed : HandsFullAndClosed
+unfolding is_open take is_utf8 chars encode records_from strip_bom next_record columns described
+hands_full_and_closed = refl
+
+pub ordered_and_closed : OrderedAndClosed
+unfolding is_open take is_utf8 chars encode records_from strip_bom next_record columns described
+ordered_and_closed = refl
+
+pub unknown_ticket_and_unit : UnknownTicketAndUnit
+unfolding is_open take is_utf8 chars encode records_from strip_bom next_record columns described
+unknown_ticket_and_unit = refl

@@ -1,0 +1,26 @@
+use Rattle.office_core.proofs.DeskRows as row
+use Rattle.office_core.proofs.worked.worked_desk.Goals as goal
+
+pub returns-clause-renewed_alone : goal.returns-clause-renewed_alone
+returns-clause-renewed_alone c = row.renewed_alone
+
+pub returns-clause-registered_too_late : goal.returns-clause-registered_too_late
+returns-clause-registered_too_late c = row.registered_too_late
+
+pub returns-clause-run_for_an_expired_ticket : goal.returns-clause-run_for_an_expired_ticket
+returns-clause-run_for_an_expired_ticket c = row.run_for_an_expired_ticket
+
+pub returns-clause-reshelved_in_order : goal.returns-clause-reshelved_in_order
+returns-clause-reshelved_in_order c = row.reshelved_in_order
+
+pub returns-clause-not_first_and_expired : goal.returns-clause-not_first_and_expired
+returns-clause-not_first_and_expired c = row.not_first_and_expired
+
+pub returns-clause-hands_full_and_closed : goal.returns-clause-hands_full_and_closed
+returns-clause-hands_full_and_closed c = row.hands_full_and_closed
+
+pub returns-clause-ordered_and_closed : goal.returns-clause-ordered_and_closed
+returns-clause-ordered_and_closed c = row.ordered_and_closed
+
+pub returns-clause-unknown_ticket_and_unit : goal.returns-clause-unknown_ticket_and_unit
+returns-clause-unknown_ticket_and_unit c = row.unknown_ticket_and_unit

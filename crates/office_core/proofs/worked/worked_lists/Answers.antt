@@ -1,0 +1,11 @@
+use Rattle.office_core.proofs.ShownRows as row
+use Rattle.office_core.proofs.worked.worked_lists.Goals as goal
+
+pub returns-clause-closed_shown : goal.returns-clause-closed_shown
+returns-clause-closed_shown c = row.closed_shown
+
+pub returns-clause-old_slips : goal.returns-clause-old_slips
+returns-clause-old_slips c = row.old_slips
+
+pub returns-clause-lists : goal.returns-clause-lists
+returns-clause-lists c = row.lists

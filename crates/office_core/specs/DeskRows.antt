@@ -1,0 +1,67 @@
+-- What the rules make of small reading rooms, where two rules are easily mistaken for one another. Each expected reply was
+-- found by the rules as they are told, by hand.
+use Rattle.std.specs.Prelude.{[], ◌∷◌, Ok, codes}
+use Rattle.desk_core.specs.declared.refusal.Refusal.TheVariants.{UnknownTicket, TicketExpired, NotAvailable, NotFirst, HandsFull}
+use Rattle.office_core.specs.declared.command.Command.TheVariants.{OpenDay, Register, Renew, TakeSeat, Order, Cancel, Run, Reshelve, Issue, Return, Permit, Revoke}
+use Rattle.office_core.specs.declared.done.Done.TheVariants as done
+use Rattle.office_core.specs.Rows.{four_new}
+use Rattle.office_core.specs.Worked.{Answers, import, close, ann, bob, order, issued, refused, february_1, march_1, march_2, april_1, year_end, boxes}
+
+-- ---- tickets
+
+-- the ticket that is named is renewed, to a later day or an earlier one, and no other
+abbrev pub RenewedAlone : Type 0
+RenewedAlone =
+    Answers
+    (ann ∷ Register (codes "Bob") march_1 ∷ OpenDay march_2 ∷ TakeSeat 2 ∷ Renew 2 year_end ∷ TakeSeat 2 ∷ Renew 2 march_1 ∷ TakeSeat 1 ∷ [])
+    (Ok (done.Register 1) ∷ Ok (done.Register 2) ∷ Ok (done.OpenDay march_2) ∷ refused TicketExpired ∷ Ok (done.Renew 2) ∷ Ok (done.TakeSeat 1) ∷ Ok (done.Renew 2) ∷ Ok (done.TakeSeat 2) ∷ [])
+
+-- a ticket can be given to a day that is past: it has expired at once
+abbrev pub RegisteredTooLate : Type 0
+RegisteredTooLate =
+    Answers
+    (Register (codes "Ann") february_1 ∷ TakeSeat 1 ∷ Renew 1 march_1 ∷ TakeSeat 1 ∷ [])
+    (Ok (done.Register 1) ∷ refused TicketExpired ∷ Ok (done.Renew 1) ∷ Ok (done.TakeSeat 1) ∷ [])
+
+-- ---- runs
+
+-- a run fetches for the first order of a box, though its ticket has expired since
+abbrev pub RunForAnExpiredTicket : Type 0
+RunForAnExpiredTicket =
+    Answers
+    (import boxes ∷ Register (codes "Ann") march_1 ∷ Order 1 1 ∷ OpenDay march_2 ∷ Run ∷ Issue 1 1 ∷ [])
+    (four_new ∷ Ok (done.Register 1) ∷ order 1 ∷ Ok (done.OpenDay march_2) ∷ Ok (done.Run 1 1) ∷ refused TicketExpired ∷ [])
+
+-- what goes back to the shelf is told in ascending order, however it was ordered and fetched
+abbrev pub ReshelvedInOrder : Type 0
+ReshelvedInOrder =
+    Answers
+    (import boxes ∷ ann ∷ Order 1 3 ∷ Order 1 1 ∷ Run ∷ Cancel 2 ∷ Cancel 1 ∷ Reshelve ∷ [])
+    (four_new ∷ Ok (done.Register 1) ∷ order 1 ∷ order 2 ∷ Ok (done.Run 1 2) ∷ Ok (done.Cancel 2) ∷ Ok (done.Cancel 1) ∷ Ok (done.Reshelve (1 ∷ 3 ∷ [])) ∷ [])
+
+-- ---- of two refusals that hold at once the first of the list is told
+
+-- a box that waits for another, asked for with a ticket that has expired: the other is first
+abbrev pub NotFirstAndExpired : Type 0
+NotFirstAndExpired =
+    Answers
+    (import boxes ∷ Register (codes "Ann") march_1 ∷ bob ∷ Order 2 1 ∷ Order 1 1 ∷ Run ∷ OpenDay march_2 ∷ Issue 1 1 ∷ Cancel 1 ∷ Issue 1 1 ∷ [])
+    (four_new ∷ Ok (done.Register 1) ∷ Ok (done.Register 2) ∷ order 1 ∷ order 2 ∷ Ok (done.Run 1 1) ∷ Ok (done.OpenDay march_2) ∷ refused NotFirst ∷ Ok (done.Cancel 1) ∷ refused TicketExpired ∷ [])
+
+-- a box that was closed since, asked for with full hands: the hands are full
+abbrev pub HandsFullAndClosed : Type 0
+HandsFullAndClosed =
+    Answers
+    (import boxes ∷ ann ∷ Order 1 1 ∷ Order 1 2 ∷ Run ∷ TakeSeat 1 ∷ Issue 1 1 ∷ close 2 april_1 ∷ Issue 2 1 ∷ Return 1 ∷ Issue 2 1 ∷ [])
+    (four_new ∷ Ok (done.Register 1) ∷ order 1 ∷ order 2 ∷ Ok (done.Run 1 2) ∷ Ok (done.TakeSeat 1) ∷ issued 1 ∷ Ok (done.SetClosure 2) ∷ refused HandsFull ∷ Ok (done.Return 1) ∷ refused NotAvailable ∷ [])
+
+-- a box that was closed since it was ordered, ordered again: it is not available
+abbrev pub OrderedAndClosed : Type 0
+OrderedAndClosed =
+    Answers
+    (import boxes ∷ ann ∷ Order 1 1 ∷ close 1 april_1 ∷ Order 1 1 ∷ [])
+    (four_new ∷ Ok (done.Register 1) ∷ order 1 ∷ Ok (done.SetClosure 1) ∷ refused NotAvailable ∷ [])
+
+-- a permit for an unknown ticket and an unknown unit: the ticket is unknown
+abbrev pub UnknownTicketAndUnit : Type 0
+UnknownTicketAndUnit = Answers (Permit 9 9 year_end ∷ Revoke 9 9 ∷ []) (refused UnknownTicket ∷ refused UnknownTicket ∷ [])

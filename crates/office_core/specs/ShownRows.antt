@@ -1,0 +1,35 @@
+-- What is answered where more than one thing could be listed, and of what is closed, expired or of an earlier day. Each
+-- expected text was written by hand.
+use Rattle.std.specs.Prelude.{[], ◌∷◌, codes}
+use Rattle.desk_core.specs.declared.refusal.Refusal.TheVariants.{UnknownUnit}
+use Rattle.office_core.specs.declared.command.Command.TheVariants.{OpenDay, TakeSeat, Order, Run, Issue, Permit}
+use Rattle.office_core.specs.declared.query.Query.TheVariants.{Fonds, Aid, Page, ReaderOrders, Queue, RunSlip, IssuedNow, ReaderPermits}
+use Rattle.office_core.specs.declared.query.Answer.TheVariants.{Text, Json, Unknown}
+use Rattle.office_core.specs.AnswerRows.{Says}
+use Rattle.office_core.specs.Worked.{import, close, ann, bob, march_1, march_2, march_31, year_2030, docks, boxes, lock_gates}
+
+-- a closed unit is shown, by its head line alone: among the tops, on its parent's page, and by an aid of its own
+pub record ClosedShown : Type 0 where
+  pub closed_top : Says (import docks ∷ close 1 year_2030 ∷ []) Fonds (Text (codes "1 GB 0999 HUL [Fonds] closed until 2030-01-01\n"))
+  pub closed_child : Says (import docks ∷ close 2 year_2030 ∷ []) (Page 1) (Text (codes "GB 0999 HUL [Fonds] Hull Dock Company\n  Unit 2: GB 0999 HUL/1 [Series] closed until 2030-01-01\n"))
+  pub aid_of_a_closed_top : Says (import docks ∷ close 1 year_2030 ∷ []) (Aid 1) (Text (codes "GB 0999 HUL [Fonds] closed until 2030-01-01\n"))
+  pub aid_of_a_closed_unit : Says (import docks ∷ close 2 year_2030 ∷ []) (Aid 2) (Text (codes "GB 0999 HUL/1 [Series] closed until 2030-01-01\n"))
+  pub none_below : Says (import docks ∷ close 1 year_2030 ∷ []) (Aid 2) (Unknown UnknownUnit)
+
+-- the slip of a run has the run's own number and day, whenever it is asked for
+pub record OldSlips : Type 0 where
+  pub first : Says (import boxes ∷ ann ∷ Order 1 1 ∷ Order 1 2 ∷ Order 1 3 ∷ Run ∷ Run ∷ OpenDay march_2 ∷ []) (RunSlip 1)
+      (Text (codes "Run 1  2024-03-01\nStrongroom 1         Box 2                 2        2       1\nStrongroom 2         Box 1                 1        1       1\n"))
+  pub second : Says (import boxes ∷ ann ∷ Order 1 1 ∷ Order 1 2 ∷ Order 1 3 ∷ Run ∷ OpenDay march_2 ∷ Run ∷ []) (RunSlip 2)
+      (Text (codes "Run 2  2024-03-02\nStrongroom 1         Box 3                 3        3       1\n"))
+
+-- lists: a queue and a reader's orders by order, what is out by container, permits by unit, expired ones too
+pub record Lists : Type 0 where
+  pub queue_of_two : Says (import boxes ∷ ann ∷ bob ∷ Order 2 1 ∷ Order 1 1 ∷ []) (Queue 1)
+      (Json (codes "{\"container\":1,\"name\":\"Box 1\",\"out\":null,\"place\":\"shelf\",\"waiting\":[{\"order\":1,\"ticket\":2},{\"order\":2,\"ticket\":1}]}"))
+  pub orders_of_a_reader : Says (import boxes ∷ ann ∷ Order 1 2 ∷ Order 1 1 ∷ []) (ReaderOrders 1)
+      (Json (codes "{\"name\":\"Ann\",\"orders\":[{\"container\":2,\"order\":1,\"state\":\"waiting\"},{\"container\":1,\"order\":2,\"state\":\"waiting\"}],\"seat\":null,\"ticket\":1,\"until\":\"2024-12-31\"}"))
+  pub two_issued : Says (import boxes ∷ ann ∷ bob ∷ Order 1 2 ∷ Order 2 1 ∷ Run ∷ TakeSeat 1 ∷ TakeSeat 2 ∷ Issue 2 1 ∷ Issue 1 2 ∷ []) IssuedNow
+      (Json (codes "[{\"container\":1,\"order\":2,\"ticket\":2},{\"container\":2,\"order\":1,\"ticket\":1}]"))
+  pub expired_permits : Says (import lock_gates ∷ ann ∷ Permit 1 2 march_1 ∷ Permit 1 1 march_31 ∷ OpenDay march_2 ∷ []) (ReaderPermits 1)
+      (Json (codes "[{\"unit\":1,\"until\":\"2024-03-31\"},{\"unit\":2,\"until\":\"2024-03-01\"}]"))
