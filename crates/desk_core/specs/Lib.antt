@@ -1,5 +1,6 @@
 pub mod Checks
 pub mod Decisions
+pub mod DeskRows
 pub mod Orders
 pub mod Refusals
 pub mod Runs

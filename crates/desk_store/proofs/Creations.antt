@@ -8,7 +8,7 @@ use Rattle.sqlite_tied.specs.Compute.{everything}
 use Rattle.sqlite_schema.specs.declared.schema.Index.{Index}
 use Rattle.office_tables.proofs.Creations.{naming}
 use Rattle.office_tables.specs.Creation.{DefinesTable, DefinesIndex}
-use Rattle.office_tables.specs.Schema.{no_schema, desk_schema, reader, seat, orders, holding, run, run_line, permit, orders_by_container, orders_by_ticket, permit_by_unit}
+use Rattle.office_tables.specs.Schema.{no_schema, desk_schema, reader, seat, orders, holding, run, run_line, permit, orders_by_state, orders_by_ticket, permit_by_unit}
 
 abbrev pub reader_text : List ℕ
 reader_text = codes "CREATE TABLE reader (ticket INTEGER PRIMARY KEY, name TEXT NOT NULL, until INTEGER NOT NULL) STRICT"
@@ -19,11 +19,11 @@ seat_text = codes "CREATE TABLE seat (seat INTEGER PRIMARY KEY, ticket INTEGER N
 abbrev pub orders_text : List ℕ
 orders_text = codes "CREATE TABLE orders (id INTEGER PRIMARY KEY, ticket INTEGER NOT NULL, container INTEGER NOT NULL, day INTEGER NOT NULL, state INTEGER NOT NULL) STRICT"
 
-abbrev pub orders_by_container_text : List ℕ
-orders_by_container_text = codes "CREATE INDEX orders_by_container ON orders (container, state)"
+abbrev pub orders_by_state_text : List ℕ
+orders_by_state_text = codes "CREATE INDEX orders_by_state ON orders (state, container)"
 
 abbrev pub orders_by_ticket_text : List ℕ
-orders_by_ticket_text = codes "CREATE INDEX orders_by_ticket ON orders (ticket)"
+orders_by_ticket_text = codes "CREATE INDEX orders_by_ticket ON orders (ticket, day)"
 
 abbrev pub holding_text : List ℕ
 holding_text = codes "CREATE TABLE holding (container INTEGER PRIMARY KEY, place INTEGER NOT NULL, held_by INTEGER) STRICT"
@@ -58,7 +58,7 @@ abbrev pub s3 : Schema
 s3 = created s2 (free orders)
 
 abbrev pub s4 : Schema
-s4 = indexed s3 orders (free_index orders_by_container)
+s4 = indexed s3 orders (free_index orders_by_state)
 
 abbrev pub s5 : Schema
 s5 = indexed s4 orders (free_index orders_by_ticket)
@@ -87,9 +87,9 @@ pub orders_defined : DefinesTable [] s2 orders_text s3
 unfolding understood everything naming
 orders_defined = record { table = free orders; says = record { is = refl; plain = (refl, refl); whole = refl; alone = (refl, refl) }; defined = refl; allowed = record { named = record { free = refl; utf8 = refl; unreserved = refl }; guards = refl; formed = refl; fit = refl; trees = refl; reals = refl; key_reals = refl }; uncounted = refl; is = refl; more = reader ∷ seat ∷ []; first = refl; rest = refl; last = refl }
 
-pub orders_by_container_indexed : DefinesIndex [] s3 orders_by_container_text s4
+pub orders_by_state_indexed : DefinesIndex [] s3 orders_by_state_text s4
 unfolding understood everything naming
-orders_by_container_indexed = record { at = 2; table = orders; index = free_index orders_by_container; says = record { is = refl; plain = (refl, refl); whole = refl; alone = (refl, refl) }; place = refl; defined = refl; allowed = record { named = record { free = refl; utf8 = refl; unreserved = refl }; utf8 = refl; fit = refl; trees = refl; reals = refl; key_reals = refl }; is = refl; same = refl; more = reader ∷ seat ∷ orders ∷ []; first = refl; rest = refl; among = inr (inr (inl refl)) }
+orders_by_state_indexed = record { at = 2; table = orders; index = free_index orders_by_state; says = record { is = refl; plain = (refl, refl); whole = refl; alone = (refl, refl) }; place = refl; defined = refl; allowed = record { named = record { free = refl; utf8 = refl; unreserved = refl }; utf8 = refl; fit = refl; trees = refl; reals = refl; key_reals = refl }; is = refl; same = refl; more = reader ∷ seat ∷ orders ∷ []; first = refl; rest = refl; among = inr (inr (inl refl)) }
 
 pub orders_by_ticket_indexed : DefinesIndex [] s4 orders_by_ticket_text s5
 unfolding understood everything naming

@@ -42,9 +42,12 @@ fn create_orders<S: Alter>(conn: &mut Connection<S>) -> Result<(), StoreFault>
     )?;
     create_index(
         conn,
-        "CREATE INDEX orders_by_container ON orders (container, state)",
+        "CREATE INDEX orders_by_state ON orders (state, container)",
     )?;
-    create_index(conn, "CREATE INDEX orders_by_ticket ON orders (ticket)")
+    create_index(
+        conn,
+        "CREATE INDEX orders_by_ticket ON orders (ticket, day)",
+    )
 }
 
 /// Makes the tables of the containers that are not on the shelf, and of the runs.

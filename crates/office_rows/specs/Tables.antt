@@ -4,6 +4,7 @@ use Rattle.std.specs.List.{flat_map}
 use Rattle.isad_core.specs.Texts.{Bytes}
 use Rattle.desk_core.specs.declared.reader.Place.{Place}
 use Rattle.desk_core.specs.declared.reader.Place.TheVariants.{Shelf, Desk, Out}
+pub use Rattle.desk_core.specs.DeskRows.{ReaderRow, SeatRow, OrderRow, with_state, waiting_for, HoldingRow, RunRow, RunLineRow, PermitRow}
 use Rattle.office_core.specs.declared.command.Command.TheVariants as command
 use Rattle.office_core.specs.declared.done.Done.TheVariants as done
 use Rattle.office_core.specs.Words.{numbered, numbers_to}
@@ -18,11 +19,6 @@ rows_from row n (x ∷ xs) = row n x ∷ rows_from row (suc n) xs
 
 -- ---- reader
 
-pub record ReaderRow : Type 0 where
-  pub ticket : ℕ
-  pub name : Bytes
-  pub until : ℤ
-
 abbrev pub reader_row : ℕ → Reader → ReaderRow
 reader_row t reader = record { ticket = t; name = reader.name; until = reader.until }
 
@@ -30,10 +26,6 @@ abbrev pub reader_rows : State → List ReaderRow
 reader_rows s = rows_from reader_row 1 s.readers
 
 -- ---- seat: a row for each that is taken
-
-pub record SeatRow : Type 0 where
-  pub seat : ℕ
-  pub ticket : ℕ
 
 abbrev pub seat_rows_from : ℕ → List (Option ℕ) → List SeatRow
 seat_rows_from n [] = []
@@ -44,13 +36,6 @@ abbrev pub seat_rows : State → List SeatRow
 seat_rows s = seat_rows_from 1 s.seats
 
 -- ---- orders
-
-pub record OrderRow : Type 0 where
-  pub id : ℕ
-  pub ticket : ℕ
-  pub container : ℕ
-  pub day : ℤ
-  pub state : ℕ
 
 -- 1 waiting, 2 out, 3 done, 4 cancelled
 abbrev pub state_number : Option Standing → ℕ
@@ -67,20 +52,7 @@ order_row s o order =
 abbrev pub order_rows : State → List OrderRow
 order_rows s = rows_from (order_row s) 1 s.orders
 
--- the row of one order gets another state
-abbrev pub with_state : ℕ → ℕ → List OrderRow → List OrderRow
-with_state o state rows = map (λ row. cond (nat_eq row.id o) (record row { state = state }) row) rows
-
--- the orders that wait for a container, by number
-abbrev pub waiting_for : ℕ → List OrderRow → List ℕ
-waiting_for c rows = map (λ row. row.id) (filter (λ row. nat_eq row.container c && nat_eq row.state 1) rows)
-
 -- ---- holding: a container on the shelf has no row
-
-pub record HoldingRow : Type 0 where
-  pub container : ℕ
-  pub place : ℕ
-  pub held_by : Option ℕ
 
 -- 1 at the desk, 2 out
 abbrev pub holding_row : ℕ → Place → Option HoldingRow
@@ -92,16 +64,6 @@ abbrev pub holding_rows : State → List HoldingRow
 holding_rows s = filter_map (λ c. holding_row c (s.place c)) (containers s)
 
 -- ---- run and run_line
-
-pub record RunRow : Type 0 where
-  pub id : ℕ
-  pub day : ℤ
-
-pub record RunLineRow : Type 0 where
-  pub run : ℕ
-  pub container : ℕ
-  pub order_no : ℕ
-  pub ticket : ℕ
 
 abbrev pub run_row : ℕ → Run → RunRow
 run_row n run = record { id = n; day = run.day }
@@ -120,11 +82,6 @@ abbrev pub run_line_rows : State → List RunLineRow
 run_line_rows s = lines_from 1 s.runs
 
 -- ---- permit
-
-pub record PermitRow : Type 0 where
-  pub ticket : ℕ
-  pub unit : ℕ
-  pub until : ℤ
 
 abbrev pub permit_row : ℕ → Permit → PermitRow
 permit_row t permit = record { ticket = t; unit = permit.unit; until = permit.until }

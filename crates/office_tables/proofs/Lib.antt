@@ -27,3 +27,9 @@ pub mod UpdateCauses
 pub mod DeleteCauses
 pub mod CreationCauses
 pub mod LaterCauses
+pub mod RowWrites
+pub mod RowReads
+pub mod InsertOf
+pub mod UpdateOf
+pub mod DeleteOf
+pub mod SelectOf

@@ -19,7 +19,7 @@ use Rattle.sqlite.specs.Listing.{understood}
 use Rattle.sqlite.specs.State.{State, HasCleanDisk}
 use Rattle.office_tables.specs.Text.{command_of, statement_of, IsAlone}
 use Rattle.sqlite_catalog.specs.Listing.{automatic, is_formed, is_fit}
-use Rattle.office_tables.specs.Schema.{reader, seat, orders, holding, run, run_line, permit, office, unit, element, container, housing, orders_by_container, orders_by_ticket, permit_by_unit, housing_by_container}
+use Rattle.office_tables.specs.Schema.{reader, seat, orders, holding, run, run_line, permit, office, unit, element, container, housing, orders_by_state, orders_by_ticket, permit_by_unit, housing_by_container}
 
 -- the text is understood as one whole command
 pub record Says (before : Schema) (text : List ℕ) (command : Command) : Type 0 where
@@ -96,7 +96,7 @@ IsMaking there after before s = HasCleanDisk s → HasMade there after before s.
 abbrev pub catalogue_schema : Schema
 catalogue_schema = record {
   tables = reader ∷ seat ∷ orders ∷ holding ∷ run ∷ run_line ∷ permit ∷ office ∷ unit ∷ element ∷ container ∷ housing ∷ [];
-  indexes = automatic seat 0 (2 ∷ []) 2 ∷ orders_by_container ∷ orders_by_ticket ∷ automatic run_line 0 (1 ∷ 2 ∷ []) 9
+  indexes = automatic seat 0 (2 ∷ []) 2 ∷ orders_by_state ∷ orders_by_ticket ∷ automatic run_line 0 (1 ∷ 2 ∷ []) 9
       ∷ automatic permit 0 (1 ∷ 2 ∷ []) 11 ∷ permit_by_unit ∷ automatic unit 0 (2 ∷ 3 ∷ []) 15 ∷ automatic element 0 (1 ∷ 2 ∷ []) 17
       ∷ automatic container 0 (2 ∷ 3 ∷ 4 ∷ []) 19 ∷ automatic housing 0 (1 ∷ 2 ∷ []) 21 ∷ automatic housing 1 (1 ∷ 3 ∷ []) 22
       ∷ housing_by_container ∷ [];
@@ -107,7 +107,7 @@ catalogue_schema = record {
 abbrev pub unit_schema : Schema
 unit_schema = record {
   tables = reader ∷ seat ∷ orders ∷ holding ∷ run ∷ run_line ∷ permit ∷ office ∷ unit ∷ element ∷ [];
-  indexes = automatic seat 0 (2 ∷ []) 2 ∷ orders_by_container ∷ orders_by_ticket ∷ automatic run_line 0 (1 ∷ 2 ∷ []) 9
+  indexes = automatic seat 0 (2 ∷ []) 2 ∷ orders_by_state ∷ orders_by_ticket ∷ automatic run_line 0 (1 ∷ 2 ∷ []) 9
       ∷ automatic permit 0 (1 ∷ 2 ∷ []) 11 ∷ permit_by_unit ∷ automatic unit 0 (2 ∷ 3 ∷ []) 15 ∷ automatic element 0 (1 ∷ 2 ∷ []) 17 ∷ [];
   views = [];
 }

@@ -1,7 +1,7 @@
 -- Why a call that is accepted fails.
-use Rattle.std.specs.Prelude.{◌≡◌, ◌⊎◌, false, ⊤, None}
+use Rattle.std.specs.Prelude.{◌≡◌, ◌⊎◌, false, ⊤, None, Result, IfErr}
 use Rattle.sqlite_disk.specs.Disk.{MoreFaults}
-use Rattle.sqlite.specs.State.{State}
+use Rattle.sqlite.specs.State.{State, HasCleanDisk}
 use Rattle.sqlite.specs.declared.error.Error.{Error}
 use Rattle.sqlite.specs.declared.error.Error.TheVariants.{SqliteFailure}
 use Rattle.sqlite.specs.declared.error.ErrorCode.TheVariants as code
@@ -30,6 +30,10 @@ abbrev pub HasCause : State → State → StoreFault → Type 0
 HasCause old new fault.Memory = ⊤
 HasCause old new fault.Disk = MoreFaults old.faults new.faults ⊎ (old.is_open ≡ false)
 HasCause old new fault.Schema = ⊥
+
+-- every fault has its cause, where the disk is clean and no limit is set
+abbrev pub Excused : {X : Type 0} → State → State → Result X StoreFault → Type 0
+Excused old new r = HasCleanDisk new → IsUnlimited old → IfErr r (HasCause old new)
 
 -- the disk is blamed for its own failures only
 abbrev pub BlamesDisk : State → State → StoreFault → Type 0

@@ -9,3 +9,7 @@ pub mod Order
 pub mod Tests
 pub mod Text
 pub mod Flags
+pub mod Meaning
+pub mod Changing
+pub mod Asking
+pub mod Calls

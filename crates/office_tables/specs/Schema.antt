@@ -84,11 +84,12 @@ abbrev pub permit : Table
 permit = table (codes "permit") 10 None (number (codes "ticket") ∷ number (codes "unit") ∷ number (codes "until") ∷ [])
     (1 ∷ 2 ∷ []) ((1 ∷ 2 ∷ []) ∷ []) (to_unit 2 ∷ [])
 
-abbrev pub orders_by_container : Index
-orders_by_container = index (codes "orders_by_container") 4 orders (3 ∷ 5 ∷ [])
+-- those that wait are few among those of the past
+abbrev pub orders_by_state : Index
+orders_by_state = index (codes "orders_by_state") 4 orders (5 ∷ 3 ∷ [])
 
 abbrev pub orders_by_ticket : Index
-orders_by_ticket = index (codes "orders_by_ticket") 5 orders (2 ∷ [])
+orders_by_ticket = index (codes "orders_by_ticket") 5 orders (2 ∷ 4 ∷ [])
 
 abbrev pub permit_by_unit : Index
 permit_by_unit = index (codes "permit_by_unit") 12 permit (2 ∷ [])
@@ -97,7 +98,7 @@ abbrev pub desk_tables : List Table
 desk_tables = reader ∷ seat ∷ orders ∷ holding ∷ run ∷ run_line ∷ permit ∷ []
 
 abbrev pub desk_indexes : List Index
-desk_indexes = automatic seat 0 (2 ∷ []) 2 ∷ orders_by_container ∷ orders_by_ticket ∷ automatic run_line 0 (1 ∷ 2 ∷ []) 9
+desk_indexes = automatic seat 0 (2 ∷ []) 2 ∷ orders_by_state ∷ orders_by_ticket ∷ automatic run_line 0 (1 ∷ 2 ∷ []) 9
     ∷ automatic permit 0 (1 ∷ 2 ∷ []) 11 ∷ permit_by_unit ∷ []
 
 -- ---- the catalogue
@@ -157,7 +158,7 @@ desk_schema = record { tables = desk_tables; indexes = desk_indexes; views = [] 
 abbrev pub schema : Version → Schema
 schema version = record {
   tables = reader ∷ seat ∷ orders ∷ holding ∷ run ∷ run_line ∷ permit ∷ office ∷ unit ∷ element ∷ container ∷ housing ∷ place_table version ∷ [];
-  indexes = automatic seat 0 (2 ∷ []) 2 ∷ orders_by_container ∷ orders_by_ticket ∷ automatic run_line 0 (1 ∷ 2 ∷ []) 9
+  indexes = automatic seat 0 (2 ∷ []) 2 ∷ orders_by_state ∷ orders_by_ticket ∷ automatic run_line 0 (1 ∷ 2 ∷ []) 9
       ∷ automatic permit 0 (1 ∷ 2 ∷ []) 11 ∷ permit_by_unit ∷ automatic unit 0 (2 ∷ 3 ∷ []) 15 ∷ automatic element 0 (1 ∷ 2 ∷ []) 17
       ∷ automatic container 0 (2 ∷ 3 ∷ 4 ∷ []) 19 ∷ automatic housing 0 (1 ∷ 2 ∷ []) 21 ∷ automatic housing 1 (1 ∷ 3 ∷ []) 22
       ∷ housing_by_container ∷ place_indexes version;

@@ -2,11 +2,15 @@
 #![tactic(auto)]
 
 pub mod answer;
+mod changing;
 mod fault;
+mod finding;
 pub mod making;
 mod transaction;
 pub mod value;
 
+pub use changing::change;
 pub use fault::StoreFault;
+pub use finding::{find, find_number};
 pub use making::{create_index, create_table};
 pub use transaction::{begin, commit, roll_back};

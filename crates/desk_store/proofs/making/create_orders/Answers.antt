@@ -2,7 +2,7 @@ use Rattle.std.proofs.Common.{rules, []}
 use Rattle.sqlite.specs.Held.{state}
 use Rattle.office_tables.specs.Step.{Continues, IsCut}
 use Rattle.office_tables.specs.Creation.{IsMaking}
-use Rattle.desk_store.proofs.Creations.{orders_by_container_indexed, orders_by_ticket_indexed, orders_defined, s2, s3, s4, s5}
+use Rattle.desk_store.proofs.Creations.{orders_by_state_indexed, orders_by_ticket_indexed, orders_defined, s2, s3, s4, s5}
 use Rattle.office_tables.proofs.Calls.{cut_then, continues_then, on_ok_then, on_err_then, early}
 use Rattle.office_tables.proofs.Causes.{cause_then}
 use Rattle.office_tables.proofs.LaterCauses.{last_cause}
@@ -22,7 +22,7 @@ returns-in_err-create_index-clause-cut g c start making =
     let step1 = c.in_ok-create_table.ensures.made [] start s2 s3 making orders_defined in
     let on1 = step1.0 in
     let a2 = state g.S.Store c.create_index.new.conn in
-    let one : IsCut a1 a2 = c.in_err-create_index.ensures.cut [] start s3 s4 step1.1 orders_by_container_indexed in
+    let one : IsCut a1 a2 = c.in_err-create_index.ensures.cut [] start s3 s4 step1.1 orders_by_state_indexed in
     let all : IsCut a0 a2 = cut_then a0 a1 a2 on1 one in
     search (rules, all)
 
@@ -33,7 +33,7 @@ returns-clause-made g c start making =
     let step1 = c.in_ok-create_table.ensures.made [] start s2 s3 making orders_defined in
     let on1 = step1.0 in
     let a2 = state g.S.Store c.create_index.new.conn in
-    let step2 = c.in_ok-create_index.ensures.made [] start s3 s4 step1.1 orders_by_container_indexed in
+    let step2 = c.in_ok-create_index.ensures.made [] start s3 s4 step1.1 orders_by_state_indexed in
     let on2 = continues_then a0 a1 a2 on1 step2.0 in
     let a3 = state g.S.Store c.create_index-2.new.conn in
     on_ok_then c.create_index-2.result (Continues a2 a3 × IsMaking [] s5 start a3) (Continues a0 a3 × IsMaking [] s5 start a3) (λ last. (continues_then a0 a2 a3 on2 last.0, last.1))
@@ -46,7 +46,7 @@ returns-clause-cut g c start making =
     let step1 = c.in_ok-create_table.ensures.made [] start s2 s3 making orders_defined in
     let on1 = step1.0 in
     let a2 = state g.S.Store c.create_index.new.conn in
-    let step2 = c.in_ok-create_index.ensures.made [] start s3 s4 step1.1 orders_by_container_indexed in
+    let step2 = c.in_ok-create_index.ensures.made [] start s3 s4 step1.1 orders_by_state_indexed in
     let on2 = continues_then a0 a1 a2 on1 step2.0 in
     let a3 = state g.S.Store c.create_index-2.new.conn in
     on_err_then c.create_index-2.result (IsCut a2 a3) (IsCut a0 a3) (λ last. cut_then a0 a2 a3 on2 last) (c.create_index-2.ensures.cut [] start s4 s5 step2.1 orders_by_ticket_indexed)
@@ -65,8 +65,8 @@ returns-in_err-create_index-clause-faults g c start making clean =
     let step1 = c.in_ok-create_table.ensures.made [] start s2 s3 making orders_defined in
     let on1 = step1.0 in
     let a2 = state g.S.Store c.create_index.new.conn in
-    let before = early a1 a2 _ (c.in_err-create_index.ensures.cut [] start s3 s4 step1.1 orders_by_container_indexed).crash clean in
-    let why = cause_then a0 a1 a2 on1 before _ (c.in_err-create_index.ensures.faults [] start s3 s4 step1.1 orders_by_container_indexed clean) in
+    let before = early a1 a2 _ (c.in_err-create_index.ensures.cut [] start s3 s4 step1.1 orders_by_state_indexed).crash clean in
+    let why = cause_then a0 a1 a2 on1 before _ (c.in_err-create_index.ensures.faults [] start s3 s4 step1.1 orders_by_state_indexed clean) in
     search (rules, why)
 
 pub returns-clause-faults : goal.returns-clause-faults
@@ -76,7 +76,7 @@ returns-clause-faults g c start making clean =
     let step1 = c.in_ok-create_table.ensures.made [] start s2 s3 making orders_defined in
     let on1 = step1.0 in
     let a2 = state g.S.Store c.create_index.new.conn in
-    let step2 = c.in_ok-create_index.ensures.made [] start s3 s4 step1.1 orders_by_container_indexed in
+    let step2 = c.in_ok-create_index.ensures.made [] start s3 s4 step1.1 orders_by_state_indexed in
     let on2 = continues_then a0 a1 a2 on1 step2.0 in
     let a3 = state g.S.Store c.create_index-2.new.conn in
     last_cause a0 a2 a3 on2 c.create_index-2.result (c.create_index-2.ensures.cut [] start s4 s5 step2.1 orders_by_ticket_indexed) clean (λ _. c.create_index-2.ensures.faults [] start s4 s5 step2.1 orders_by_ticket_indexed clean)

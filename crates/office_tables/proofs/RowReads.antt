@@ -1,0 +1,30 @@
+-- What a query's records are.
+use Rattle.std.proofs.Common.{◌≡◌, inl, inr, ℕ, List, map, sym, subst, Result, Ok, Err, IfErr}
+use Rattle.std.specs.List.{AllByRecursion}
+use Rattle.sqlite.specs.Order.{Row}
+use Rattle.sqlite.specs.Command.{Command}
+use Rattle.sqlite.specs.State.{State, Shown, FailsToQuery}
+use Rattle.sqlite.specs.declared.error.Error.{Error}
+use Rattle.office_tables.specs.Asking.{IsOurQuery, Misses}
+use Rattle.office_tables.specs.Faults.{fault_of, HasCause}
+use Rattle.office_tables.specs.Meaning.{Means}
+use Rattle.office_tables.specs.Schema.{Version}
+use Rattle.office_tables.specs.Step.{InOffice, InTransaction}
+use Rattle.office_tables.specs.declared.fault.StoreFault.{StoreFault}
+
+-- a text that means the same with the tables of either version
+pub asks : (sql : List ℕ) (count : ℕ) (command : Command) (s : State) → ((v : Version) → Means v sql count command) → InOffice s → IsOurQuery sql s
+asks sql count command s means inside = record { count = count; command = command; here = λ clean. let it = inside clean in (it.0, it.1, it.2, means it.0) }
+
+-- a text for the tables of one version
+pub asks_in : (v : Version) (sql : List ℕ) (count : ℕ) (command : Command) (s : State) → Means v sql count command → InTransaction v s → IsOurQuery sql s
+asks_in v sql count command s means inside = record { count = count; command = command; here = λ clean. let it = inside clean in (v, it.0, it.1, means) }
+
+-- every fault of a query has its cause, where its rows are legible records
+pub all_caused : {A X : Type 0} (cells : A → Row) (IsLegible : A → Type 0) (sql : List ℕ) (params : Row) (old new : State) (r : Result X StoreFault) → IfErr r (Misses cells IsLegible sql params old new)
+    → ((e : Error) → FailsToQuery sql params old new e → HasCause old new (fault_of e))
+    → ((rows : List Row) → Shown sql params old new rows → (xs : List A) × (rows ≡ map cells xs) × AllByRecursion IsLegible xs)
+    → IfErr r (HasCause old new)
+all_caused cells IsLegible sql params old new (Ok x) missed why legible = tt
+all_caused cells IsLegible sql params old new (Err e) (inl h) why legible = subst (HasCause old new) (sym h.1) (why h.0 h.2)
+all_caused cells IsLegible sql params old new (Err e) (inr h) why legible = let it = legible h.0 h.1 in subst (HasCause old new) (sym (h.2 it.0 it.1 it.2)) tt

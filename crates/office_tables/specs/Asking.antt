@@ -1,0 +1,44 @@
+-- One query of ours: what it tells, and what it leaves.
+use Rattle.std.specs.Prelude.{◌≡◌, ◌⊎◌, ℕ, pos, List, [], ◌∷◌, map, slice_index_or, Result, OnOk, OnErr, IsTrue}
+use Rattle.std.specs.List.{AllByRecursion}
+use Rattle.sqlite.specs.Order.{Row}
+use Rattle.sqlite.specs.Command.{Command}
+use Rattle.sqlite.specs.State.{State, HasCleanDisk, Shown, FailsToQuery, Survives}
+use Rattle.sqlite.specs.declared.error.Error.{Error}
+use Rattle.sqlite.specs.declared.types.Value.TheVariants.{Int}
+use Rattle.office_tables.specs.Faults.{fault_of}
+use Rattle.office_tables.specs.Meaning.{Means}
+use Rattle.office_tables.specs.Schema.{Version, schema}
+use Rattle.office_tables.specs.Step.{Looks, IsCut}
+use Rattle.office_tables.specs.declared.fault.StoreFault.{StoreFault}
+use Rattle.office_tables.specs.declared.fault.StoreFault.TheVariants as fault
+
+-- The text is known; while the disk is clean, the tables are ours and a transaction is open.
+pub record IsOurQuery (sql : List ℕ) (s : State) : Type 0 where
+  pub count : ℕ
+  pub command : Command
+  pub here : HasCleanDisk s → (v : Version) × (s.now.schema ≡ schema v) × IsTrue s.in_transaction × Means v sql count command
+
+-- what a call leaves that reads: nothing is changed, or the transaction is cut
+pub record Reads {X : Type 0} (old new : State) (r : Result X StoreFault) : Type 0 where
+  pub crash : Survives old new (λ _. ⊥)
+  pub looks : OnOk r (Looks old new)
+  pub cut : OnErr r (IsCut old new)
+
+-- these are the records of the rows that the query shows
+pub record Finds {A : Type 0} (cells : A → Row) (sql : List ℕ) (params : Row) (old new : State) (found : List A) : Type 0 where
+  pub rows : List Row
+  pub shown : Shown sql params old new rows
+  pub are : (xs : List A) → rows ≡ map cells xs → found ≡ xs
+
+-- this is the number in the first row that the query shows, or 0
+pub record FindsFirst (sql : List ℕ) (params : Row) (old new : State) (found : ℕ) : Type 0 where
+  pub rows : List Row
+  pub shown : Shown sql params old new rows
+  pub is : (xs : List ℕ) → rows ≡ map (λ n. Int (pos n) ∷ []) xs → found ≡ slice_index_or xs 0 0
+
+-- the query was refused, or its rows are not read for want of memory, where they are such records
+abbrev pub Misses : {A : Type 0} → (A → Row) → (A → Type 0) → List ℕ → Row → State → State → StoreFault → Type 0
+Misses {A} cells IsLegible sql params old new e =
+    ((why : Error) × (e ≡ fault_of why) × FailsToQuery sql params old new why)
+    ⊎ ((rows : List Row) × Shown sql params old new rows × ((xs : List A) → rows ≡ map cells xs → AllByRecursion IsLegible xs → e ≡ fault.Memory))

@@ -1,0 +1,34 @@
+-- What a call promises on tables that show a model: a catalogue, or a desk.
+use Rattle.std.specs.Prelude.{ℕ, List, Result, IfOk, OnOk, OnErr}
+use Rattle.sqlite_trees.specs.declared.store.Store as store
+use Rattle.sqlite.specs.Effect.{Database}
+use Rattle.sqlite.specs.Held.{Held, state}
+use Rattle.sqlite.specs.State.{State, HasCleanDisk}
+use Rattle.office_tables.specs.Faults.{Excused}
+use Rattle.office_tables.specs.Step.{Goes, IsCut, Looks, OnlyTouches}
+use Rattle.office_tables.specs.declared.fault.StoreFault.{StoreFault}
+
+-- The tables show the model beside what stays, as the settings of the office. Such a model is kept as is within the
+-- bounds of the tables.
+module _ {S X Stays Model : Type 0} (g : store.Ghosts S) (shows : Database → Stays → Model → Type 0) (kept : Model → Type 0) (before after : Held S) (r : Result X StoreFault) where
+  abbrev old : State
+  old = state g before
+
+  abbrev new : State
+  new = state g after
+
+  -- A call that changes the model where it may, and touches these tables only. Where the model is kept, it fails only
+  -- for want of memory or by the disk; the transaction then goes on, or was taken back.
+  pub record Makes (may : Model → Type 0) (made : Model → Model) (touched : List ℕ) : Type 0 where
+    pub shows_made : HasCleanDisk new → (s : Stays) (m : Model) → shows old.now s m → may m → OnOk r (shows new.now s (made m))
+    pub only : HasCleanDisk new → OnOk r (OnlyTouches touched old.now new.now)
+    pub goes : OnOk r (Goes old new)
+    pub cut : OnErr r (IsCut old new)
+    pub faults : (s : Stays) (m : Model) → shows old.now s m → may m → kept m → Excused old new r
+
+  -- A call that reads the model, and changes nothing.
+  pub record Tells (may : Model → Type 0) (answer : Stays → Model → X → Type 0) : Type 0 where
+    pub answers : HasCleanDisk new → (s : Stays) (m : Model) → shows old.now s m → IfOk r (answer s m)
+    pub looks : OnOk r (Looks old new)
+    pub cut : OnErr r (IsCut old new)
+    pub faults : (s : Stays) (m : Model) → shows old.now s m → may m → kept m → Excused old new r

@@ -1,0 +1,37 @@
+-- One statement of ours that changes rows: what it leaves.
+use Rattle.std.specs.Prelude.{◌≡◌, ℕ, Bool, true, false, List, Result, Ok, Err, IfErr, OnOk, OnErr, IsTrue}
+use Rattle.sqlite.specs.Order.{Row}
+use Rattle.sqlite.specs.Command.{Command}
+use Rattle.sqlite.specs.Command.TheVariants.{Insert, Update, Delete}
+use Rattle.sqlite.specs.State.{State, HasCleanDisk, Executes, Survives}
+use Rattle.sqlite.specs.declared.error.Error.{Error}
+use Rattle.office_tables.specs.Faults.{fault_of, BlamesDisk}
+use Rattle.office_tables.specs.Meaning.{Means}
+use Rattle.office_tables.specs.Schema.{Version, schema}
+use Rattle.office_tables.specs.Step.{Goes, IsCut}
+use Rattle.office_tables.specs.declared.fault.StoreFault.{StoreFault}
+
+abbrev pub changes_rows : Command → Bool
+changes_rows (Insert at from) = true
+changes_rows (Update at q) = true
+changes_rows (Delete at q) = true
+changes_rows _ = false
+
+-- The text is a statement that changes rows; while the disk is clean, the tables are ours and a transaction is open.
+pub record IsOurs (sql : List ℕ) (s : State) : Type 0 where
+  pub count : ℕ
+  pub command : Command
+  pub changes : changes_rows command ≡ true
+  pub here : HasCleanDisk s → (v : Version) × (s.now.schema ≡ schema v) × IsTrue s.in_transaction × Means v sql count command
+
+-- what a call leaves that changes tables: the transaction goes on, or it is cut and the disk is blamed for its own failures only
+pub record Leaves {X : Type 0} (old new : State) (r : Result X StoreFault) : Type 0 where
+  pub crash : Survives old new (λ _. ⊥)
+  pub goes : OnOk r (Goes old new)
+  pub cut : OnErr r (IsCut old new)
+  pub disk : HasCleanDisk new → IfErr r (BlamesDisk old new)
+
+-- the statement was carried out, or refused for a reason that the fault tells
+abbrev pub Ran : List ℕ → Row → State → State → Result Unit StoreFault → Type 0
+Ran sql params old new (Ok done) = (count : ℕ) × Executes sql params old new (Ok count)
+Ran sql params old new (Err fault) = (e : Error) × (fault ≡ fault_of e) × Executes sql params old new (Err e)
