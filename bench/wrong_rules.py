@@ -1,8 +1,9 @@
 #!/usr/bin/env python3
 """Wrong rules, one at a time, in a copy of the repository: each has to be refused by a law or a worked row.
 
-bench/wrong_rules.py [WORD ..]: tries those rules whose label has one of the words, or all of them. It edits one
-definition at a time in a copy and checks the office. Build the libraries first (rt check in crates/office_rows)."""
+bench/wrong_rules.py [--dry] [WORD ..]: tries those rules whose label has one of the words, or all of them. It edits
+one definition at a time in a copy and checks the office. Build the libraries first (rt check in crates/office_rows).
+With --dry it only looks whether each text that would be edited stands once in its file."""
 import os, re, subprocess, sys, tempfile, time
 SRC=os.path.dirname(os.path.dirname(os.path.abspath(__file__)))
 W=os.path.join(tempfile.mkdtemp(),'copy')
@@ -29,15 +30,15 @@ E=[
 ('a second permit replaces',O+'State.antt','until = cond (int_lt p.until day) day p.until','until = day'),
 ('Permit tells the asked day',O+'State.antt','cond (nat_eq p.unit u) (cond (int_lt p.until day) day p.until) (granted_until u day ps)','cond (nat_eq p.unit u) day (granted_until u day ps)'),
 ('Revoke takes all permits',O+'State.antt','not (nat_eq permit.unit u)','not (nat_eq permit.unit permit.unit)'),
-('permits outlive their unit',O+'Rules.antt','filter (λ permit. has_unit (cut (has_id u) s.forest) permit.unit) (s.permits t)','s.permits t'),
+('permits outlive their unit',O+'Rules.antt','filter (λ permit. has_unit (without_branch u s.catalogue).forest permit.unit) (s.permits t)','s.permits t'),
 ('no check 28',O+'Rules.antt','    ∷ unless (has_permit s t u) NoPermit\n',''),
-('Permit for an unknown unit',O+'Rules.antt','    ∷ unless (has_unit s.forest u) UnknownUnit\n    ∷ when (not (has_permit s t u) && nat_le','    ∷ when (not (has_permit s t u) && nat_le'),
+('Permit for an unknown unit',O+'Rules.antt','    ∷ unless (has_unit s.catalogue.forest u) UnknownUnit\n    ∷ when (not (has_permit s t u) && nat_le','    ∷ when (not (has_permit s t u) && nat_le'),
 ('no limit of permits',O+'Rules.antt','    ∷ when (not (has_permit s t u) && nat_le most_permits (length (s.permits t))) Full\n',''),
 ('a ticket may have a permit more',O+'Rules.antt','&& nat_le most_permits (length (s.permits t))','&& nat_lt most_permits (length (s.permits t))'),
 ('a later day counts as another permit',O+'Rules.antt','when (not (has_permit s t u) && nat_le most_permits (length (s.permits t))) Full','when (nat_le most_permits (length (s.permits t))) Full'),
 ('a second permit stands beside the first',O+'State.antt','cond (nat_eq p.unit u) (record { unit = u; until = cond (int_lt p.until day) day p.until } ∷ ps)','cond (nat_eq p.unit u) (record { unit = u; until = day } ∷ (p ∷ ps))'),
 # orders
-('any container is open',O+'State.antt','some_and (λ box. is_open s.forest box (is_permitted s.day (s.permits t)) s.day) (numbered s.boxes c)','some_and (λ box. true) (numbered s.boxes c)'),
+('any container is open',O+'State.antt','some_and (λ box. is_open s.catalogue.forest box (is_permitted s.day (s.permits t)) s.day) (numbered s.catalogue.containers c)','some_and (λ box. true) (numbered s.catalogue.containers c)'),
 ('an order that is out does not count as ordered',O+'State.antt','list_any (is_by s t) (s.queue c) || is_out_with s t c','list_any (is_by s t) (s.queue c)'),
 ('an order that waits does not count as ordered',O+'State.antt','list_any (is_by s t) (s.queue c) || is_out_with s t c','is_out_with s t c'),
 ('the daily limit counts every day',O+'State.antt','nat_eq order.ticket t && int_eq order.day day','nat_eq order.ticket t'),
@@ -82,16 +83,16 @@ E=[
 ('no gate at Revoke',O+'Rules.antt','    ∷ gate (after s (command.Revoke t u))\n',''),
 ('the gate names the highest container',O+'Rules.antt','first_that (is_kept_from_holder s) (containers s)','first_that (is_kept_from_holder s) (Rattle.std.specs.Prelude.reverse (containers s))'),
 # catalogue
-('a branch is set by its head alone',O+'Rules.antt','is_chosen true u f unit = list_any (has_id unit.id) (branch (has_id u) f)','is_chosen true u f unit = has_id u unit'),
-('a unit alone sets its branch',O+'Rules.antt','is_chosen false u f unit = has_id u unit','is_chosen false u f unit = list_any (has_id unit.id) (branch (has_id u) f)'),
-('a branch counts as one',O+'Rules.antt','chosen true u f = length (branch (has_id u) f)','chosen true u f = 1'),
-('a closure closes every unit',O+'Rules.antt','cond (has_id u unit) (record unit { until = until }) unit','record unit { until = until }'),
+('a branch is set by its head alone',C+'Statuses.antt','if whole then branch (nat_eq id) f else id ∷ []','id ∷ []'),
+('a unit alone sets its branch',C+'Statuses.antt','if whole then branch (nat_eq id) f else id ∷ []','branch (nat_eq id) f'),
+('a branch counts as one',O+'Rules.antt','done.SetStatus (length (chosen whole u s.catalogue))','done.SetStatus 1'),
+('a closure closes every unit',C+'Statuses.antt','if has_id id u then record u { until = until } else u','record u { until = until }'),
 ('a unit may go below its own child',O+'Rules.antt','list_any (has_id p) (branch (has_id u) f)','nat_eq p u'),
-('a branch may go as deep as it likes',O+'Rules.antt','    ∷ when (nat_lt most_deep (depth_after u parent s.forest)) TooDeep\n',''),
+('a branch may go as deep as it likes',O+'Rules.antt','    ∷ when (nat_lt most_deep (depth_after u parent s.catalogue.forest)) TooDeep\n',''),
 ('depth counts the parent alone',O+'Rules.antt','depth parent f + height (tree (has_id u) f)','depth parent f + 1'),
 ('depth counts the first of the trees alone',O+'Rules.antt','max (1 + height children) (height others)','1 + height children'),
-('Move to an unknown parent',O+'Rules.antt','    ∷ unless (has_place has_id parent s.forest) UnknownUnit\n',''),
-('Remove tells one',O+'Rules.antt','done.Remove (length (branch (has_id u) s.forest))','done.Remove 1'),
+('Move to an unknown parent',O+'Rules.antt','    ∷ unless (has_place has_id parent s.catalogue.forest) UnknownUnit\n',''),
+('Remove tells one',O+'Rules.antt','done.Remove (length (branch (has_id u) s.catalogue.forest))','done.Remove 1'),
 ('own boxes do not hide those above',C+'Housing.antt','own_or (box ∷ boxes) above = box ∷ boxes','own_or (box ∷ boxes) above = above'),
 ('only own boxes count',C+'Housing.antt','own_or [] above = above','own_or [] above = []'),
 ('an empty box is open',C+'Housing.antt','is_some_there (contents f box) && list_all','true && list_all'),
@@ -101,8 +102,8 @@ E=[
 ('an import may bring a unit too many',O+'Intake.antt','nat_lt most_units (size c.forest)','nat_lt (most_units + 1) (size c.forest)'),
 ('an import may give a number too many',O+'Intake.antt','nat_lt (most_unit_numbers + 1) c.next','nat_lt (most_unit_numbers + 2) c.next'),
 ('an import may bring a container too many',O+'Intake.antt','nat_lt most_containers (length c.containers)','nat_lt (most_containers + 1) (length c.containers)'),
-('an import keeps the next number',O+'Rules.antt','next_unit = intake.catalogue.next;','next_unit = s.next_unit;'),
-('an import keeps the old containers',O+'Rules.antt','boxes = intake.catalogue.containers;','boxes = s.boxes;'),
+('an import keeps the next number',O+'Rules.antt','record s { catalogue = intake.catalogue }','record s { catalogue = record intake.catalogue { next = s.catalogue.next } }'),
+('an import keeps the old containers',O+'Rules.antt','record s { catalogue = intake.catalogue }','record s { catalogue = record intake.catalogue { containers = s.catalogue.containers } }'),
 ('every known row is the same',O+'Intake.antt','some_and (λ unit. same_values unit.values row.values) (unit_of f source row)','some_and (λ unit. true) (unit_of f source row)'),
 ('translations are not told',O+'Intake.antt','    intake.file.translations\n','    0\n'),
 ('no remark on levels',O+'Intake.antt','remark_if (is_level_above (rank_of unit.values.level) (rank_of parent.values.level)) (LevelTooHigh row)','[]'),
@@ -139,7 +140,7 @@ E=[
 ('hands without a limit',R+'DeskCauses.antt','nat_le (held s ticket) s.settings.hands && opens','true && opens'),
 ('closed to its holder',R+'DeskCauses.antt','(nat_le (held s ticket) s.settings.hands && opens s ticket c)','(nat_le (held s ticket) s.settings.hands)'),
 # what is shown
-('closed units are shown whole',O+'Queries.antt','public_of s.day s.forest','public_of (Rattle.std.specs.Prelude.pos 4000000) s.forest'),
+('closed units are shown whole',O+'Queries.antt','public_of s.day s.catalogue.forest','public_of (Rattle.std.specs.Prelude.pos 4000000) s.catalogue.forest'),
 ('every element is found above',O+'Pages.antt','cond (is_found_above element) (nearest_value element higher) None','nearest_value element higher'),
 ('nothing is found above',O+'Pages.antt','cond (is_found_above element) (nearest_value element higher) None','None'),
 ('own values are said to be from above',O+'Pages.antt','own_or (Some text) = Some (element, text, None)','own_or (Some text) = Some (element, text, Some unit.code)'),
@@ -165,7 +166,7 @@ E=[
 ('a closure until no day',R+'CatalogueCauses.antt','is_some_day (Some day) = is_day_number day','is_some_day (Some day) = true'),
 ('a unit without a place',R+'CatalogueCauses.antt','all_stand_in (place_numbers t.places) (unit_numbers t) &&','true &&'),
 ('a place without a unit',R+'CatalogueCauses.antt','all_stand_in (unit_numbers t) (place_numbers t.places)','true'),
-('units as deep as may be',R+'CatalogueCauses.antt','nat_le (height (state_of t).forest) most_deep','true'),
+('units as deep as may be',R+'CatalogueCauses.antt','nat_le (height (state_of t).catalogue.forest) most_deep','true'),
 ('a level among the elements',R+'CatalogueCauses.antt','(not (nat_eq row.k 4) &&','(true &&'),
 ('a blank element',R+'CatalogueCauses.antt','(not (is_blank_text row.value) &&','(true &&'),
 ('an element of no unit',R+'CatalogueCauses.antt','stands row.unit units)','true)'),
@@ -230,8 +231,16 @@ def tried(label,f,office):
     if spec: return f'DOES NOT READ | {label} | {spec[0][:200]}',False
     if 'logic=proved' in out: return f'LET THROUGH {dt:4.1f}s | {label}',True
     return f'refused {dt:4.1f}s | {label} | {", ".join(errors(out)) or out[-300:]}',False
+def not_applied(only):
+    """The rules whose text does not stand once in its file."""
+    return [label for label,f,old,new in E if (not only or any(o in label for o in only)) and open(SRC+'/'+f,encoding='utf-8').read().count(old)!=1]
 if __name__=='__main__':
-    only=sys.argv[1:]
+    only=[word for word in sys.argv[1:] if word!='--dry']
+    if '--dry' in sys.argv[1:]:
+        missing=not_applied(only)
+        for label in missing: print(f'NOT APPLIED | {label}')
+        print(f'{len(E)} rules, {len(missing)} not applied')
+        sys.exit(1 if missing else 0)
     subprocess.run(['cp','-a',SRC,W])
     kept=W+'/crates/catalogue_core/out'
     subprocess.run(['cp','-a',kept,kept+'.kept'])

@@ -28,7 +28,7 @@ use Rattle.office_core.specs.declared.done.Remark.{Remark}
 use Rattle.office_core.specs.Words.{some_and}
 use Rattle.office_core.specs.State.{State}
 use Rattle.office_core.specs.Intake.{Intake, Taken, take, take_rows, with_file, bad_file, too_much, is_full, same_values, unit_of, is_same, is_new, is_changed, remarks, told_of}
-use Rattle.office_core.specs.Rules.{Reply, catalogue, taken, imported, is_source, gate, decided, step}
+use Rattle.office_core.specs.Rules.{Reply, taken, imported, is_source, gate, decided, step}
 use Rattle.office_core.specs.Laws.{ImportsAgain}
 pub use Rattle.catalogue_core.proofs.EachOf.{all_append, all_split, all_filtered}
 use Rattle.catalogue_core.proofs.EachOf.{all_and, all_true, all_distinct, all_of_found}
@@ -363,7 +363,7 @@ none_changed source rows f apart t =
 -- what an import does, once its file was taken
 abbrev stepped : State → Bytes → Taken → State × Reply
 stepped t source r =
-    decided (first_that_holds (unless (is_source source) BadName ∷ bad_file r ∷ too_much r ∷ gate (imported t r) ∷ [])) t (imported t r) (told_of t.forest source r)
+    decided (first_that_holds (unless (is_source source) BadName ∷ bad_file r ∷ too_much r ∷ gate (imported t r) ∷ [])) t (imported t r) (told_of t.catalogue.forest source r)
 
 none_holds : (t new : State) (d : Done) (a b c : Check) → a ≡ None → b ≡ None → c ≡ None → decided (first_that_holds (a ∷ None ∷ b ∷ c ∷ [])) t new d ≡ (new, Ok d)
 none_holds t new d (Some why) b c ea eb ec = absurd (cc)
@@ -383,8 +383,8 @@ DoneAgain t source file marks translations =
     × (step t (command.Import source file) ≡ (t, Ok (done.Import 0 0 marks (length read.rows) translations)))
 
 module _ (s : State) (source file : Bytes) (intake : Intake) (e : taken s source file ≡ Ok intake) where
-  it : IsTaken (catalogue s) source file intake
-  it = taken_is (catalogue s) source file intake e
+  it : IsTaken s.catalogue source file intake
+  it = taken_is s.catalogue source file intake e
 
   rows : List Row
   rows = intake.file.rows
@@ -393,10 +393,10 @@ module _ (s : State) (source file : Bytes) (intake : Intake) (e : taken s source
   apart = apart_rows file intake.file it.read
 
   after_it : HasTaken source intake.file.rows intake.catalogue.forest
-  after_it = subst (λ c. HasTaken source intake.file.rows c.forest) (sym it.is) (has_taken (catalogue s) source intake.file.rows apart)
+  after_it = subst (λ c. HasTaken source intake.file.rows c.forest) (sym it.is) (has_taken s.catalogue source intake.file.rows apart)
 
   boxes_kept : merged_boxes intake.file.rows intake.catalogue.containers ≡ intake.catalogue.containers
-  boxes_kept = subst (λ c. merged_boxes intake.file.rows c.containers ≡ c.containers) (sym it.is) (boxes_again s.boxes intake.file.rows)
+  boxes_kept = subst (λ c. merged_boxes intake.file.rows c.containers ≡ c.containers) (sym it.is) (boxes_again s.catalogue.containers intake.file.rows)
 
   merged_same : merge intake.catalogue source intake.file.rows ≡ Ok intake.catalogue
   merged_same = merge_again intake.catalogue source intake.file.rows after_it boxes_kept
@@ -419,7 +419,7 @@ module _ (s : State) (source file : Bytes) (intake : Intake) (e : taken s source
         intake.file,
         it.read,
         ap (stepped t source) taken_same
-            ∙ (none_holds t (imported t (Ok intake)) (told_of t.forest source (Ok intake)) (unless (is_source source) BadName) (when (is_full intake.catalogue) Full) (gate t) a b c
+            ∙ (none_holds t (imported t (Ok intake)) (told_of t.catalogue.forest source (Ok intake)) (unless (is_source source) BadName) (when (is_full intake.catalogue) Full) (gate t) a b c
             ∙ ap (replied t) told_same),
       )
 
@@ -429,7 +429,7 @@ same_reply a b e = cc
 same_marks : (c n s t c' n' s' t' : ℕ) (m m' : List Remark) → done.Import c n m s t ≡ done.Import c' n' m' s' t' → (m ≡ m') × (t ≡ t')
 same_marks c n s t c' n' s' t' m m' e = (cc, cc)
 
-accepted : (s : State) (source file : Bytes) (r : Taken) → taken s source file ≡ r → unless (is_source source) BadName ≡ None → bad_file r ≡ None → too_much r ≡ None → gate (imported s r) ≡ None → (changed new : ℕ) (marks : List Remark) (same translations : ℕ) → done_reply (told_of s.forest source r) ≡ done_reply (done.Import changed new marks same translations) → DoneAgain (imported s r) source file marks translations
+accepted : (s : State) (source file : Bytes) (r : Taken) → taken s source file ≡ r → unless (is_source source) BadName ≡ None → bad_file r ≡ None → too_much r ≡ None → gate (imported s r) ≡ None → (changed new : ℕ) (marks : List Remark) (same translations : ℕ) → done_reply (told_of s.catalogue.forest source r) ≡ done_reply (done.Import changed new marks same translations) → DoneAgain (imported s r) source file marks translations
 accepted s source file (Err fault) e a b c d changed new marks same translations t = absurd (cc)
 accepted s source file (Ok intake) e a b c d changed new marks same translations t =
     let x = same_marks _ _ _ _ changed new same translations _ marks (same_reply _ _ t) in

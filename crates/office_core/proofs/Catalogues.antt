@@ -13,9 +13,10 @@ use Rattle.tree_core.specs.Forest.{Forest, Empty, Node, nodes, each, has_place, 
 use Rattle.tree_core.proofs.Lists.{eqb_comm}
 use Rattle.tree_core.proofs.EachLemmas.{nodes-each, size-each}
 use Rattle.isad_core.specs.Boxes.{distinct, is_same}
+use Rattle.catalogue_core.specs.Merging.{Catalogue}
 use Rattle.catalogue_core.specs.Units.{Unit, has_id}
 use Rattle.catalogue_core.proofs.NodeLemmas.{length-nodes}
-use Rattle.office_core.specs.State.{State, Permit, has_unit}
+use Rattle.office_core.specs.State.{has_unit}
 use Rattle.isad_core.specs.Limits.{most_units, most_deep, most_bytes}
 use Rattle.office_core.specs.Rules.{is_into_itself, depth_after, is_source}
 use Rattle.office_core.specs.Soundness.{is_good_text, IsGoodUnit, is_same_unit, AreGoodUnits}
@@ -102,17 +103,17 @@ same_numbers g k (u ∷ us) = ap (λ n. n ∷ map number (map g us)) (k.id u) �
 same_pair : (g : Unit → Unit) → KeepsUnits g → (a b : Unit) → is_same_unit a b ≡ is_same_unit (g a) (g b)
 same_pair g k a b = rw (k.source a, k.source b, k.legacy a, k.legacy b) refl
 
-pub each_good : (s : State) (g : Unit → Unit) → KeepsUnits g → AreGoodUnits s → AreGoodUnits (record s { forest = each g s.forest })
-each_good s g k h =
+pub each_good : (c : Catalogue) (g : Unit → Unit) → KeepsUnits g → AreGoodUnits c → AreGoodUnits (record c { forest = each g c.forest })
+each_good c g k h =
     record {
-      each = all_each (IsGoodUnit s.boxes) g s.forest (all_so (IsGoodUnit s.boxes) (λ unit. IsGoodUnit s.boxes (g unit)) (kept_unit s.boxes g k) (nodes s.forest) h.each);
-      ids = subst (IsDistinct nat_eq) (sym (ap (map number) (nodes-each g s.forest) ∙ same_numbers g k (nodes s.forest))) h.ids;
-      pairs = subst (IsDistinct is_same_unit) (sym (nodes-each g s.forest))
-          (distinct_mapped is_same_unit g (nodes s.forest) (distinct_so is_same_unit (λ a b. is_same_unit (g a) (g b)) (λ a b n. sym (same_pair g k a b) ∙ n) (nodes s.forest) h.pairs));
-      given = all_each (IsGiven s.next_unit) g s.forest (all_so (IsGiven s.next_unit) (λ unit. IsGiven s.next_unit (g unit)) (λ unit i. subst (λ n. (1 ≤ n) × (n < s.next_unit)) (sym (k.id unit)) i) (nodes s.forest) h.given);
+      each = all_each (IsGoodUnit c.containers) g c.forest (all_so (IsGoodUnit c.containers) (λ unit. IsGoodUnit c.containers (g unit)) (kept_unit c.containers g k) (nodes c.forest) h.each);
+      ids = subst (IsDistinct nat_eq) (sym (ap (map number) (nodes-each g c.forest) ∙ same_numbers g k (nodes c.forest))) h.ids;
+      pairs = subst (IsDistinct is_same_unit) (sym (nodes-each g c.forest))
+          (distinct_mapped is_same_unit g (nodes c.forest) (distinct_so is_same_unit (λ a b. is_same_unit (g a) (g b)) (λ a b n. sym (same_pair g k a b) ∙ n) (nodes c.forest) h.pairs));
+      given = all_each (IsGiven c.next) g c.forest (all_so (IsGiven c.next) (λ unit. IsGiven c.next (g unit)) (λ unit i. subst (λ n. (1 ≤ n) × (n < c.next)) (sym (k.id unit)) i) (nodes c.forest) h.given);
       next = h.next;
-      few = subst (λ n. n ≤ most_units) (sym (size-each g s.forest)) h.few;
-      depth = subst (λ n. n ≤ most_deep) (sym (height-each g s.forest)) h.depth;
+      few = subst (λ n. n ≤ most_units) (sym (size-each g c.forest)) h.few;
+      depth = subst (λ n. n ≤ most_deep) (sym (height-each g c.forest)) h.depth;
     }
 
 -- ---- a branch is removed
@@ -125,15 +126,15 @@ size_cut gone (Node a c o) = at (gone a) (size_cut gone c) (size_cut gone o)
     at true x y = omega (arith, y)
     at false x y = omega (arith, x, y)
 
-pub cut_good : (s : State) (permits : ℕ → List Permit) (gone : Unit → Bool) → AreGoodUnits s → AreGoodUnits (record s { forest = cut gone s.forest; permits = permits })
-cut_good s permits gone h =
-    let less = size_cut gone s.forest in
-    let lower = height_cut gone s.forest in
+pub cut_good : (c : Catalogue) (gone : Unit → Bool) → AreGoodUnits c → AreGoodUnits (record c { forest = cut gone c.forest })
+cut_good c gone h =
+    let less = size_cut gone c.forest in
+    let lower = height_cut gone c.forest in
     record {
-      each = all_cut (IsGoodUnit s.boxes) gone s.forest h.each;
-      ids = distinct_mapped nat_eq number (nodes (cut gone s.forest)) (distinct_cut same_number gone s.forest (distinct_unmapped nat_eq number (nodes s.forest) h.ids));
-      pairs = distinct_cut is_same_unit gone s.forest h.pairs;
-      given = all_cut (IsGiven s.next_unit) gone s.forest h.given;
+      each = all_cut (IsGoodUnit c.containers) gone c.forest h.each;
+      ids = distinct_mapped nat_eq number (nodes (cut gone c.forest)) (distinct_cut same_number gone c.forest (distinct_unmapped nat_eq number (nodes c.forest) h.ids));
+      pairs = distinct_cut is_same_unit gone c.forest h.pairs;
+      given = all_cut (IsGiven c.next) gone c.forest h.given;
       next = h.next;
       few = omega (arith, less, h.few);
       depth = omega (arith, lower, h.depth);
@@ -146,28 +147,28 @@ one_place None f d h = tt
 one_place (Some v) f d h = (one_unit v f d, h)
 
 -- what a Move asks for
-pub record CanMove (s : State) (u : ℕ) (p : Option ℕ) : Type 0 where
-  pub there : has_unit s.forest u ≡ true
-  pub place : has_place has_id p s.forest ≡ true
-  pub apart : is_into_itself u p s.forest ≡ false
-  pub deep : depth_after u p s.forest ≤ most_deep
+pub record CanMove (c : Catalogue) (u : ℕ) (p : Option ℕ) : Type 0 where
+  pub there : has_unit c.forest u ≡ true
+  pub place : has_place has_id p c.forest ≡ true
+  pub apart : is_into_itself u p c.forest ≡ false
+  pub deep : depth_after u p c.forest ≤ most_deep
 
-pub move_same : (s : State) (u : ℕ) (p : Option ℕ) → AreGoodUnits s → CanMove s u p → IsPermutation (nodes s.forest) (nodes (move_last has_id u p s.forest))
-move_same s u p h m = moved_same has_id u p s.forest (one_unit u s.forest h.ids) m.there (one_place p s.forest h.ids m.place) m.apart
+pub move_same : (c : Catalogue) (u : ℕ) (p : Option ℕ) → AreGoodUnits c → CanMove c u p → IsPermutation (nodes c.forest) (nodes (move_last has_id u p c.forest))
+move_same c u p h m = moved_same has_id u p c.forest (one_unit u c.forest h.ids) m.there (one_place p c.forest h.ids m.place) m.apart
 
-pub move_good : (s : State) (u : ℕ) (p : Option ℕ) → AreGoodUnits s → CanMove s u p → AreGoodUnits (record s { forest = move_last has_id u p s.forest })
-move_good s u p h m =
-    let f = move_last has_id u p s.forest in
-    let same = move_same s u p h m in
-    let count = length_permutation (nodes s.forest) (nodes f) same in
-    let old = length-nodes s.forest in
+pub move_good : (c : Catalogue) (u : ℕ) (p : Option ℕ) → AreGoodUnits c → CanMove c u p → AreGoodUnits (record c { forest = move_last has_id u p c.forest })
+move_good c u p h m =
+    let f = move_last has_id u p c.forest in
+    let same = move_same c u p h m in
+    let count = length_permutation (nodes c.forest) (nodes f) same in
+    let old = length-nodes c.forest in
     let new = length-nodes f in
-    let high = height_moved u p s.forest (one_unit u s.forest h.ids) m.there (one_place p s.forest h.ids m.place) m.apart in
+    let high = height_moved u p c.forest (one_unit u c.forest h.ids) m.there (one_place p c.forest h.ids m.place) m.apart in
     record {
-      each = all_moved (IsGoodUnit s.boxes) u p s.forest h.each;
-      ids = IsDistinct-IsPermutation nat_eq eqb_comm (map number (nodes s.forest)) (map number (nodes f)) (IsPermutation-map number (nodes s.forest) (nodes f) same) h.ids;
-      pairs = IsDistinct-IsPermutation is_same_unit same_flip (nodes s.forest) (nodes f) same h.pairs;
-      given = all_moved (IsGiven s.next_unit) u p s.forest h.given;
+      each = all_moved (IsGoodUnit c.containers) u p c.forest h.each;
+      ids = IsDistinct-IsPermutation nat_eq eqb_comm (map number (nodes c.forest)) (map number (nodes f)) (IsPermutation-map number (nodes c.forest) (nodes f) same) h.ids;
+      pairs = IsDistinct-IsPermutation is_same_unit same_flip (nodes c.forest) (nodes f) same h.pairs;
+      given = all_moved (IsGiven c.next) u p c.forest h.given;
       next = h.next;
       few = omega (arith, count, old, new, h.few);
       depth = omega (arith, high, h.depth, m.deep);

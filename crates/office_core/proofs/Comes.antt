@@ -1,6 +1,6 @@
 -- Units that come have new numbers.
 use Rattle.std.proofs.Common.{◌≡◌, ℕ, ◌+◌, ◌<◌, ◌≤◌, Bool, true, false, cond, ◌||◌, List, [], ◌∷◌, length, Option, Some, None, Ok, Err, refl, sym, ap, ◌∙◌, subst, inl, inr, ◌⊎◌, arith}
-use Rattle.std.specs.Prelude.{ℤ, nat_eq, is_some}
+use Rattle.std.specs.Prelude.{ℤ, nat_eq}
 use Rattle.std.specs.List.{list_any, AllByRecursion}
 use Rattle.std.proofs.lemmas.Bool.{false≢true, eqb-true, eq-eqb, or_cases, or_left, or_right, cases_Bool}
 use Rattle.isad_core.specs.Texts.{Bytes}
@@ -10,11 +10,12 @@ use Rattle.desk_core.specs.declared.reader.Place.{Place}
 use Rattle.desk_core.specs.declared.reader.Place.TheVariants.{Shelf, Desk, Out}
 use Rattle.catalogue_core.specs.Units.{Unit, has_id}
 use Rattle.catalogue_core.specs.Merging.{Catalogue, New, numbered_from, revised, merged_forest}
+use Rattle.catalogue_core.specs.Statuses.{is_chosen}
 use Rattle.office_core.specs.declared.command.Command.{Command}
 use Rattle.office_core.specs.declared.command.Command.TheVariants as command
 use Rattle.office_core.specs.State.{State, has_unit, container_of}
 use Rattle.office_core.specs.Intake.{Taken}
-use Rattle.office_core.specs.Rules.{catalogue, taken, imported, after, step, cancelled, issued, returned, is_chosen}
+use Rattle.office_core.specs.Rules.{taken, imported, after, step, cancelled, issued, returned, chosen}
 use Rattle.office_core.specs.Laws.{ComesNew}
 use Rattle.office_core.proofs.Steps.{step_at}
 use Rattle.office_core.proofs.Imports.{new_rows, taken_is}
@@ -60,9 +61,9 @@ merged_units c source rows =
 imported_units : (s : State) (source file : Bytes) (t : Taken) → taken s source file ≡ t → ComesNew s (imported s t)
 imported_units s source file (Err fault) e u h = inl h
 imported_units s source file (Ok intake) e u h =
-    let x = (taken_is (catalogue s) source file intake e).is in
-    subst (λ c. has_unit c.forest u ≡ true → OldOrNew s.forest s.next_unit c.next u) (sym x)
-    (λ k. of_number (OldOrNew s.forest s.next_unit _) (nodes (merged_forest source intake.file.rows (numbered_from s.forest source s.next_unit [] (new_rows (catalogue s) source intake.file.rows)) s.forest)) u (merged_units (catalogue s) source intake.file.rows) k) h
+    let x = (taken_is s.catalogue source file intake e).is in
+    subst (λ c. has_unit c.forest u ≡ true → OldOrNew s.catalogue.forest s.catalogue.next c.next u) (sym x)
+    (λ k. of_number (OldOrNew s.catalogue.forest s.catalogue.next _) (nodes (merged_forest source intake.file.rows (numbered_from s.catalogue.forest source s.catalogue.next [] (new_rows s.catalogue source intake.file.rows)) s.catalogue.forest)) u (merged_units s.catalogue source intake.file.rows) k) h
 
 -- changes that make no unit
 
@@ -147,10 +148,10 @@ returned_units s c (Out o) u h = inl h
 
 pub new_after : (s : State) (asked : Command) → ComesNew s (after s asked)
 new_after s (command.Import source file) = imported_units s source file (taken s source file) refl
-new_after s (command.SetStatus u draft whole) = λ v h. inl (sym (each_units (λ (unit : Unit). cond (is_chosen whole u s.forest unit) (record unit { draft = draft }) unit) s.forest v (λ unit. status_id (is_chosen whole u s.forest unit) draft unit)) ∙ h)
-new_after s (command.SetClosure u until) = λ v h. inl (sym (each_units (λ (unit : Unit). cond (has_id u unit) (record unit { until = until }) unit) s.forest v (λ unit. closure_id (has_id u unit) until unit)) ∙ h)
-new_after s (command.Move u parent) = λ v h. inl (has_moved (has_id v) u parent s.forest h)
-new_after s (command.Remove u) = λ v h. inl (has_cut (has_id v) (has_id u) s.forest h)
+new_after s (command.SetStatus u draft whole) = λ v h. inl (sym (each_units (λ (unit : Unit). cond (is_chosen (chosen whole u s.catalogue) unit) (record unit { draft = draft }) unit) s.catalogue.forest v (λ unit. status_id (is_chosen (chosen whole u s.catalogue) unit) draft unit)) ∙ h)
+new_after s (command.SetClosure u until) = λ v h. inl (sym (each_units (λ (unit : Unit). cond (has_id u unit) (record unit { until = until }) unit) s.catalogue.forest v (λ unit. closure_id (has_id u unit) until unit)) ∙ h)
+new_after s (command.Move u parent) = λ v h. inl (has_moved (has_id v) u parent s.catalogue.forest h)
+new_after s (command.Remove u) = λ v h. inl (has_cut (has_id v) (has_id u) s.catalogue.forest h)
 new_after s (command.Cancel o) = cancelled_units s o (container_of s o)
 new_after s (command.Issue c t) = issued_units s c (s.queue c)
 new_after s (command.Return c) = returned_units s c (s.place c)

@@ -12,7 +12,7 @@ use Rattle.office_core.specs.State.{State, Reader, Order, is_ticket, is_containe
 use Rattle.office_core.specs.declared.command.Command.{Command}
 use Rattle.office_core.specs.declared.command.Command.TheVariants as command
 use Rattle.office_core.specs.Intake.{Taken}
-use Rattle.office_core.specs.Rules.{catalogue, checks, after, renewed, cancelled, issued, returned, imported, taken}
+use Rattle.office_core.specs.Rules.{checks, after, renewed, cancelled, issued, returned, imported, taken}
 use Rattle.office_core.proofs.Words.{numbered_within, numbered-push}
 use Rattle.office_core.proofs.Steps.{held_so, Passes}
 use Rattle.office_core.proofs.Imports.{new_boxes, boxes_after}
@@ -66,13 +66,13 @@ no_later_than a b c h k = omega (arith, ints)
 pub after_today : (d e : ℤ) → int_lt d e ≡ true → d ≤ℤ e
 after_today d e h = grind (arith, ints)
 
-same_lists : (s t : State) → t.settings ≡ s.settings → t.day ≡ s.day → t.readers ≡ s.readers → t.boxes ≡ s.boxes → t.orders ≡ s.orders → Extends s t
+same_lists : (s t : State) → t.settings ≡ s.settings → t.day ≡ s.day → t.readers ≡ s.readers → t.catalogue.containers ≡ s.catalogue.containers → t.orders ≡ s.orders → Extends s t
 same_lists s t es ed er eb eo =
     record {
       settings = es;
       day = no_later s t ed;
       tickets = λ n. subst (λ rs. is_some (numbered s.readers n) ≡ true → is_some (numbered rs n) ≡ true) (sym er) (λ h. h);
-      containers = λ n. subst (λ bs. is_some (numbered s.boxes n) ≡ true → is_some (numbered bs n) ≡ true) (sym eb) (λ h. h);
+      containers = λ n. subst (λ bs. is_some (numbered s.catalogue.containers n) ≡ true → is_some (numbered bs n) ≡ true) (sym eb) (λ h. h);
       orders = λ o order. subst (λ os. numbered s.orders o ≡ Some order → numbered os o ≡ Some order) (sym eo) (λ h. h);
     }
 
@@ -89,19 +89,19 @@ returned_extends s c Shelf = same_lists s s refl refl refl refl refl
 returned_extends s c Desk = same_lists s s refl refl refl refl refl
 returned_extends s c (Out o) = same_lists s (returned s c (Out o)) refl refl refl refl refl
 
-imported_extends : (s : State) (source file : Bytes) (t : Taken) → taken s source file ≡ t → distinct s.boxes ≡ s.boxes → Extends s (imported s t)
+imported_extends : (s : State) (source file : Bytes) (t : Taken) → taken s source file ≡ t → distinct s.catalogue.containers ≡ s.catalogue.containers → Extends s (imported s t)
 imported_extends s source file (Err fault) e b = same_lists s s refl refl refl refl refl
 imported_extends s source file (Ok intake) e b =
-    let x = boxes_after (catalogue s) source file intake e b in
+    let x = boxes_after s.catalogue source file intake e b in
     record {
       settings = refl;
       day = same_day s.day;
       tickets = λ n h. h;
-      containers = λ n h. subst (λ bs. is_some (numbered bs n) ≡ true) (sym x) (some_kept s.boxes (new_boxes s.boxes intake.file.rows) n h);
+      containers = λ n h. subst (λ bs. is_some (numbered bs n) ≡ true) (sym x) (some_kept s.catalogue.containers (new_boxes s.catalogue.containers intake.file.rows) n h);
       orders = λ o order h. h;
     }
 
-pub extends_after : (s : State) (asked : Command) → distinct s.boxes ≡ s.boxes → Passes (checks s asked) → Extends s (after s asked)
+pub extends_after : (s : State) (asked : Command) → distinct s.catalogue.containers ≡ s.catalogue.containers → Passes (checks s asked) → Extends s (after s asked)
 extends_after s (command.OpenDay day) b ok = record { settings = refl; day = after_today s.day day (held_so (int_lt s.day day) _ ok.0); tickets = λ n h. h; containers = λ n h. h; orders = λ o order h. h }
 extends_after s (command.Register name until) b ok = record { settings = refl; day = same_day s.day; tickets = λ n. some_kept s.readers _ n; containers = λ n h. h; orders = λ o order h. h }
 extends_after s (command.Renew t until) b ok = record { settings = refl; day = same_day s.day; tickets = λ n. some-renewed until s.readers t n; containers = λ n h. h; orders = λ o order h. h }

@@ -16,7 +16,7 @@ use Rattle.office_core.specs.declared.done.Done.TheVariants as done
 use Rattle.office_core.specs.declared.done.Remark.{Remark}
 use Rattle.office_core.specs.State.{State, has_unit}
 use Rattle.office_core.specs.Intake.{Intake, Taken, is_new, told_of, bad_file}
-use Rattle.office_core.specs.Rules.{Reply, catalogue, taken, imported}
+use Rattle.office_core.specs.Rules.{Reply, taken, imported}
 use Rattle.office_core.specs.Soundness.{AreGoodUnits, IsSound}
 use Rattle.office_core.specs.Imported.{ImportsBringTheNew}
 use Rattle.catalogue_core.proofs.DistinctLists.{all_so}
@@ -30,35 +30,35 @@ done_reply d = Ok d
 
 -- so many units and unit numbers more, and none less
 abbrev HasMore : State → ℕ → State → Type 0
-HasMore s new t = ((u : ℕ) → has_unit s.forest u ≡ true → has_unit t.forest u ≡ true) × (size t.forest ≡ size s.forest + new) × (t.next_unit ≡ s.next_unit + new)
+HasMore s new t = ((u : ℕ) → has_unit s.catalogue.forest u ≡ true → has_unit t.catalogue.forest u ≡ true) × (size t.catalogue.forest ≡ size s.catalogue.forest + new) × (t.catalogue.next ≡ s.catalogue.next + new)
 
-merged_size : (source : Bytes) (rows : List Row) (n : ℕ) (news : List Row) (s : State) → AreGoodUnits s → n ≡ s.next_unit → size (merged_forest source rows (numbered_from s.forest source n [] news) s.forest) ≡ size s.forest + length news
+merged_size : (source : Bytes) (rows : List Row) (n : ℕ) (news : List Row) (s : State) → AreGoodUnits s.catalogue → n ≡ s.catalogue.next → size (merged_forest source rows (numbered_from s.catalogue.forest source n [] news) s.catalogue.forest) ≡ size s.catalogue.forest + length news
 merged_size source rows n news s g e =
-    let new : List New = numbered_from s.forest source n [] news in
-    let old : List Unit = map (revised source rows) (nodes s.forest) in
+    let new : List New = numbered_from s.catalogue.forest source n [] news in
+    let old : List Unit = map (revised source rows) (nodes s.catalogue.forest) in
     let come : List Unit = map (new_unit source) new in
-    let p = merged_nodes source rows n news s.forest g.ids (all_so (λ (u : Unit). (1 ≤ u.id) × (u.id < s.next_unit)) (λ u. u.id < n) (λ u k. (let b = k.1 in omega (arith, b, e))) (nodes s.forest) g.given) in
-    let a = length_permutation (nodes (merged_forest source rows new s.forest)) (old ++ come) p in
+    let p = merged_nodes source rows n news s.catalogue.forest g.ids (all_so (λ (u : Unit). (1 ≤ u.id) × (u.id < s.catalogue.next)) (λ u. u.id < n) (λ u k. (let b = k.1 in omega (arith, b, e))) (nodes s.catalogue.forest) g.given) in
+    let a = length_permutation (nodes (merged_forest source rows new s.catalogue.forest)) (old ++ come) p in
     let b = length-append old come in
-    let c = length-map (nodes s.forest) (revised source rows) in
+    let c = length-map (nodes s.catalogue.forest) (revised source rows) in
     let d = length-map new (new_unit source) in
-    let f = length-numbered s.forest source n [] news in
-    let h = length-nodes (merged_forest source rows new s.forest) in
-    let i = length-nodes s.forest in
+    let f = length-numbered s.catalogue.forest source n [] news in
+    let h = length-nodes (merged_forest source rows new s.catalogue.forest) in
+    let i = length-nodes s.catalogue.forest in
     omega (arith, a, b, c, d, f, h, i)
 
-taken_more : (s : State) (source file : Bytes) (intake : Intake) → taken s source file ≡ Ok intake → AreGoodUnits s → HasMore s (count_by (is_new s.forest source) intake.file.rows) (imported s (Ok intake))
+taken_more : (s : State) (source file : Bytes) (intake : Intake) → taken s source file ≡ Ok intake → AreGoodUnits s.catalogue → HasMore s (count_by (is_new s.catalogue.forest source) intake.file.rows) (imported s (Ok intake))
 taken_more s source file intake e g =
-    let it = taken_is (catalogue s) source file intake e in
+    let it = taken_is s.catalogue source file intake e in
     let rows = intake.file.rows in
-    let news = new_rows (catalogue s) source rows in
-    let many : length news ≡ count_by (is_new s.forest source) rows = length-filter (is_new s.forest source) rows in
-    let size_is = merged_size source rows s.next_unit news s g refl in
+    let news = new_rows s.catalogue source rows in
+    let many : length news ≡ count_by (is_new s.catalogue.forest source) rows = length-filter (is_new s.catalogue.forest source) rows in
+    let size_is = merged_size source rows s.catalogue.next news s g refl in
     let forest_is = ap (λ c. size c.forest) it.is in
     let next_is = ap (λ c. c.next) it.is in
-    let length_is = length-numbered s.forest source s.next_unit [] news in
-    let stay = subst (λ (c : Catalogue). (u : ℕ) → has_unit s.forest u ≡ true → has_unit c.forest u ≡ true) (sym it.is) (still_there source rows (numbered_from s.forest source s.next_unit [] news) s.forest) in
-    (stay, forest_is ∙ (size_is ∙ ap (λ n. size s.forest + n) many), next_is ∙ ap (λ n. s.next_unit + n) (length_is ∙ many))
+    let length_is = length-numbered s.catalogue.forest source s.catalogue.next [] news in
+    let stay = subst (λ (c : Catalogue). (u : ℕ) → has_unit s.catalogue.forest u ≡ true → has_unit c.forest u ≡ true) (sym it.is) (still_there source rows (numbered_from s.catalogue.forest source s.catalogue.next [] news) s.catalogue.forest) in
+    (stay, forest_is ∙ (size_is ∙ ap (λ n. size s.catalogue.forest + n) many), next_is ∙ ap (λ n. s.catalogue.next + n) (length_is ∙ many))
 
 same_reply : (a b : Done) → done_reply a ≡ done_reply b → a ≡ b
 same_reply a b e = cc
@@ -66,7 +66,7 @@ same_reply a b e = cc
 same_new : (c n s t c' n' s' t' : ℕ) (m m' : List Remark) → done.Import c n m s t ≡ done.Import c' n' m' s' t' → n ≡ n'
 same_new c n s t c' n' s' t' m m' e = cc
 
-accepted : (s : State) (source file : Bytes) (r : Taken) → taken s source file ≡ r → bad_file r ≡ None → AreGoodUnits s → (changed new : ℕ) (marks : List Remark) (same translations : ℕ) → done_reply (told_of s.forest source r) ≡ done_reply (done.Import changed new marks same translations) → HasMore s new (imported s r)
+accepted : (s : State) (source file : Bytes) (r : Taken) → taken s source file ≡ r → bad_file r ≡ None → AreGoodUnits s.catalogue → (changed new : ℕ) (marks : List Remark) (same translations : ℕ) → done_reply (told_of s.catalogue.forest source r) ≡ done_reply (done.Import changed new marks same translations) → HasMore s new (imported s r)
 accepted s source file (Err fault) e a g changed new marks same translations t = absurd (cc)
 accepted s source file (Ok intake) e a g changed new marks same translations t =
     subst (λ n. HasMore s n (imported s (Ok intake))) (same_new _ _ _ _ changed new same translations _ marks (same_reply _ _ t)) (taken_more s source file intake e g)

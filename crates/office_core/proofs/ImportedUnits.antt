@@ -15,7 +15,7 @@ use Rattle.office_core.specs.declared.command.Command.TheVariants as command
 use Rattle.office_core.specs.State.{State, has_unit}
 use Rattle.office_core.specs.Intake.{Intake, Taken, too_much, is_full}
 use Rattle.isad_core.specs.Limits.{most_units, most_unit_numbers, most_containers}
-use Rattle.office_core.specs.Rules.{is_source, catalogue, taken, imported, checks, after}
+use Rattle.office_core.specs.Rules.{is_source, taken, imported, checks, after}
 use Rattle.office_core.specs.Soundness.{AreGoodUnits, AreGoodContainers, ArePermitsOfUnits, IsGoodUnit, IsSound}
 use Rattle.office_core.specs.Imported.{IsSoundCatalogue, ImportsKeepTheCatalogue}
 use Rattle.office_core.proofs.Steps.{Passes, held_so, held_not, step_at}
@@ -59,82 +59,82 @@ named_told (row ∷ rows) h = all_append (λ (box : BoxKey). is_blank_text box.n
 -- ---- a sound state and a file that it takes
 
 module _ (s : State) (source file : Bytes) (intake : Intake) (e : taken s source file ≡ Ok intake) (g : IsSound s) (named : is_source source ≡ true) (fits : when (is_full intake.catalogue) Full ≡ None) where
-  it : IsTaken (catalogue s) source file intake
-  it = taken_is (catalogue s) source file intake e
+  it : IsTaken s.catalogue source file intake
+  it = taken_is s.catalogue source file intake e
 
   abbrev rows : List Row
   rows = intake.file.rows
 
   abbrev news : List Row
-  news = new_rows (catalogue s) source intake.file.rows
+  news = new_rows s.catalogue source intake.file.rows
 
   abbrev new : List New
-  new = numbered_from s.forest source s.next_unit [] (new_rows (catalogue s) source intake.file.rows)
+  new = numbered_from s.catalogue.forest source s.catalogue.next [] (new_rows s.catalogue source intake.file.rows)
 
   abbrev forest : Forest Unit
-  forest = merged_forest source intake.file.rows (numbered_from s.forest source s.next_unit [] (new_rows (catalogue s) source intake.file.rows)) s.forest
+  forest = merged_forest source intake.file.rows (numbered_from s.catalogue.forest source s.catalogue.next [] (new_rows s.catalogue source intake.file.rows)) s.catalogue.forest
 
   abbrev boxes : List BoxKey
-  boxes = merged_boxes intake.file.rows s.boxes
+  boxes = merged_boxes intake.file.rows s.catalogue.containers
 
   good : AllByRecursion IsGoodRow intake.file.rows
   good = good_rows file intake.file it.read
 
-  told : AllByRecursion (λ row. AreGoodValues (merged_boxes intake.file.rows s.boxes) row.values) intake.file.rows
-  told = all_told intake.file.rows s.boxes good
+  told : AllByRecursion (λ row. AreGoodValues (merged_boxes intake.file.rows s.catalogue.containers) row.values) intake.file.rows
+  told = all_told intake.file.rows s.catalogue.containers good
 
   -- the new units
-  come : AllByRecursion (λ x. IsGoodUnit (merged_boxes intake.file.rows s.boxes) (new_unit source x)) new
+  come : AllByRecursion (λ x. IsGoodUnit (merged_boxes intake.file.rows s.catalogue.containers) (new_unit source x)) new
   come =
       all_and (λ x. IsGoodRow x.row) (λ x. AreGoodValues boxes x.row.values) (λ x. IsGoodUnit boxes (new_unit source x)) (λ x r v. good_new source boxes x named r v) new
-      (numbered_rows s.forest source s.next_unit [] news IsGoodRow (all_filtered IsGoodRow (λ row. not (is_known s.forest source row)) rows good))
-      (numbered_rows s.forest source s.next_unit [] news (λ row. AreGoodValues boxes row.values) (all_filtered (λ row. AreGoodValues boxes row.values) (λ row. not (is_known s.forest source row)) rows told))
+      (numbered_rows s.catalogue.forest source s.catalogue.next [] news IsGoodRow (all_filtered IsGoodRow (λ row. not (is_known s.catalogue.forest source row)) rows good))
+      (numbered_rows s.catalogue.forest source s.catalogue.next [] news (λ row. AreGoodValues boxes row.values) (all_filtered (λ row. AreGoodValues boxes row.values) (λ row. not (is_known s.catalogue.forest source row)) rows told))
 
-  all_good : AllByRecursion (IsGoodUnit (merged_boxes intake.file.rows s.boxes)) (nodes forest)
+  all_good : AllByRecursion (IsGoodUnit (merged_boxes intake.file.rows s.catalogue.containers)) (nodes forest)
   all_good =
-      all_merged (IsGoodUnit boxes) source rows new s.forest come
-      (all_so (IsGoodUnit s.boxes) (λ u. IsGoodUnit boxes (revised source rows u)) (λ u k. good_revised source rows s.boxes u told k) (nodes s.forest) g.units.each)
+      all_merged (IsGoodUnit boxes) source rows new s.catalogue.forest come
+      (all_so (IsGoodUnit s.catalogue.containers) (λ u. IsGoodUnit boxes (revised source rows u)) (λ u k. good_revised source rows s.catalogue.containers u told k) (nodes s.catalogue.forest) g.units.each)
 
-  below_next : AllByRecursion (λ (u : Unit). u.id < s.next_unit) (nodes s.forest)
-  below_next = all_so (λ u. (1 ≤ u.id) × (u.id < s.next_unit)) (λ u. u.id < s.next_unit) (λ u k. k.1) (nodes s.forest) g.units.given
+  below_next : AllByRecursion (λ (u : Unit). u.id < s.catalogue.next) (nodes s.catalogue.forest)
+  below_next = all_so (λ u. (1 ≤ u.id) × (u.id < s.catalogue.next)) (λ u. u.id < s.catalogue.next) (λ u k. k.1) (nodes s.catalogue.forest) g.units.given
 
-  given : AllByRecursion (λ (u : Unit). (1 ≤ u.id) × (u.id < s.next_unit + length new)) (nodes forest)
+  given : AllByRecursion (λ (u : Unit). (1 ≤ u.id) × (u.id < s.catalogue.next + length new)) (nodes forest)
   given =
-      all_merged (λ u. (1 ≤ u.id) × (u.id < s.next_unit + length new)) source rows new s.forest
-      (all_so (λ x. (s.next_unit ≤ x.id) × (x.id < s.next_unit + length new)) (λ x. (1 ≤ x.id) × (x.id < s.next_unit + length new)) (λ x k. (let a = k.0 in let b = g.units.next.0 in omega (arith, a, b), k.1)) new (ids_between s.forest source s.next_unit [] news))
-      (all_so (λ u. (1 ≤ u.id) × (u.id < s.next_unit)) (λ u. (1 ≤ (revised source rows u).id) × ((revised source rows u).id < s.next_unit + length new)) (λ u k. (let a = k.0 in let i = revised_id source rows u in omega (arith, a, i), let b = k.1 in let i = revised_id source rows u in omega (arith, b, i))) (nodes s.forest) g.units.given)
+      all_merged (λ u. (1 ≤ u.id) × (u.id < s.catalogue.next + length new)) source rows new s.catalogue.forest
+      (all_so (λ x. (s.catalogue.next ≤ x.id) × (x.id < s.catalogue.next + length new)) (λ x. (1 ≤ x.id) × (x.id < s.catalogue.next + length new)) (λ x k. (let a = k.0 in let b = g.units.next.0 in omega (arith, a, b), k.1)) new (ids_between s.catalogue.forest source s.catalogue.next [] news))
+      (all_so (λ u. (1 ≤ u.id) × (u.id < s.catalogue.next)) (λ u. (1 ≤ (revised source rows u).id) × ((revised source rows u).id < s.catalogue.next + length new)) (λ u k. (let a = k.0 in let i = revised_id source rows u in omega (arith, a, i), let b = k.1 in let i = revised_id source rows u in omega (arith, b, i))) (nodes s.catalogue.forest) g.units.given)
 
   -- what came of the catalogue
   abbrev after_import : State
-  after_import = record s { forest = forest; boxes = boxes; next_unit = s.next_unit + length new }
+  after_import = record s { catalogue = record { forest = forest; containers = boxes; next = s.catalogue.next + length new } }
 
   is_after : imported s (Ok intake) ≡ after_import
-  is_after = ap (λ (c : Catalogue). record s { forest = c.forest; boxes = c.containers; next_unit = c.next }) it.is
+  is_after = ap (λ (c : Catalogue). record s { catalogue = c }) it.is
 
-  enough : (size forest ≤ most_units) × (s.next_unit + length new ≤ most_unit_numbers + 1) × (length boxes ≤ most_containers)
+  enough : (size forest ≤ most_units) × (s.catalogue.next + length new ≤ most_unit_numbers + 1) × (length boxes ≤ most_containers)
   enough = subst (λ (c : Catalogue). (size c.forest ≤ most_units) × (c.next ≤ most_unit_numbers + 1) × (length c.containers ≤ most_containers)) it.is (room intake.catalogue fits)
 
-  good_units : AreGoodUnits after_import
+  good_units : AreGoodUnits after_import.catalogue
   good_units =
       record {
         each = all_good;
-        ids = distinct_numbers source rows s.next_unit news s.forest g.units.ids below_next;
-        pairs = distinct_pairs (catalogue s) source rows (apart_rows file intake.file it.read) g.units.ids below_next g.units.pairs;
+        ids = distinct_numbers source rows s.catalogue.next news s.catalogue.forest g.units.ids below_next;
+        pairs = distinct_pairs s.catalogue source rows (apart_rows file intake.file it.read) g.units.ids below_next g.units.pairs;
         given = given;
         next = (let a = g.units.next.0 in omega (arith, a), enough.1);
         few = enough.0;
-        depth = merged_depth s.forest source s.next_unit g.units.ids below_next rows news it.placed g.units.depth;
+        depth = merged_depth s.catalogue.forest source s.catalogue.next g.units.ids below_next rows news it.placed g.units.depth;
       }
 
-  good_containers : AreGoodContainers after_import
+  good_containers : AreGoodContainers after_import.catalogue
   good_containers =
       record {
-        named = named_all boxes (all_distinct (λ (box : BoxKey). is_blank_text box.name ≡ false) (s.boxes ++ flat_map (λ (row : Row). row.values.boxes) rows) (all_append (λ (box : BoxKey). is_blank_text box.name ≡ false) s.boxes (flat_map (λ (row : Row). row.values.boxes) rows) (named_from s.boxes g.containers.named) (named_told rows good)));
+        named = named_all boxes (all_distinct (λ (box : BoxKey). is_blank_text box.name ≡ false) (s.catalogue.containers ++ flat_map (λ (row : Row). row.values.boxes) rows) (all_append (λ (box : BoxKey). is_blank_text box.name ≡ false) s.catalogue.containers (flat_map (λ (row : Row). row.values.boxes) rows) (named_from s.catalogue.containers g.containers.named) (named_told rows good)));
         few = enough.2;
       }
 
   permits_there : ArePermitsOfUnits after_import
-  permits_there = λ t. all_so (λ permit. has_unit s.forest permit.unit ≡ true) (λ permit. has_unit forest permit.unit ≡ true) (λ permit. still_there source rows new s.forest permit.unit) (s.permits t) (g.permits t)
+  permits_there = λ t. all_so (λ permit. has_unit s.catalogue.forest permit.unit ≡ true) (λ permit. has_unit forest permit.unit ≡ true) (λ permit. still_there source rows new s.catalogue.forest permit.unit) (s.permits t) (g.permits t)
 
   sound_import : IsSoundCatalogue (imported s (Ok intake))
   sound_import = subst IsSoundCatalogue (sym is_after) (record { units = good_units; containers = good_containers; permits = permits_there })

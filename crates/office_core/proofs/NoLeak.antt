@@ -173,10 +173,10 @@ answers_alike s t same =
     let here : Repository = record { country = s.settings.country; repo = s.settings.repo } in
     let there : Repository = record { country = t.settings.country; repo = t.settings.repo } in
     let one : here ≡ there = ap (λ c. record { country = c; repo = s.settings.repo }) same.country ∙ ap (λ r. record { country = t.settings.country; repo = r }) same.repo in
-    let h = each_alike s.boxes t.boxes (nodes (public_forest s)) same.numbers in
-    let move : (question : Query) → public_answer (with_boxes here t.boxes) (public_forest s) question ≡ public_answer (with_boxes there t.boxes) (public_forest t) question = λ question. ap (λ at. public_answer (with_boxes at t.boxes) (public_forest s) question) one ∙ ap (λ f. public_answer (with_boxes there t.boxes) f question) same.forest in
+    let h = each_alike s.catalogue.containers t.catalogue.containers (nodes (public_forest s)) same.numbers in
+    let move : (question : Query) → public_answer (with_boxes here t.catalogue.containers) (public_forest s) question ≡ public_answer (with_boxes there t.catalogue.containers) (public_forest t) question = λ question. ap (λ at. public_answer (with_boxes at t.catalogue.containers) (public_forest s) question) one ∙ ap (λ f. public_answer (with_boxes there t.catalogue.containers) f question) same.forest in
     record {
-      fonds = fonds_alike here s.boxes t.boxes (public_forest s) h ∙ move query.Fonds;
-      aid = λ u. aid_alike here s.boxes t.boxes u (public_forest s) h ∙ move (query.Aid u);
-      page = λ u. page_alike here s.boxes t.boxes u (public_forest s) h ∙ move (query.Page u);
+      fonds = fonds_alike here s.catalogue.containers t.catalogue.containers (public_forest s) h ∙ move query.Fonds;
+      aid = λ u. aid_alike here s.catalogue.containers t.catalogue.containers u (public_forest s) h ∙ move (query.Aid u);
+      page = λ u. page_alike here s.catalogue.containers t.catalogue.containers u (public_forest s) h ∙ move (query.Page u);
     }

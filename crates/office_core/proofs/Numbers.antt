@@ -7,7 +7,7 @@ use Rattle.desk_core.specs.declared.reader.Place.{Place}
 use Rattle.office_core.specs.State.{State, Reader, container_of}
 use Rattle.office_core.specs.declared.command.Command.{Command}
 use Rattle.office_core.specs.declared.command.Command.TheVariants as command
-use Rattle.office_core.specs.Rules.{catalogue, after, told, step, renewed, cancelled, issued, returned, imported, taken}
+use Rattle.office_core.specs.Rules.{after, told, step, renewed, cancelled, issued, returned, imported, taken}
 use Rattle.isad_core.specs.Texts.{Bytes}
 use Rattle.isad_core.specs.Boxes.{distinct}
 use Rattle.desk_core.specs.declared.refusal.Refusal.{Refusal}
@@ -25,8 +25,8 @@ next : Kind → State → ℕ
 next Tickets s = suc (length s.readers)
 next Orders s = suc (length s.orders)
 next Runs s = suc (length s.runs)
-next Containers s = suc (length s.boxes)
-next Units s = s.next_unit
+next Containers s = suc (length s.catalogue.containers)
+next Units s = s.catalogue.next
 
 -- these numbers ascend, from low to below high
 record AreBetween (low high : ℕ) (ns : List ℕ) : Type 0 where
@@ -77,8 +77,8 @@ record SameCounts (s t : State) : Type 0 where
   readers : length t.readers ≡ length s.readers
   orders : length t.orders ≡ length s.orders
   runs : length t.runs ≡ length s.runs
-  boxes : length t.boxes ≡ length s.boxes
-  units : t.next_unit ≡ s.next_unit
+  boxes : length t.catalogue.containers ≡ length s.catalogue.containers
+  units : t.catalogue.next ≡ s.catalogue.next
 
 none_changed : (s : State) → SameCounts s s
 none_changed s = record { readers = refl; orders = refl; runs = refl; boxes = refl; units = refl }
@@ -96,23 +96,23 @@ returned_same s c Shelf = none_changed s
 returned_same s c Desk = none_changed s
 returned_same s c (Out o) = record { readers = refl; orders = refl; runs = refl; boxes = refl; units = refl }
 
-imported_lists : (s : State) (source file : Bytes) (t : Taken) → taken s source file ≡ t → distinct s.boxes ≡ s.boxes → (length (imported s t).readers ≡ length s.readers) × (length (imported s t).orders ≡ length s.orders) × (length (imported s t).runs ≡ length s.runs) × (length s.boxes ≤ length (imported s t).boxes) × (s.next_unit ≤ (imported s t).next_unit)
+imported_lists : (s : State) (source file : Bytes) (t : Taken) → taken s source file ≡ t → distinct s.catalogue.containers ≡ s.catalogue.containers → (length (imported s t).readers ≡ length s.readers) × (length (imported s t).orders ≡ length s.orders) × (length (imported s t).runs ≡ length s.runs) × (length s.catalogue.containers ≤ length (imported s t).catalogue.containers) × (s.catalogue.next ≤ (imported s t).catalogue.next)
 imported_lists s source file (Err fault) e b = (refl, refl, refl, omega arith, omega arith)
 imported_lists s source file (Ok intake) e b =
-    let x = ap length (boxes_after (catalogue s) source file intake e b) in
-    let y = length-append s.boxes (new_boxes s.boxes intake.file.rows) in
-    let z = next_after (catalogue s) source file intake e in
+    let x = ap length (boxes_after s.catalogue source file intake e b) in
+    let y = length-append s.catalogue.containers (new_boxes s.catalogue.containers intake.file.rows) in
+    let z = next_after s.catalogue source file intake e in
     (refl, refl, refl, omega (arith, x, y), z)
 
 -- what no command takes away
 record Grows (s t : State) : Type 0 where
-  boxes : length s.boxes ≤ length t.boxes
-  units : s.next_unit ≤ t.next_unit
+  boxes : length s.catalogue.containers ≤ length t.catalogue.containers
+  units : s.catalogue.next ≤ t.catalogue.next
 
 grows_same : (s t : State) → SameCounts s t → Grows s t
 grows_same s t h = let b = h.boxes in let u = h.units in record { boxes = omega (arith, b); units = omega (arith, u) }
 
-grows_after : (s : State) (asked : Command) → distinct s.boxes ≡ s.boxes → Grows s (after s asked)
+grows_after : (s : State) (asked : Command) → distinct s.catalogue.containers ≡ s.catalogue.containers → Grows s (after s asked)
 grows_after s (command.OpenDay day) b = record { boxes = omega arith; units = omega arith }
 grows_after s (command.Register name until) b = record { boxes = omega arith; units = omega arith }
 grows_after s (command.Renew t until) b = record { boxes = omega arith; units = omega arith }
@@ -138,7 +138,7 @@ same_between n m e = nothing n m (omega (arith, e))
 counts_between : (n m : ℕ) → m ≡ n → AreBetween (suc n) (suc m) []
 counts_between n m e = nothing (suc n) (suc m) (omega (arith, e))
 
-tickets_after : (s : State) (asked : Command) → distinct s.boxes ≡ s.boxes → AreBetween (suc (length s.readers)) (suc (length (after s asked).readers)) (option_to_list (ticket_given asked (Ok (told s asked))))
+tickets_after : (s : State) (asked : Command) → distinct s.catalogue.containers ≡ s.catalogue.containers → AreBetween (suc (length s.readers)) (suc (length (after s asked).readers)) (option_to_list (ticket_given asked (Ok (told s asked))))
 tickets_after s (command.OpenDay day) b = same_between _ _ refl
 tickets_after s (command.Register name until) b = between_at _ _ _ _ (ap suc (sym (one_more s.readers _))) (next_one (suc (length s.readers)))
 tickets_after s (command.Renew t until) b = counts_between _ _ (length-renewed until s.readers t)
@@ -158,7 +158,7 @@ tickets_after s (command.SetClosure u until) b = same_between _ _ refl
 tickets_after s (command.Move u parent) b = same_between _ _ refl
 tickets_after s (command.Remove u) b = same_between _ _ refl
 
-orders_after : (s : State) (asked : Command) → distinct s.boxes ≡ s.boxes → AreBetween (suc (length s.orders)) (suc (length (after s asked).orders)) (option_to_list (order_given asked (Ok (told s asked))))
+orders_after : (s : State) (asked : Command) → distinct s.catalogue.containers ≡ s.catalogue.containers → AreBetween (suc (length s.orders)) (suc (length (after s asked).orders)) (option_to_list (order_given asked (Ok (told s asked))))
 orders_after s (command.OpenDay day) b = same_between _ _ refl
 orders_after s (command.Register name until) b = same_between _ _ refl
 orders_after s (command.Renew t until) b = same_between _ _ refl
@@ -178,7 +178,7 @@ orders_after s (command.SetClosure u until) b = same_between _ _ refl
 orders_after s (command.Move u parent) b = same_between _ _ refl
 orders_after s (command.Remove u) b = same_between _ _ refl
 
-runs_after : (s : State) (asked : Command) → distinct s.boxes ≡ s.boxes → AreBetween (suc (length s.runs)) (suc (length (after s asked).runs)) (option_to_list (run_given asked (Ok (told s asked))))
+runs_after : (s : State) (asked : Command) → distinct s.catalogue.containers ≡ s.catalogue.containers → AreBetween (suc (length s.runs)) (suc (length (after s asked).runs)) (option_to_list (run_given asked (Ok (told s asked))))
 runs_after s (command.OpenDay day) b = same_between _ _ refl
 runs_after s (command.Register name until) b = same_between _ _ refl
 runs_after s (command.Renew t until) b = same_between _ _ refl
@@ -214,7 +214,7 @@ none_refused_r _ why = refl
 refused_between : (n : ℕ) (o : Option ℕ) → o ≡ None → AreBetween n n (option_to_list o)
 refused_between n o e = subst (λ x. AreBetween n n (option_to_list x)) (sym e) (same_between n n refl)
 
-step_grows : (s : State) (asked : Command) → distinct s.boxes ≡ s.boxes → Grows s (step s asked).0
+step_grows : (s : State) (asked : Command) → distinct s.catalogue.containers ≡ s.catalogue.containers → Grows s (step s asked).0
 step_grows s asked b = step_at (λ t reply. Grows s t) s asked (λ why. record { boxes = omega arith; units = omega arith }) (λ ok. grows_after s asked b)
 
 range_between : (m n : ℕ) → m ≤ n → AreBetween m n (numbers_from m (n - m))
@@ -223,15 +223,15 @@ range_between m n h = between_at _ _ _ _ (omega arith) (from_between m (n - m))
 range_between_suc : (m n : ℕ) → m ≤ n → AreBetween (suc m) (suc n) (numbers_from (suc m) (n - m))
 range_between_suc m n h = between_at _ _ _ _ (omega arith) (from_between (suc m) (n - m))
 
-step_between : (kind : Kind) (s : State) (asked : Command) → distinct s.boxes ≡ s.boxes → AreBetween (next kind s) (next kind (step s asked).0) (given kind s asked)
+step_between : (kind : Kind) (s : State) (asked : Command) → distinct s.catalogue.containers ≡ s.catalogue.containers → AreBetween (next kind s) (next kind (step s asked).0) (given kind s asked)
 unfolding next
 step_between Tickets s asked b = step_at (λ t reply. AreBetween (suc (length s.readers)) (suc (length t.readers)) (option_to_list (ticket_given asked reply))) s asked (λ why. refused_between (suc (length s.readers)) _ (none_refused_t asked why)) (λ ok. tickets_after s asked b)
 step_between Orders s asked b = step_at (λ t reply. AreBetween (suc (length s.orders)) (suc (length t.orders)) (option_to_list (order_given asked reply))) s asked (λ why. refused_between (suc (length s.orders)) _ (none_refused_o asked why)) (λ ok. orders_after s asked b)
 step_between Runs s asked b = step_at (λ t reply. AreBetween (suc (length s.runs)) (suc (length t.runs)) (option_to_list (run_given asked reply))) s asked (λ why. refused_between (suc (length s.runs)) _ (none_refused_r asked why)) (λ ok. runs_after s asked b)
-step_between Containers s asked b = range_between_suc (length s.boxes) (length (step s asked).0.boxes) (step_grows s asked b).boxes
-step_between Units s asked b = range_between s.next_unit (step s asked).0.next_unit (step_grows s asked b).units
+step_between Containers s asked b = range_between_suc (length s.catalogue.containers) (length (step s asked).0.catalogue.containers) (step_grows s asked b).boxes
+step_between Units s asked b = range_between s.catalogue.next (step s asked).0.catalogue.next (step_grows s asked b).units
 
-given_above : (kind : Kind) (s : State) (later : List Command) (low : ℕ) → distinct s.boxes ≡ s.boxes → low ≤ next kind s → AllByRecursion (λ n. low ≤ n) (all_given kind s later)
+given_above : (kind : Kind) (s : State) (later : List Command) (low : ℕ) → distinct s.catalogue.containers ≡ s.catalogue.containers → low ≤ next kind s → AllByRecursion (λ n. low ≤ n) (all_given kind s later)
 given_above kind s [] low b h = tt
 given_above kind s (asked ∷ later) low b h =
     let x = step_between kind s asked b in
@@ -240,7 +240,7 @@ given_above kind s (asked ∷ later) low b h =
     (all_so (λ n. next kind s ≤ n) (λ n. low ≤ n) (λ n i. omega (arith, i, h)) (given kind s asked) x.above)
     (given_above kind (step s asked).0 later low (step_apart s asked b) (omega (arith, up, h)))
 
-pub given_once : (kind : Kind) (s : State) (later : List Command) → distinct s.boxes ≡ s.boxes → IsAscending (all_given kind s later)
+pub given_once : (kind : Kind) (s : State) (later : List Command) → distinct s.catalogue.containers ≡ s.catalogue.containers → IsAscending (all_given kind s later)
 given_once kind s [] b = tt
 given_once kind s (asked ∷ later) b =
     let x = step_between kind s asked b in

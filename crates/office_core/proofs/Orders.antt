@@ -92,9 +92,9 @@ live_ordered s p other f e l =
 
 -- what is open is known
 pub opens_known : (s : State) (t c : ℕ) → opens s t c ≡ true → is_container s c ≡ true
-opens_known s t c e = at (numbered s.boxes c) e
+opens_known s t c e = at (numbered s.catalogue.containers c) e
   where
-    at : (r : Option BoxKey) → some_and (λ box. is_open s.forest box (is_permitted s.day (s.permits t)) s.day) r ≡ true → is_some r ≡ true
+    at : (r : Option BoxKey) → some_and (λ box. is_open s.catalogue.forest box (is_permitted s.day (s.permits t)) s.day) r ≡ true → is_some r ≡ true
     at None h = absurd (false≢true h)
     at (Some box) h = refl
 
@@ -195,7 +195,7 @@ imported_good : (s : State) (t : Taken) → Extends s (imported s t) → AreGood
 imported_good s (Err fault) e g = g
 imported_good s (Ok intake) e g = orders_same s (imported s (Ok intake)) e refl (λ p h. h) g
 
-pub orders_after : (s : State) (asked : Command) → distinct s.boxes ≡ s.boxes → AreFiled s → AreGoodOrders s → Passes (checks s asked) → AreGoodOrders (after s asked)
+pub orders_after : (s : State) (asked : Command) → distinct s.catalogue.containers ≡ s.catalogue.containers → AreFiled s → AreGoodOrders s → Passes (checks s asked) → AreGoodOrders (after s asked)
 orders_after s (command.OpenDay day) b f g ok = orders_same s (after s (command.OpenDay day)) (extends_after s (command.OpenDay day) b ok) refl (λ o h. h) g
 orders_after s (command.Register name until) b f g ok = orders_same s (after s (command.Register name until)) (extends_after s (command.Register name until) b ok) refl (λ o h. h) g
 orders_after s (command.Renew t until) b f g ok = orders_same s (after s (command.Renew t until)) (extends_after s (command.Renew t until) b ok) refl (λ o h. h) g

@@ -56,7 +56,7 @@ same_holder s t u c e f p = ap (some_and (is_by t u)) p ∙ at (order_out (s.pla
 -- Order
 
 order_held : (s : State) (t c u : ℕ) → Extends s (ordered s t c) → AreFiled s → held (ordered s t c) u ≤ held s u
-order_held s t c u e f = count_le (is_out_with (ordered s t c) u) (is_out_with s u) (length s.boxes) (λ k l h. sym (same_holder s (ordered s t c) u k e f refl) ∙ h)
+order_held s t c u e f = count_le (is_out_with (ordered s t c) u) (is_out_with s u) (length s.catalogue.containers) (λ k l h. sym (same_holder s (ordered s t c) u k e f refl) ∙ h)
 
 order_holders : (s : State) (t c : ℕ) → Extends s (ordered s t c) → AreFiled s → AreGoodPlaces s → (k o : ℕ) (order : Order) → order_out (s.place k) ≡ Some o → numbered (ordered s t c).orders o ≡ Some order → IsGoodHolder (ordered s t c) k order.ticket
 order_holders s t c e f g k o order h n =
@@ -74,7 +74,7 @@ order_holders s t c e f g k o order h n =
 none_out : (s : State) → AreFiled s → AreGoodOrders s → list_any (is_out s) (containers s) ≡ false → (c o : ℕ) → order_out (s.place c) ≡ Some o → ⊥
 none_out s f g h c o e =
     let k = out_known s c o f g e in
-    let z = none_to (is_out s) (length s.boxes) c h (numbered_from_one s.boxes c k) (numbered_within s.boxes c k) in
+    let z = none_to (is_out s) (length s.catalogue.containers) c h (numbered_from_one s.catalogue.containers c k) (numbered_within s.catalogue.containers c k) in
     false≢true (sym z ∙ ap is_some e)
 
 -- LeaveSeat
@@ -83,7 +83,7 @@ holds_none : (s : State) (t c o : ℕ) (order : Order) → AreFiled s → AreGoo
 holds_none s t c o order f g z e h same =
     let k = out_known s c o f g e in
     let w = subst (λ u. is_out_with s u c ≡ true) same (out_with_ticket s c o order e h) in
-    let p = count_some (is_out_with s t) (length s.boxes) c (numbered_from_one s.boxes c k) (numbered_within s.boxes c k) w in
+    let p = count_some (is_out_with s t) (length s.catalogue.containers) c (numbered_from_one s.catalogue.containers c k) (numbered_within s.catalogue.containers c k) w in
     omega (arith, p, z)
 
 -- Run and Reshelve
@@ -92,7 +92,7 @@ moved_holders : (s : State) (place : ℕ → Place) (runs : List Run) → ((c : 
 moved_holders s place runs same g c o order e h =
     let y = g.holders c o order (sym (same c) ∙ e) h in
     let few = y.few in
-    let l = count_le (is_out_with (record s { place = place; runs = runs }) order.ticket) (is_out_with s order.ticket) (length s.boxes) (λ k b w. sym (ap (some_and (is_by s order.ticket)) (same k)) ∙ w) in
+    let l = count_le (is_out_with (record s { place = place; runs = runs }) order.ticket) (is_out_with s order.ticket) (length s.catalogue.containers) (λ k b w. sym (ap (some_and (is_by s order.ticket)) (same k)) ∙ w) in
     record { seated = y.seated; few = omega (arith, few, l); may_see = y.may_see }
 
 brought : (s : State) (c o : ℕ) (r : Option Order) (rest : List Line) → numbered s.orders o ≡ r → (list_any (λ line. nat_eq line.container c) rest ≡ true → (p : ℕ) × (order : Order) × (numbered s.orders p ≡ Some order) × (order.container ≡ c)) → list_any (λ line. nat_eq line.container c) (cons_option (option_map (λ order. record { container = order.container; order = o; ticket = order.ticket }) r) rest) ≡ true → (p : ℕ) × (order : Order) × (numbered s.orders p ≡ Some order) × (order.container ≡ c)
@@ -124,7 +124,7 @@ module _ (s : State) (c t o : ℕ) (os : List ℕ) (by : is_by s t o ≡ true) w
   still_with u k ne w = subst (λ p. some_and (is_by s u) (order_out p) ≡ true) (put_there s.place c (Out o) k ne) w
 
   held_by_it : held (issued s c (o ∷ os)) t ≤ suc (held s t)
-  held_by_it = count_one_more (is_out_with (issued s c (o ∷ os)) t) (is_out_with s t) c (length s.boxes) (still_with t)
+  held_by_it = count_one_more (is_out_with (issued s c (o ∷ os)) t) (is_out_with s t) c (length s.catalogue.containers) (still_with t)
 
   ticket_is : (r : Option Order) (u v : ℕ) → some_and (λ x. nat_eq x.ticket u) r ≡ true → some_and (λ x. nat_eq x.ticket v) r ≡ true → u ≡ v
   ticket_is None u v a b = absurd (false≢true a)
@@ -132,7 +132,7 @@ module _ (s : State) (c t o : ℕ) (os : List ℕ) (by : is_by s t o ≡ true) w
 
   held_by_other : (u : ℕ) → u ≢ t → held (issued s c (o ∷ os)) u ≤ held s u
   held_by_other u ne =
-      count_le (is_out_with (issued s c (o ∷ os)) u) (is_out_with s u) (length s.boxes)
+      count_le (is_out_with (issued s c (o ∷ os)) u) (is_out_with s u) (length s.catalogue.containers)
       (λ k l. put_each (λ k p. some_and (is_by s u) (order_out p) ≡ true → is_out_with s u k ≡ true) s.place c (Out o) (λ w. absurd (ne (ticket_is (numbered s.orders o) u t w by))) (λ k ne w. w) k)
 
   hands_after : (u : ℕ) → held s t < s.settings.hands → held s u ≤ s.settings.hands → held (issued s c (o ∷ os)) u ≤ s.settings.hands
@@ -182,7 +182,7 @@ return_places s c (Out o) h g =
           (λ k ne p order e n.
           let y = g.holders k p order e n in
           let few = y.few in
-          let l = count_le (is_out_with (returned s c (Out o)) order.ticket) (is_out_with s order.ticket) (length s.boxes) (λ m b w. back s c order.ticket m w) in
+          let l = count_le (is_out_with (returned s c (Out o)) order.ticket) (is_out_with s order.ticket) (length s.catalogue.containers) (λ m b w. back s c order.ticket m w) in
           record { seated = y.seated; few = omega (arith, few, l); may_see = y.may_see });
       known = λ k n. put_there s.place c Desk k (known_at s c k h n) ∙ g.known k n;
     }
@@ -203,7 +203,7 @@ none_kept (Some c) e = absurd (false≢true (sym e))
 pub gate_opens : (s : State) (c o : ℕ) (order : Order) → is_some (kept s) ≡ false → is_container s c ≡ true → order_out (s.place c) ≡ Some o → numbered s.orders o ≡ Some order → opens s order.ticket c ≡ true
 gate_opens s c o order h k e n =
     let all = none_that (is_kept_from_holder s) (containers s) (none_kept (kept s) h) in
-    let z = none_to (is_kept_from_holder s) (length s.boxes) c all (numbered_from_one s.boxes c k) (numbered_within s.boxes c k) in
+    let z = none_to (is_kept_from_holder s) (length s.catalogue.containers) c all (numbered_from_one s.catalogue.containers c k) (numbered_within s.catalogue.containers c k) in
     not-false (opens s order.ticket c) (sym (ap (some_and (λ p. some_and (λ r. not (opens s r.ticket c)) (numbered s.orders p))) e ∙ ap (some_and (λ r. not (opens s r.ticket c))) n) ∙ z)
 
 revoke_places : (s : State) (t u : ℕ) → AreFiled s → AreGoodOrders s → is_some (kept (after s (command.Revoke t u))) ≡ false → AreGoodPlaces s → AreGoodPlaces (after s (command.Revoke t u))
@@ -236,18 +236,18 @@ changed_places s t e f gs es eo ep ok g =
       known = λ c n. subst (λ place. place c ≡ Shelf) (sym ep) (g.known c (unknown_before s t c e n));
     }
   where
-    within : (s : State) (u k : ℕ) → AreFiled s → AreGoodOrders s → is_out_with s u k ≡ true → k ≤ length s.boxes
+    within : (s : State) (u k : ℕ) → AreFiled s → AreGoodOrders s → is_out_with s u k ≡ true → k ≤ length s.catalogue.containers
     within s u k f gs w = at (order_out (s.place k)) refl w
       where
-        at : (x : Option ℕ) → order_out (s.place k) ≡ x → some_and (is_by s u) x ≡ true → k ≤ length s.boxes
+        at : (x : Option ℕ) → order_out (s.place k) ≡ x → some_and (is_by s u) x ≡ true → k ≤ length s.catalogue.containers
         at None h w = absurd (false≢true w)
-        at (Some o) h w = numbered_within s.boxes k (out_known s k o f gs h)
+        at (Some o) h w = numbered_within s.catalogue.containers k (out_known s k o f gs h)
 
     held_same : (s t : State) (u : ℕ) → t.orders ≡ s.orders → t.place ≡ s.place → AreFiled s → AreGoodOrders s → held t u ≤ held s u
     held_same s t u eo ep f gs =
         let same : (k : ℕ) → is_out_with t u k ≡ is_out_with s u k = λ k. ap (λ place. some_and (is_by t u) (order_out (place k))) ep ∙ ap (λ os. some_and (λ o. some_and (λ order. nat_eq order.ticket u) (numbered os o)) (order_out (s.place k))) eo in
-        let a = count_le (is_out_with t u) (is_out_with s u) (length t.boxes) (λ k l w. sym (same k) ∙ w) in
-        let b = count_further (is_out_with s u) (length s.boxes) (length t.boxes) (λ k w. within s u k f gs w) in
+        let a = count_le (is_out_with t u) (is_out_with s u) (length t.catalogue.containers) (λ k l w. sym (same k) ∙ w) in
+        let b = count_further (is_out_with s u) (length s.catalogue.containers) (length t.catalogue.containers) (λ k w. within s u k f gs w) in
         omega (arith, a, b)
 
 imported_places : (s : State) (t : Taken) → Extends s (imported s t) → AreFiled s → AreGoodOrders s → is_some (kept (imported s t)) ≡ false → AreGoodPlaces s → AreGoodPlaces (imported s t)
@@ -255,15 +255,15 @@ imported_places s (Err fault) e f gs ok g = g
 imported_places s (Ok intake) e f gs ok g = changed_places s (imported s (Ok intake)) e f gs refl refl refl ok g
 
 opens_with : State → List Permit → ℕ → Bool
-opens_with s permits c = some_and (λ box. is_open s.forest box (is_permitted s.day permits) s.day) (numbered s.boxes c)
+opens_with s permits c = some_and (λ box. is_open s.catalogue.forest box (is_permitted s.day permits) s.day) (numbered s.catalogue.containers c)
 
 granted_opens_box : (s : State) (c u : ℕ) (until : ℤ) (ps : List Permit) → opens_with s ps c ≡ true → opens_with s (granted u until ps) c ≡ true
 unfolding opens_with
-granted_opens_box s c u until ps = at (numbered s.boxes c)
+granted_opens_box s c u until ps = at (numbered s.catalogue.containers c)
   where
-    at : (r : Option BoxKey) → some_and (λ box. is_open s.forest box (is_permitted s.day ps) s.day) r ≡ true → some_and (λ box. is_open s.forest box (is_permitted s.day (granted u until ps)) s.day) r ≡ true
+    at : (r : Option BoxKey) → some_and (λ box. is_open s.catalogue.forest box (is_permitted s.day ps) s.day) r ≡ true → some_and (λ box. is_open s.catalogue.forest box (is_permitted s.day (granted u until ps)) s.day) r ≡ true
     at None h = h
-    at (Some box) h = granted_opens s.forest box s.day u until ps h
+    at (Some box) h = granted_opens s.catalogue.forest box s.day u until ps h
 
 grant_places : (s : State) (t u : ℕ) (until : ℤ) → AreGoodPlaces s → AreGoodPlaces (after s (command.Permit t u until))
 unfolding opens_with
@@ -279,7 +279,7 @@ grant_places s t u until g =
       known = g.known;
     }
 
-pub places_after : (s : State) (asked : Command) → distinct s.boxes ≡ s.boxes → AreFiled s → AreGoodOrders s → AreGoodPlaces s → Passes (checks s asked) → AreGoodPlaces (after s asked)
+pub places_after : (s : State) (asked : Command) → distinct s.catalogue.containers ≡ s.catalogue.containers → AreFiled s → AreGoodOrders s → AreGoodPlaces s → Passes (checks s asked) → AreGoodPlaces (after s asked)
 places_after s (command.OpenDay day) b f gs g ok = record { holders = λ c o order e n. absurd (none_out s f gs (held_not (list_any (is_out s) (containers s)) _ ok.1.0) c o e); known = g.known }
 places_after s (command.Register name until) b f gs g ok = record { holders = λ c o order e n. (let y = g.holders c o order e n in record { seated = y.seated; few = y.few; may_see = y.may_see }); known = g.known }
 places_after s (command.Renew t until) b f gs g ok = record { holders = λ c o order e n. (let y = g.holders c o order e n in record { seated = y.seated; few = y.few; may_see = y.may_see }); known = g.known }

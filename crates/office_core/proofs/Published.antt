@@ -93,39 +93,39 @@ same a b e = cc
 
 -- what is printed of published units
 
-shows : (s : State) (ids : List Bytes) (depth : ℕ) (told : PublicUnit) → IsPublished s.day (paths s.forest) told → ShowsPublished s (shown_unit (press s).at s.boxes ids depth told)
+shows : (s : State) (ids : List Bytes) (depth : ℕ) (told : PublicUnit) → IsPublished s.day (paths s.catalogue.forest) told → ShowsPublished s (shown_unit (press s).at s.catalogue.containers ids depth told)
 shows s ids depth told p = record { told = told; published = p; ids = ids; depth = depth; is = refl }
 
-all_shown : (s : State) (above : List Bytes) (depth : ℕ) (f : Forest PublicUnit) → AllByRecursion (IsPublished s.day (paths s.forest)) (nodes f) → AllByRecursion (ShowsPublished s) (shown_below (press s).at s.boxes above depth f)
+all_shown : (s : State) (above : List Bytes) (depth : ℕ) (f : Forest PublicUnit) → AllByRecursion (IsPublished s.day (paths s.catalogue.forest)) (nodes f) → AllByRecursion (ShowsPublished s) (shown_below (press s).at s.catalogue.containers above depth f)
 all_shown s above depth Empty h = tt
 all_shown s above depth (Node a c o) h =
-    let r = all_parts (IsPublished s.day (paths s.forest)) (nodes c) (nodes o) h.1 in (
+    let r = all_parts (IsPublished s.day (paths s.catalogue.forest)) (nodes c) (nodes o) h.1 in (
       shows s (above ++ identifier_of a ∷ []) depth a h.0,
-      all_both (ShowsPublished s) (shown_below (press s).at s.boxes (above ++ identifier_of a ∷ []) (depth + 1) c) (shown_below (press s).at s.boxes above depth o) (all_shown s (above ++ identifier_of a ∷ []) (depth + 1) c r.0) (all_shown s above depth o r.1),
+      all_both (ShowsPublished s) (shown_below (press s).at s.catalogue.containers (above ++ identifier_of a ∷ []) (depth + 1) c) (shown_below (press s).at s.catalogue.containers above depth o) (all_shown s (above ++ identifier_of a ∷ []) (depth + 1) c r.0) (all_shown s above depth o r.1),
     )
 
-all_beside : (s : State) (above : List Bytes) (f : Forest PublicUnit) → AllByRecursion (IsPublished s.day (paths s.forest)) (nodes f) → AllByRecursion (λ top. ShowsPublished s top.1) (side_by_side (press s) above f)
+all_beside : (s : State) (above : List Bytes) (f : Forest PublicUnit) → AllByRecursion (IsPublished s.day (paths s.catalogue.forest)) (nodes f) → AllByRecursion (λ top. ShowsPublished s top.1) (side_by_side (press s) above f)
 all_beside s above Empty h = tt
 all_beside s above (Node a c o) h =
-    let r = all_parts (IsPublished s.day (paths s.forest)) (nodes c) (nodes o) h.1 in
+    let r = all_parts (IsPublished s.day (paths s.catalogue.forest)) (nodes c) (nodes o) h.1 in
     (shows s (above ++ identifier_of a ∷ []) 0 a h.0, all_beside s above o r.1)
 
 abbrev PageShows : State → Page → Type 0
 PageShows s shown = ShowsPublished s shown.head × AllByRecursion (λ below. ShowsPublished s below.1) shown.below
 
-page_shows : (s : State) (way : List PublicUnit) (f : Forest PublicUnit) (shown : Page) → AllByRecursion (IsPublished s.day (paths s.forest)) (nodes f) → page_at (press s) way f ≡ Some shown → PageShows s shown
+page_shows : (s : State) (way : List PublicUnit) (f : Forest PublicUnit) (shown : Page) → AllByRecursion (IsPublished s.day (paths s.catalogue.forest)) (nodes f) → page_at (press s) way f ≡ Some shown → PageShows s shown
 page_shows s way Empty shown h e = absurd (cc)
 page_shows s way (Node (Stub id identifier level until) c o) shown h e =
     subst (PageShows s) (same _ shown e) (shows s (map identifier_of way) 0 (Stub id identifier level until) h.0, tt)
 page_shows s way (Node (Told id values) c o) shown h e =
-    let r = all_parts (IsPublished s.day (paths s.forest)) (nodes c) (nodes o) h.1 in
+    let r = all_parts (IsPublished s.day (paths s.catalogue.forest)) (nodes c) (nodes o) h.1 in
     subst (PageShows s) (same _ shown e) (shows s (map identifier_of way) 0 (Told id values) h.0, all_beside s (map identifier_of way) c r.0)
 
 pub only_published : (s : State) → ShowsOnlyPublished s
 only_published s =
-    let all = published_below s.day [] s.forest refl refl in
+    let all = published_below s.day [] s.catalogue.forest refl refl in
     record {
       fonds = all_beside s [] (public_forest s) all;
-      aid = λ u. all_shown s (above_last (path (is_numbered u) (public_forest s))) 0 (tree (is_numbered u) (public_forest s)) (tree_alike (IsPublished s.day (paths s.forest)) (is_numbered u) (public_forest s) all);
-      page = λ u shown e. page_shows s (path (is_numbered u) (public_forest s)) (tree (is_numbered u) (public_forest s)) shown (tree_alike (IsPublished s.day (paths s.forest)) (is_numbered u) (public_forest s) all) e;
+      aid = λ u. all_shown s (above_last (path (is_numbered u) (public_forest s))) 0 (tree (is_numbered u) (public_forest s)) (tree_alike (IsPublished s.day (paths s.catalogue.forest)) (is_numbered u) (public_forest s) all);
+      page = λ u shown e. page_shows s (path (is_numbered u) (public_forest s)) (tree (is_numbered u) (public_forest s)) shown (tree_alike (IsPublished s.day (paths s.catalogue.forest)) (is_numbered u) (public_forest s) all) e;
     }

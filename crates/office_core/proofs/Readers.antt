@@ -185,9 +185,9 @@ revoke_permits s t u it g =
 remove_permits : (s : State) (u : ℕ) → AreGoodPermits s → AreGoodPermits (removed s u)
 remove_permits s u g =
     record {
-      known = λ t h. ap (filter (λ permit. has_unit (cut (has_id u) s.forest) permit.unit)) (g.known t h);
-      by_unit = λ t. by_unit_filter (λ permit. has_unit (cut (has_id u) s.forest) permit.unit) (s.permits t) (g.by_unit t);
-      few = λ t. (let l = g.few t in let m = filter_few (λ permit. has_unit (cut (has_id u) s.forest) permit.unit) (s.permits t) in omega (arith, l, m));
+      known = λ t h. ap (filter (λ permit. has_unit (cut (has_id u) s.catalogue.forest) permit.unit)) (g.known t h);
+      by_unit = λ t. by_unit_filter (λ permit. has_unit (cut (has_id u) s.catalogue.forest) permit.unit) (s.permits t) (g.by_unit t);
+      few = λ t. (let l = g.few t in let m = filter_few (λ permit. has_unit (cut (has_id u) s.catalogue.forest) permit.unit) (s.permits t) in omega (arith, l, m));
     }
 
 cancelled_same : (s : State) (o : ℕ) (k : Option ℕ) → ((cancelled s o k).readers ≡ s.readers) × ((cancelled s o k).permits ≡ s.permits)
@@ -227,7 +227,7 @@ readers_after s (command.SetClosure u until) g ok = readers_same s (after s (com
 readers_after s (command.Move u parent) g ok = readers_same s (after s (command.Move u parent)) refl g
 readers_after s (command.Remove u) g ok = readers_same s (after s (command.Remove u)) refl g
 
-pub permits_after : (s : State) (asked : Command) → distinct s.boxes ≡ s.boxes → AreGoodPermits s → Passes (checks s asked) → AreGoodPermits (after s asked)
+pub permits_after : (s : State) (asked : Command) → distinct s.catalogue.containers ≡ s.catalogue.containers → AreGoodPermits s → Passes (checks s asked) → AreGoodPermits (after s asked)
 permits_after s (command.Register name until) b g ok = permits_same s (after s (command.Register name until)) (extends_after s (command.Register name until) b ok) refl g
 permits_after s (command.Renew t until) b g ok = permits_same s (after s (command.Renew t until)) (extends_after s (command.Renew t until) b ok) refl g
 permits_after s (command.OpenDay day) b g ok = permits_same s (after s (command.OpenDay day)) (extends_after s (command.OpenDay day) b ok) refl g

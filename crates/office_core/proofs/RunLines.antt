@@ -188,7 +188,7 @@ imported_runs : (s : State) (t : Taken) → (imported s t).runs ≡ s.runs
 imported_runs s (Err fault) = refl
 imported_runs s (Ok intake) = refl
 
-pub runs_after : (s : State) (asked : Command) → distinct s.boxes ≡ s.boxes → AreGoodRuns s → Passes (checks s asked) → AreGoodRuns (after s asked)
+pub runs_after : (s : State) (asked : Command) → distinct s.catalogue.containers ≡ s.catalogue.containers → AreGoodRuns s → Passes (checks s asked) → AreGoodRuns (after s asked)
 runs_after s (command.OpenDay day) b g ok = runs_same s (after s (command.OpenDay day)) (extends_after s (command.OpenDay day) b ok) refl g
 runs_after s (command.Register name until) b g ok = runs_same s (after s (command.Register name until)) (extends_after s (command.Register name until) b ok) refl g
 runs_after s (command.Renew t until) b g ok = runs_same s (after s (command.Renew t until)) (extends_after s (command.Renew t until) b ok) refl g

@@ -142,7 +142,7 @@ imported_seats s (Ok intake) = refl
 sit_known : (s : State) (t u : ℕ) → AreGoodSeats s → is_ticket s t ≡ true → list_any (is_seat_of u) (sit t s.seats) ≡ true → is_ticket s u ≡ true
 sit_known s t u g it h = elim (sit_only u t s.seats h) [ inl same ↦ subst (λ k. is_ticket s k ≡ true) (sym same) it | inr k ↦ g.known u k ]
 
-pub seats_after : (s : State) (asked : Command) → distinct s.boxes ≡ s.boxes → AreGoodSeats s → Passes (checks s asked) → AreGoodSeats (after s asked)
+pub seats_after : (s : State) (asked : Command) → distinct s.catalogue.containers ≡ s.catalogue.containers → AreGoodSeats s → Passes (checks s asked) → AreGoodSeats (after s asked)
 seats_after s (command.OpenDay day) b g ok = record { count = length-replicate s.settings.seats None; known = λ u h. absurd (false≢true (sym (none_sits u s.settings.seats) ∙ h)); once = free_once s.settings.seats }
 seats_after s (command.Register name until) b g ok = seats_same s (after s (command.Register name until)) (extends_after s (command.Register name until) b ok) refl g
 seats_after s (command.Renew t until) b g ok = seats_same s (after s (command.Renew t until)) (extends_after s (command.Renew t until) b ok) refl g

@@ -7,7 +7,7 @@ use Rattle.office_core.specs.State.{Settings, start}
 use Rattle.office_core.specs.Soundness.{AreGoodSettings, AreGoodUnits, IsSound}
 use Rattle.office_core.proofs.Soundness.{desk_start}
 
-no_units : (settings : Settings) (day : ℤ) → AreGoodUnits (start settings day)
+no_units : (settings : Settings) (day : ℤ) → AreGoodUnits (start settings day).catalogue
 unfolding IsDistinct
 no_units settings day =
     record {

@@ -94,7 +94,7 @@ good_units : (first n : ℕ) → AllByRecursion (λ unit. has_text unit ≡ true
 good_units first zero h = tt
 good_units first (suc n) h = (good_unit first h.0, good_units (suc first) n h.1)
 
-hundred_units : AreGoodUnits hundred_permits
+hundred_units : AreGoodUnits hundred_permits.catalogue
 hundred_units =
     let size = size-units 1 101 in
     let high = height_units 1 101 in
@@ -177,6 +177,6 @@ hundred_sound =
       };
       units = hundred_units;
       containers = record { named = refl; few = omega arith };
-      permits = each_ticket (λ t ps. AllByRecursion (λ permit. has_unit hundred_permits.forest permit.unit ≡ true) ps) (all_permits (λ permit. has_unit hundred_permits.forest permit.unit ≡ true) 1 100 (λ k l h. is_there 1 101 k l (omega arith))) (λ t. tt);
+      permits = each_ticket (λ t ps. AllByRecursion (λ permit. has_unit hundred_permits.catalogue.forest permit.unit ≡ true) ps) (all_permits (λ permit. has_unit hundred_permits.catalogue.forest permit.unit ≡ true) 1 100 (λ k l h. is_there 1 101 k l (omega arith))) (λ t. tt);
       desk = hundred_desk;
     }

@@ -11,8 +11,8 @@ use Rattle.office_core.specs.Soundness.{AreGoodUnits, AreGoodContainers, ArePerm
 
 -- the catalogue's own lines of soundness
 pub record IsSoundCatalogue (s : State) : Type 0 where
-  pub units : AreGoodUnits s
-  pub containers : AreGoodContainers s
+  pub units : AreGoodUnits s.catalogue
+  pub containers : AreGoodContainers s.catalogue
   pub permits : ArePermitsOfUnits s
 
 -- whatever file is imported from whatever source, taken or refused
@@ -25,6 +25,6 @@ abbrev pub ImportsBringTheNew : State → Type 0
 ImportsBringTheNew s =
     (source file : Bytes) (changed new : ℕ) (remarks : List Remark) (same translations : ℕ)
     → (step s (command.Import source file)).1 ≡ Ok (done.Import changed new remarks same translations)
-    → ((u : ℕ) → has_unit s.forest u ≡ true → has_unit (step s (command.Import source file)).0.forest u ≡ true)
-    × (size (step s (command.Import source file)).0.forest ≡ size s.forest + new)
-    × ((step s (command.Import source file)).0.next_unit ≡ s.next_unit + new)
+    → ((u : ℕ) → has_unit s.catalogue.forest u ≡ true → has_unit (step s (command.Import source file)).0.catalogue.forest u ≡ true)
+    × (size (step s (command.Import source file)).0.catalogue.forest ≡ size s.catalogue.forest + new)
+    × ((step s (command.Import source file)).0.catalogue.next ≡ s.catalogue.next + new)

@@ -91,8 +91,8 @@ abbrev pub given : Kind → State → Command → List ℕ
 given Tickets s asked = option_to_list (ticket_given asked (step s asked).1)
 given Orders s asked = option_to_list (order_given asked (step s asked).1)
 given Runs s asked = option_to_list (run_given asked (step s asked).1)
-given Containers s asked = numbers_from (suc (length s.boxes)) (length (step s asked).0.boxes - length s.boxes)
-given Units s asked = numbers_from s.next_unit ((step s asked).0.next_unit - s.next_unit)
+given Containers s asked = numbers_from (suc (length s.catalogue.containers)) (length (step s asked).0.catalogue.containers - length s.catalogue.containers)
+given Units s asked = numbers_from s.catalogue.next ((step s asked).0.catalogue.next - s.catalogue.next)
 
 -- the numbers of a kind that a run of commands gives, one command after another
 abbrev pub all_given : Kind → State → List Command → List ℕ
@@ -101,11 +101,11 @@ all_given kind s (asked ∷ later) = given kind s asked ++ all_given kind (step 
 
 -- each unit that is there has a number that was given
 abbrev pub AreNumbered : State → Type 0
-AreNumbered s = (u : ℕ) → has_unit s.forest u ≡ true → u < s.next_unit
+AreNumbered s = (u : ℕ) → has_unit s.catalogue.forest u ≡ true → u < s.catalogue.next
 
 -- a unit that comes has one of the numbers that the command gives
 abbrev pub ComesNew : State → State → Type 0
-ComesNew s t = (u : ℕ) → has_unit t.forest u ≡ true → (has_unit s.forest u ≡ true) ⊎ ((s.next_unit ≤ u) × (u < t.next_unit))
+ComesNew s t = (u : ℕ) → has_unit t.catalogue.forest u ≡ true → (has_unit s.catalogue.forest u ≡ true) ⊎ ((s.catalogue.next ≤ u) × (u < t.catalogue.next))
 
 -- ---- an import that is done again
 

@@ -27,10 +27,10 @@ use Rattle.office_core.specs.Pages.{Press, is_numbered, fonds_text, aid_of, page
 
 -- how units are printed in this office
 abbrev pub press : State → Press
-press s = record { at = record { country = s.settings.country; repo = s.settings.repo }; containers = s.boxes }
+press s = record { at = record { country = s.settings.country; repo = s.settings.repo }; containers = s.catalogue.containers }
 
 abbrev pub public_forest : State → Forest PublicUnit
-public_forest s = public_of s.day s.forest
+public_forest s = public_of s.day s.catalogue.forest
 
 abbrev pub page_answer : Option Page → Answer
 page_answer None = Unknown UnknownUnit
@@ -114,7 +114,7 @@ candidate_of s line =
       name = box.name;
       kind = box.kind;
     })
-    (numbered s.boxes line.container)
+    (numbered s.catalogue.containers line.container)
 
 abbrev pub permit_json : Permit → Data
 permit_json permit = fields ((codes "unit", count permit.unit) ∷ (codes "until", date permit.until) ∷ [])
@@ -135,7 +135,7 @@ answer s query.Fonds = public_answer (press s) (public_forest s) query.Fonds
 answer s (query.Aid u) = public_answer (press s) (public_forest s) (query.Aid u)
 answer s (query.Page u) = public_answer (press s) (public_forest s) (query.Page u)
 answer s (query.ReaderOrders t) = known_json UnknownTicket (option_map (reader_json s t) (numbered s.readers t))
-answer s (query.Queue c) = known_json UnknownContainer (option_map (queue_json s c) (numbered s.boxes c))
+answer s (query.Queue c) = known_json UnknownContainer (option_map (queue_json s c) (numbered s.catalogue.containers c))
 answer s (query.RunSlip n) = run_answer s n (numbered s.runs n)
 answer s query.IssuedNow = Json (compact_text (list (filter_map (issued_json s) (containers s))))
 answer s (query.ReaderPermits t) =

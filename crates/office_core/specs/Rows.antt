@@ -214,9 +214,9 @@ pub record MostPermits : Type 0 where
 
 -- the rows of the places: moves renumber, and what is removed leaves no gap
 pub record Placed : Type 0 where
-  pub first : number 1 (each (λ (unit : Unit). unit.id) (state_after office (import docks ∷ [])).forest) ≡ span 1 1 4 ∷ span 2 2 3 ∷ []
-  pub moved : number 1 (each (λ (unit : Unit). unit.id) (state_after office (import docks ∷ Move 2 None ∷ [])).forest) ≡ span 1 1 2 ∷ span 2 3 4 ∷ []
-  pub moved_back : siblings (each (λ (unit : Unit). unit.id) (state_after office (import docks ∷ Move 2 None ∷ Move 2 (Some 1) ∷ [])).forest) ≡ link 1 None 1 ∷ link 2 (Some 1) 1 ∷ []
-  pub removed : number 1 (each (λ (unit : Unit). unit.id) (state_after office (import docks ∷ Remove 1 ∷ [])).forest) ≡ []
-  pub again : number 1 (each (λ (unit : Unit). unit.id) (state_after office (import docks ∷ Remove 1 ∷ import docks ∷ [])).forest) ≡ span 3 1 4 ∷ span 4 2 3 ∷ []
-  pub refused : (state_after office (import parent_later ∷ [])).next_unit ≡ 1
+  pub first : number 1 (each (λ (unit : Unit). unit.id) (state_after office (import docks ∷ [])).catalogue.forest) ≡ span 1 1 4 ∷ span 2 2 3 ∷ []
+  pub moved : number 1 (each (λ (unit : Unit). unit.id) (state_after office (import docks ∷ Move 2 None ∷ [])).catalogue.forest) ≡ span 1 1 2 ∷ span 2 3 4 ∷ []
+  pub moved_back : siblings (each (λ (unit : Unit). unit.id) (state_after office (import docks ∷ Move 2 None ∷ Move 2 (Some 1) ∷ [])).catalogue.forest) ≡ link 1 None 1 ∷ link 2 (Some 1) 1 ∷ []
+  pub removed : number 1 (each (λ (unit : Unit). unit.id) (state_after office (import docks ∷ Remove 1 ∷ [])).catalogue.forest) ≡ []
+  pub again : number 1 (each (λ (unit : Unit). unit.id) (state_after office (import docks ∷ Remove 1 ∷ import docks ∷ [])).catalogue.forest) ≡ span 3 1 4 ∷ span 4 2 3 ∷ []
+  pub refused : (state_after office (import parent_later ∷ [])).catalogue.next ≡ 1

@@ -1,9 +1,9 @@
 -- The rules of the office: what each command asks for, in order, what it does, and what is told of it.
-use Rattle.std.specs.Prelude.{option_map, ℕ, ℤ, int_lt, zero, suc, ◌+◌, Bool, true, false, not, ◌&&◌, ◌||◌, cond, List, [], ◌∷◌, ◌++◌, length, filter, replicate, Option, Some, None, Result, Ok, Err, unwrap_or, is_some, nat_eq, nat_lt, nat_le, max}
+use Rattle.std.specs.Prelude.{option_map, ℕ, ℤ, int_lt, zero, suc, ◌+◌, Bool, not, ◌&&◌, ◌||◌, cond, List, [], ◌∷◌, ◌++◌, length, filter, replicate, Option, Some, None, Result, Ok, Err, unwrap_or, is_some, nat_eq, nat_lt, nat_le, max}
 use Rattle.std.specs.List.{list_any, list_all}
 use Rattle.isad_core.specs.Limits.{most_deep, most_tickets, most_runs, most_permits}
 use Rattle.isad_core.specs.Texts.{Bytes, is_blank_text}
-use Rattle.tree_core.specs.Forest.{Forest, Empty, Node, each, path, tree, branch, cut, move_last, has_place}
+use Rattle.tree_core.specs.Forest.{Forest, Empty, Node, each, path, tree, branch, has_place}
 use Rattle.desk_core.specs.Checks.{order_checks, issue_checks, take_seat_checks, leave_seat_checks}
 use Rattle.desk_core.specs.Refusals.{Check, when, unless, first_that_holds}
 use Rattle.desk_core.specs.declared.reader.Place.{Place}
@@ -12,6 +12,8 @@ use Rattle.desk_core.specs.declared.refusal.Refusal.{Refusal}
 use Rattle.desk_core.specs.declared.refusal.Refusal.TheVariants.{UnknownUnit, UnknownTicket, UnknownContainer, UnknownOrder, OrderNotWaiting, NotIssued, DayNotLater, StillIssued, IntoItself, WithReader, Full, NothingToMove, TooDeep, BadName, NoPermit}
 use Rattle.catalogue_core.specs.Units.{Unit, has_id}
 use Rattle.catalogue_core.specs.Merging.{Catalogue}
+use Rattle.catalogue_core.specs.Moves.{with_moved, without_branch}
+use Rattle.catalogue_core.specs.Statuses.{chosen_units, with_closure, with_status}
 use Rattle.office_core.specs.declared.command.Command.{Command}
 use Rattle.office_core.specs.declared.command.Command.TheVariants as command
 use Rattle.office_core.specs.declared.done.Done.{Done}
@@ -60,20 +62,8 @@ gate s = option_map WithReader (kept s)
 -- ---- changes of the catalogue
 
 -- the unit, or with `whole` each unit of its branch
-abbrev pub is_chosen : Bool → ℕ → Forest Unit → Unit → Bool
-is_chosen true u f unit = list_any (has_id unit.id) (branch (has_id u) f)
-is_chosen false u f unit = has_id u unit
-
-abbrev pub with_status : Bool → Bool → ℕ → Forest Unit → Forest Unit
-with_status draft whole u f = each (λ (unit : Unit). cond (is_chosen whole u f unit) (record unit { draft = draft }) unit) f
-
-abbrev pub with_closure : Option ℤ → ℕ → Forest Unit → Forest Unit
-with_closure until u f = each (λ (unit : Unit). cond (has_id u unit) (record unit { until = until }) unit) f
-
--- how many units are set
-abbrev pub chosen : Bool → ℕ → Forest Unit → ℕ
-chosen true u f = length (branch (has_id u) f)
-chosen false u f = 1
+abbrev pub chosen : Bool → ℕ → Catalogue → List ℕ
+chosen whole u c = chosen_units whole u (each (λ unit. unit.id) c.forest)
 
 -- the parent is the unit itself, or lies below it; the place above the tops does not
 abbrev pub is_into_itself : ℕ → Option ℕ → Forest Unit → Bool
@@ -102,8 +92,8 @@ opened s day = record s { day = day; seats = replicate s.settings.seats None }
 abbrev pub removed : State → ℕ → State
 removed s u =
     record s {
-      forest = cut (has_id u) s.forest;
-      permits = λ t. filter (λ permit. has_unit (cut (has_id u) s.forest) permit.unit) (s.permits t);
+      catalogue = without_branch u s.catalogue;
+      permits = λ t. filter (λ permit. has_unit (without_branch u s.catalogue).forest permit.unit) (s.permits t);
     }
 
 abbrev pub renewed : ℤ → List Reader → ℕ → List Reader
@@ -142,20 +132,12 @@ returned s c (Out o) = record s { place = put s.place c Desk; past = put s.past 
 
 -- ---- an import
 
-abbrev pub catalogue : State → Catalogue
-catalogue s = record { forest = s.forest; containers = s.boxes; next = s.next_unit }
-
 -- what a file from a source makes of the catalogue, or its first faulty row
 abbrev pub taken : State → Bytes → Bytes → Taken
-taken s source file = take (catalogue s) source file
+taken s source file = take s.catalogue source file
 
 abbrev pub imported : State → Taken → State
-imported s (Ok intake) =
-    record s {
-      forest = intake.catalogue.forest;
-      boxes = intake.catalogue.containers;
-      next_unit = intake.catalogue.next;
-    }
+imported s (Ok intake) = record s { catalogue = intake.catalogue }
 imported s (Err fault) = s
 
 -- ---- what a command does
@@ -163,9 +145,9 @@ imported s (Err fault) = s
 abbrev pub after : State → Command → State
 after s (command.OpenDay day) = opened s day
 after s (command.Import source file) = imported s (taken s source file)
-after s (command.SetStatus u draft whole) = record s { forest = with_status draft whole u s.forest }
-after s (command.SetClosure u until) = record s { forest = with_closure until u s.forest }
-after s (command.Move u parent) = record s { forest = move_last has_id u parent s.forest }
+after s (command.SetStatus u draft whole) = record s { catalogue = with_status (chosen whole u s.catalogue) draft s.catalogue }
+after s (command.SetClosure u until) = record s { catalogue = with_closure u until s.catalogue }
+after s (command.Move u parent) = record s { catalogue = with_moved u parent s.catalogue }
 after s (command.Remove u) = removed s u
 after s (command.Register name until) = record s { readers = s.readers ++ record { name = name; until = until } ∷ [] }
 after s (command.Renew t until) = record s { readers = renewed until s.readers t }
@@ -194,22 +176,22 @@ checks s (command.Import source file) =
     ∷ gate (after s (command.Import source file))
     ∷ []
 checks s (command.SetStatus u draft whole) =
-    unless (has_unit s.forest u) UnknownUnit
+    unless (has_unit s.catalogue.forest u) UnknownUnit
     ∷ gate (after s (command.SetStatus u draft whole))
     ∷ []
 checks s (command.SetClosure u until) =
-    unless (has_unit s.forest u) UnknownUnit
+    unless (has_unit s.catalogue.forest u) UnknownUnit
     ∷ gate (after s (command.SetClosure u until))
     ∷ []
 checks s (command.Move u parent) =
-    unless (has_unit s.forest u) UnknownUnit
-    ∷ unless (has_place has_id parent s.forest) UnknownUnit
-    ∷ when (is_into_itself u parent s.forest) IntoItself
-    ∷ when (nat_lt most_deep (depth_after u parent s.forest)) TooDeep
+    unless (has_unit s.catalogue.forest u) UnknownUnit
+    ∷ unless (has_place has_id parent s.catalogue.forest) UnknownUnit
+    ∷ when (is_into_itself u parent s.catalogue.forest) IntoItself
+    ∷ when (nat_lt most_deep (depth_after u parent s.catalogue.forest)) TooDeep
     ∷ gate (after s (command.Move u parent))
     ∷ []
 checks s (command.Remove u) =
-    unless (has_unit s.forest u) UnknownUnit
+    unless (has_unit s.catalogue.forest u) UnknownUnit
     ∷ gate (after s (command.Remove u))
     ∷ []
 checks s (command.Register name until) =
@@ -265,12 +247,12 @@ checks s (command.Return c) =
     ∷ []
 checks s (command.Permit t u until) =
     unless (is_ticket s t) UnknownTicket
-    ∷ unless (has_unit s.forest u) UnknownUnit
+    ∷ unless (has_unit s.catalogue.forest u) UnknownUnit
     ∷ when (not (has_permit s t u) && nat_le most_permits (length (s.permits t))) Full
     ∷ []
 checks s (command.Revoke t u) =
     unless (is_ticket s t) UnknownTicket
-    ∷ unless (has_unit s.forest u) UnknownUnit
+    ∷ unless (has_unit s.catalogue.forest u) UnknownUnit
     ∷ unless (has_permit s t u) NoPermit
     ∷ gate (after s (command.Revoke t u))
     ∷ []
@@ -279,11 +261,11 @@ checks s (command.Revoke t u) =
 
 abbrev pub told : State → Command → Done
 told s (command.OpenDay day) = done.OpenDay day
-told s (command.Import source file) = told_of s.forest source (taken s source file)
-told s (command.SetStatus u draft whole) = done.SetStatus (chosen whole u s.forest)
+told s (command.Import source file) = told_of s.catalogue.forest source (taken s source file)
+told s (command.SetStatus u draft whole) = done.SetStatus (length (chosen whole u s.catalogue))
 told s (command.SetClosure u until) = done.SetClosure u
 told s (command.Move u parent) = done.Move u
-told s (command.Remove u) = done.Remove (length (branch (has_id u) s.forest))
+told s (command.Remove u) = done.Remove (length (branch (has_id u) s.catalogue.forest))
 told s (command.Register name until) = done.Register (suc (length s.readers))
 told s (command.Renew t until) = done.Renew t
 told s (command.TakeSeat t) = done.TakeSeat (unwrap_or (free_seat s) 0)

@@ -27,7 +27,7 @@ pub record SamePublic (s t : State) : Type 0 where
   pub repo : s.settings.repo ≡ t.settings.repo
   pub day : s.day ≡ t.day
   pub forest : public_forest s ≡ public_forest t
-  pub numbers : AllByRecursion (λ box. box_number s.boxes box ≡ box_number t.boxes box) (flat_map boxes_told (nodes (public_forest s)))
+  pub numbers : AllByRecursion (λ box. box_number s.catalogue.containers box ≡ box_number t.catalogue.containers box) (flat_map boxes_told (nodes (public_forest s)))
 
 -- Equal public parts give equal answers to the public's questions: nothing else that an office keeps shows in
 -- them.
@@ -65,10 +65,10 @@ pub record IsPublished (day : ℤ) (ways : List (List Unit)) (told : PublicUnit)
 -- what is printed is what is told of such a unit
 pub record ShowsPublished (s : State) (shown : Shown) : Type 0 where
   pub told : PublicUnit
-  pub published : IsPublished s.day (paths s.forest) told
+  pub published : IsPublished s.day (paths s.catalogue.forest) told
   pub ids : List Bytes
   pub depth : ℕ
-  pub is : shown ≡ shown_unit (press s).at s.boxes ids depth told
+  pub is : shown ≡ shown_unit (press s).at s.catalogue.containers ids depth told
 
 -- Every unit in an answer to the public's questions is such a unit.
 pub record ShowsOnlyPublished (s : State) : Type 0 where

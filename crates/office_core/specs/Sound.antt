@@ -123,7 +123,7 @@ pub record AreGoodPermits (s : State) : Type 0 where
 
 pub record IsSoundDesk (s : State) : Type 0 where
   -- no two containers have one name, location and kind
-  pub boxes : distinct s.boxes ≡ s.boxes
+  pub boxes : distinct s.catalogue.containers ≡ s.catalogue.containers
   pub filed : AreFiled s
   pub orders : AreGoodOrders s
   pub seats : AreGoodSeats s

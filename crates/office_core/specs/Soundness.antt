@@ -7,6 +7,7 @@ use Rattle.isad_core.specs.declared.values.BoxKey.{BoxKey}
 use Rattle.isad_core.specs.Boxes.{distinct, is_same as is_same_box}
 use Rattle.tree_core.specs.Forest.{nodes, size}
 use Rattle.catalogue_core.specs.Units.{Unit, is_from}
+use Rattle.catalogue_core.specs.Merging.{Catalogue}
 use Rattle.office_core.specs.declared.command.Command.{Command}
 use Rattle.office_core.specs.declared.command.Command.TheVariants as command
 use Rattle.office_core.specs.State.{Settings, State, has_unit}
@@ -44,7 +45,7 @@ pub record AreGoodDays (s : State) : Type 0 where
   pub orders : AllByRecursion (λ order. IsDayNumber order.day) s.orders
   pub runs : AllByRecursion (λ run. IsDayNumber run.day) s.runs
   pub permits : (t : ℕ) → AllByRecursion (λ permit. IsDayNumber permit.until) (s.permits t)
-  pub closures : AllByRecursion (λ unit. IsSomeDay unit.until) (nodes s.forest)
+  pub closures : AllByRecursion (λ unit. IsSomeDay unit.until) (nodes s.catalogue.forest)
 
 -- ---- units
 
@@ -68,36 +69,36 @@ pub record IsGoodUnit (boxes : List BoxKey) (unit : Unit) : Type 0 where
 abbrev pub is_same_unit : Unit → Unit → Bool
 is_same_unit a b = is_from a.source a.legacy b
 
-pub record AreGoodUnits (s : State) : Type 0 where
-  pub each : AllByRecursion (IsGoodUnit s.boxes) (nodes s.forest)
-  pub ids : IsDistinct nat_eq (map (λ (unit : Unit). unit.id) (nodes s.forest))
-  pub pairs : IsDistinct is_same_unit (nodes s.forest)
+pub record AreGoodUnits (c : Catalogue) : Type 0 where
+  pub each : AllByRecursion (IsGoodUnit c.containers) (nodes c.forest)
+  pub ids : IsDistinct nat_eq (map (λ (unit : Unit). unit.id) (nodes c.forest))
+  pub pairs : IsDistinct is_same_unit (nodes c.forest)
   -- each has a number that was given
-  pub given : AllByRecursion (λ (unit : Unit). (1 ≤ unit.id) × (unit.id < s.next_unit)) (nodes s.forest)
-  pub next : (1 ≤ s.next_unit) × (s.next_unit ≤ most_unit_numbers + 1)
-  pub few : size s.forest ≤ most_units
-  pub depth : height s.forest ≤ most_deep
+  pub given : AllByRecursion (λ (unit : Unit). (1 ≤ unit.id) × (unit.id < c.next)) (nodes c.forest)
+  pub next : (1 ≤ c.next) × (c.next ≤ most_unit_numbers + 1)
+  pub few : size c.forest ≤ most_units
+  pub depth : height c.forest ≤ most_deep
 
 -- ---- containers
 
 -- that no two are one is said of the desk
-pub record AreGoodContainers (s : State) : Type 0 where
-  pub named : list_all (λ box. not (is_blank_text box.name)) s.boxes ≡ true
-  pub few : length s.boxes ≤ most_containers
+pub record AreGoodContainers (c : Catalogue) : Type 0 where
+  pub named : list_all (λ box. not (is_blank_text box.name)) c.containers ≡ true
+  pub few : length c.containers ≤ most_containers
 
 -- ---- permits
 
 -- they are for units that are there
 abbrev pub ArePermitsOfUnits : State → Type 0
-ArePermitsOfUnits s = (t : ℕ) → AllByRecursion (λ permit. has_unit s.forest permit.unit ≡ true) (s.permits t)
+ArePermitsOfUnits s = (t : ℕ) → AllByRecursion (λ permit. has_unit s.catalogue.forest permit.unit ≡ true) (s.permits t)
 
 -- ---- all of it
 
 pub record IsSound (s : State) : Type 0 where
   pub settings : AreGoodSettings s.settings
   pub days : AreGoodDays s
-  pub units : AreGoodUnits s
-  pub containers : AreGoodContainers s
+  pub units : AreGoodUnits s.catalogue
+  pub containers : AreGoodContainers s.catalogue
   pub permits : ArePermitsOfUnits s
   pub desk : IsSoundDesk s
 

@@ -3,11 +3,11 @@ use Rattle.std.specs.Prelude.{ℕ, ℤ, int_lt, int_le, Bool, true, false, not, 
 use Rattle.std.specs.Ordering.{int_eq}
 use Rattle.std.specs.List.{list_any}
 use Rattle.isad_core.specs.Texts.{Bytes}
-use Rattle.isad_core.specs.declared.values.BoxKey.{BoxKey}
-use Rattle.tree_core.specs.Forest.{Forest, Empty, has}
+use Rattle.tree_core.specs.Forest.{Forest, has}
 use Rattle.desk_core.specs.declared.reader.Place.{Place}
 use Rattle.desk_core.specs.declared.reader.Place.TheVariants.{Shelf, Desk, Out}
 use Rattle.catalogue_core.specs.Units.{Unit, has_id}
+use Rattle.catalogue_core.specs.Merging.{Catalogue, empty_catalogue}
 use Rattle.catalogue_core.specs.Housing.{is_open}
 use Rattle.office_core.specs.Words.{numbered, numbers_to, some_and, place_of, first, is_empty, stands}
 
@@ -51,10 +51,7 @@ pub record Permit : Type 0 where
 pub record State : Type 0 where
   pub settings : Settings
   pub day : ℤ
-  -- the catalogue
-  pub next_unit : ℕ
-  pub forest : Forest Unit
-  pub boxes : List BoxKey  -- container n is the n-th
+  pub catalogue : Catalogue
   -- the desk
   pub readers : List Reader  -- ticket n is the n-th
   pub seats : List (Option ℕ)  -- who sits on seat n
@@ -71,9 +68,7 @@ start settings day =
     record {
       settings = settings;
       day = day;
-      next_unit = 1;
-      forest = Empty;
-      boxes = [];
+      catalogue = empty_catalogue;
       readers = [];
       seats = replicate settings.seats None;
       orders = [];
@@ -124,10 +119,10 @@ rise t seats = map (λ seat. cond (is_seat_of t seat) None seat) seats
 -- ---- containers and orders
 
 abbrev pub containers : State → List ℕ
-containers s = numbers_to (length s.boxes)
+containers s = numbers_to (length s.catalogue.containers)
 
 abbrev pub is_container : State → ℕ → Bool
-is_container s c = is_some (numbered s.boxes c)
+is_container s c = is_some (numbered s.catalogue.containers c)
 
 -- one of these permits is for that unit and valid on that day
 abbrev pub is_permitted : ℤ → List Permit → ℕ → Bool
@@ -135,7 +130,7 @@ is_permitted day permits u = list_any (λ permit. nat_eq permit.unit u && int_le
 
 -- the container is known, and open today to the reader with this ticket
 abbrev pub opens : State → ℕ → ℕ → Bool
-opens s t c = some_and (λ box. is_open s.forest box (is_permitted s.day (s.permits t)) s.day) (numbered s.boxes c)
+opens s t c = some_and (λ box. is_open s.catalogue.forest box (is_permitted s.day (s.permits t)) s.day) (numbered s.catalogue.containers c)
 
 abbrev pub container_of : State → ℕ → Option ℕ
 container_of s o = option_map (λ order. order.container) (numbered s.orders o)

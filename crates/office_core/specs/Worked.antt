@@ -231,8 +231,7 @@ permits_from first (suc n) = record { unit = first; until = march_31 } ∷ permi
 abbrev pub hundred_permits : State
 hundred_permits =
     record office {
-      next_unit = 102;
-      forest = units_from 1 101;
+      catalogue = record { forest = units_from 1 101; containers = []; next = 102 };
       readers = record { name = codes "Ann"; until = year_end } ∷ [];
       permits = put office.permits 1 (permits_from 1 100);
     }

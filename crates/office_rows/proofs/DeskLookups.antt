@@ -63,13 +63,13 @@ module _ (version : Version) (s : State) where
 
   pub container_there : (c : ℕ) → is_container_there (tables version s) c ≡ is_container s c
   container_there c =
-      known_numbered (λ (row : ContainerRow). row.id) (tables version s).containers c (rows_are_numbered container_row (λ row. row.id) (λ n x. refl) 1 s.boxes)
-      ∙ (ap is_some (numbered-rows container_row s.boxes c) ∙ is_some-map (container_row c) (numbered s.boxes c))
+      known_numbered (λ (row : ContainerRow). row.id) (tables version s).containers c (rows_are_numbered container_row (λ row. row.id) (λ n x. refl) 1 s.catalogue.containers)
+      ∙ (ap is_some (numbered-rows container_row s.catalogue.containers c) ∙ is_some-map (container_row c) (numbered s.catalogue.containers c))
 
-  pub unit_there : (u : ℕ) → is_unit_there (tables version s) u ≡ has_unit s.forest u
+  pub unit_there : (u : ℕ) → is_unit_there (tables version s) u ≡ has_unit s.catalogue.forest u
   unit_there u =
-      list_any-map (λ (row : UnitRow). nat_eq row.id u) unit_row (nodes s.forest)
-      ∙ any_same (λ (unit : Unit). nat_eq unit.id u) (λ unit. nat_eq u unit.id) (nodes s.forest) (λ unit. flipped unit.id u)
+      list_any-map (λ (row : UnitRow). nat_eq row.id u) unit_row (nodes s.catalogue.forest)
+      ∙ any_same (λ (unit : Unit). nat_eq unit.id u) (λ unit. nat_eq u unit.id) (nodes s.catalogue.forest) (λ unit. flipped unit.id u)
 
   -- an order of that number that passes
   pub order_there : (p : OrderRow → Bool) (o : ℕ) → list_any (λ (row : OrderRow). nat_eq row.id o && p row) (order_rows s) ≡ some_and (λ (order : Order). p (order_row s o order)) (numbered s.orders o)

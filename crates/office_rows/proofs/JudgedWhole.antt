@@ -70,7 +70,7 @@ good_catalogue version t g c h =
       apart = g.boxes;
       placed = λ u e.
           let f = found u t.units e in
-          let us = nodes (state_of t).forest in
+          let us = nodes (state_of t).catalogue.forest in
           let r = in_map unit_row us f.row (In-permutation (map unit_row us) t.units f.row c.units f.there) in
           any_passes (has_id u) us r.it r.there (eq-eqb u r.it.id (sym (ap (λ (row : UnitRow). row.id) r.is ∙ f.is)));
     }

@@ -184,7 +184,7 @@ module _ (version : Version) (s : State) (g : IsSound s) where
       let row : HoldingRow = record { container = c; place = 2; held_by = Some o } in
       let there = is_there c (λ f. absurd (cc)) in
       any_of_in (is_holding_of (order_row s o order)) (holding_rows s) row
-      (filter_map_in (λ c. holding_row c (s.place c)) (containers s) c row (numbers_in (length s.boxes) c (numbered_from_one s.boxes c there) (numbered_within s.boxes c there)) (ap (holding_row c) out))
+      (filter_map_in (λ c. holding_row c (s.place c)) (containers s) c row (numbers_in (length s.catalogue.containers) c (numbered_from_one s.catalogue.containers c there) (numbered_within s.catalogue.containers c there)) (ap (holding_row c) out))
       (and_from (nat_eq c order.container) (nat_eq o o) (ap (nat_eq c) (sym same) ∙ same_number c) (same_number o))
 
   has_holding : (r : OrderRow) → StandsIn r (order_rows s) → has_its_holding (tables version s) r ≡ true

@@ -82,7 +82,7 @@ module _ (version : Version) (s : State) (g : IsSound s) where
       let few = g.desk.permits.few ticket in
       let count = permits_count ticket in
       and_from (is_registered t ticket) _ (registered version s ticket ∙ has_ticket ticket p k)
-      (and_from (is_unit_there t p.unit) _ (unit_there version s p.unit ∙ all_in (λ permit. has_unit s.forest permit.unit ≡ true) (s.permits ticket) p (g.permits ticket) k)
+      (and_from (is_unit_there t p.unit) _ (unit_there version s p.unit ∙ all_in (λ permit. has_unit s.catalogue.forest permit.unit ≡ true) (s.permits ticket) p (g.permits ticket) k)
       (and_from (is_day_number p.until) _ (is_day_number-true p.until (all_in (λ permit. IsDayNumber permit.until) (s.permits ticket) p (g.days.permits ticket) k))
       (le-leb (count_by (λ (other : PermitRow). nat_eq other.ticket ticket) t.permits) most_permits (omega (arith, count, few)))))
 

@@ -144,7 +144,7 @@ module _ (t : Rows) (k : MeetsDeskKeys t) (q : HoldingParts t) (c : HasGoodCatal
               | inl shelf ↦ absurd (let x = ap order_out shelf in cc)
               | inr h ↦ ap (is_container s) (sym h.for_it) ∙ holding_known h.row h.stands
             ] in
-            let none = none_in (is_held_against_rules s) (containers s) n day (numbers_in (length s.boxes) n (numbered_from_one s.boxes n there) (numbered_within s.boxes n there)) in
+            let none = none_in (is_held_against_rules s) (containers s) n day (numbers_in (length s.catalogue.containers) n (numbered_from_one s.catalogue.containers n there) (numbered_within s.catalogue.containers n there)) in
             let holder : holder_of s n ≡ Some order.ticket = ap (option_and_then (λ o. option_map (λ (order : Order). order.ticket) (numbered s.orders o))) e ∙ ap (option_map (λ (order : Order). order.ticket)) is in
             let well = not_bad (holds_well s n order.ticket) (sym (ap (some_and (λ ticket. not (holds_well s n ticket))) holder) ∙ none) in
             let a = and_parts (is_seated s order.ticket) (nat_le (held s order.ticket) s.settings.hands && opens s order.ticket n) well in
@@ -175,11 +175,11 @@ module _ (t : Rows) (k : MeetsDeskKeys t) (q : HoldingParts t) (c : HasGoodCatal
 
   pub holdings_again : holding_rows (state_of t) ≡ t.holdings
   holdings_again =
-      let n = length (state_of t).boxes in
+      let n = length (state_of t).catalogue.containers in
       ap (λ f. filter_map f (numbers_to n)) (fun_ext shown)
       ∙ (ap (filter_map (λ m. find (λ (row : HoldingRow). nat_eq row.container m) t.holdings)) (to_from n)
       ∙ found_all (λ (row : HoldingRow). row.container) 1 n t.holdings k.holdings (λ row l.
       let known = holding_known row l in
-      let low = numbered_from_one (state_of t).boxes row.container known in
-      let high = numbered_within (state_of t).boxes row.container known in
+      let low = numbered_from_one (state_of t).catalogue.containers row.container known in
+      let high = numbered_within (state_of t).catalogue.containers row.container known in
       (low, omega (arith, high))))

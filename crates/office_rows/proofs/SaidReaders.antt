@@ -191,8 +191,8 @@ module _ (t : Rows) (k : MeetsDeskKeys t) (p : ReaderParts t) where
   pub permit_days : (ticket : ℕ) → AllByRecursion (λ permit. IsDayNumber permit.until) ((state_of t).permits ticket)
   permit_days = each_permit (λ permit. IsDayNumber permit.until) (λ row l. (p.permits row l).day)
 
-  pub permits_placed : ((u : ℕ) → is_unit_there t u ≡ true → has_unit (state_of t).forest u ≡ true) → ArePermitsOfUnits (state_of t)
-  permits_placed placed = each_permit (λ permit. has_unit (state_of t).forest permit.unit ≡ true) (λ row l. placed row.unit (p.permits row l).unit)
+  pub permits_placed : ((u : ℕ) → is_unit_there t u ≡ true → has_unit (state_of t).catalogue.forest u ≡ true) → ArePermitsOfUnits (state_of t)
+  permits_placed placed = each_permit (λ permit. has_unit (state_of t).catalogue.forest permit.unit ≡ true) (λ row l. placed row.unit (p.permits row l).unit)
 
   pub permits_again : permit_rows (state_of t) ≡ t.permits
   permits_again =

@@ -81,14 +81,14 @@ numbers_differ u j (Some text ∷ texts) h =
       numbers_differ u (suc j) texts rest,
     )
 
-pub elements_shown : (version : Version) (s : State) → IsSoundCatalogue s → unit_numbers (tables version s) ≡ map number_of (nodes s.forest)
+pub elements_shown : (version : Version) (s : State) → IsSoundCatalogue s → unit_numbers (tables version s) ≡ map number_of (nodes s.catalogue.forest)
     → (list_all (is_good_element (unit_numbers (tables version s))) (tables version s).elements ≡ true) × IsDistinct is_same_element (tables version s).elements
 elements_shown version s g told =
-    let us = nodes s.forest in
+    let us = nodes s.catalogue.forest in
     let rows : Unit → List ElementRow = λ unit. element_rows_from unit.id 1 unit.values.texts in (
       in_all (is_good_element (unit_numbers (tables version s))) (tables version s).elements (λ row i.
           let o = in_flat_map rows us row i in
-          let k = each_in (IsGoodUnit s.boxes) us o.unit g.units.each o.there in
+          let k = each_in (IsGoodUnit s.catalogue.containers) us o.unit g.units.each o.there in
           let r = text_row o.unit.id 1 o.unit.values.texts k.texts row o.own in
           let count = k.texts_count in
           let last = r.before in
@@ -98,7 +98,7 @@ elements_shown version s g told =
           (and_from (not (is_blank_text row.value)) (stands row.unit (unit_numbers (tables version s))) (not_from_false (is_blank_text row.value) r.filled)
           (ap (λ n. stands n (unit_numbers (tables version s))) r.unit ∙ (ap (stands o.unit.id) told ∙ any_from_In (map number_of us) o.unit.id (In-map number_of us o.unit o.there)))))),
       pairs_apart (λ (row : ElementRow). row.unit) (λ (row : ElementRow). row.k) rows (λ u. elements_own u.id 1 u.values.texts) us g.units.ids
-          (λ u i. numbers_differ u.id 1 u.values.texts (each_in (IsGoodUnit s.boxes) us u g.units.each i).texts),
+          (λ u i. numbers_differ u.id 1 u.values.texts (each_in (IsGoodUnit s.catalogue.containers) us u g.units.each i).texts),
     )
 
 -- ---- the containers
@@ -135,14 +135,14 @@ pub record AreShownContainers (version : Version) (s : State) : Type 0 where
 
 pub containers_shown : (version : Version) (s : State) → IsSoundCatalogue s → AreShownContainers version s
 containers_shown version s g =
-    let rows : List ContainerRow = rows_from container_row 1 s.boxes in
-    let count = count_rows container_row 1 s.boxes in
+    let rows : List ContainerRow = rows_from container_row 1 s.catalogue.containers in
+    let count = count_rows container_row 1 s.catalogue.containers in
     let few = g.containers.few in
     record {
-      good = and_from (are_numbered_from (λ (row : ContainerRow). row.id) 1 rows) _ (counted 1 s.boxes)
-          (and_from (list_all (λ (row : ContainerRow). not (is_blank_text row.name)) rows) (nat_le (length rows) most_containers) (named 1 s.boxes g.containers.named) (le-leb (length rows) most_containers (omega (arith, count, few))));
-      numbers = subst (IsDistinct nat_eq) (sym (ids_count 1 s.boxes)) (numbers_apart 1 (length s.boxes));
-      boxes = rows_differ 1 s.boxes (all_different s.boxes g.boxes);
+      good = and_from (are_numbered_from (λ (row : ContainerRow). row.id) 1 rows) _ (counted 1 s.catalogue.containers)
+          (and_from (list_all (λ (row : ContainerRow). not (is_blank_text row.name)) rows) (nat_le (length rows) most_containers) (named 1 s.catalogue.containers g.containers.named) (le-leb (length rows) most_containers (omega (arith, count, few))));
+      numbers = subst (IsDistinct nat_eq) (sym (ids_count 1 s.catalogue.containers)) (numbers_apart 1 (length s.catalogue.containers));
+      boxes = rows_differ 1 s.catalogue.containers (all_different s.catalogue.containers g.boxes);
     }
 
 -- ---- what lies in the units
@@ -211,28 +211,28 @@ pub record AreShownHousings (version : Version) (s : State) : Type 0 where
   pub places : IsDistinct is_same_place (tables version s).housings
   pub once : IsDistinct is_housed_alike (tables version s).housings
 
-pub housings_shown : (version : Version) (s : State) → IsSoundCatalogue s → unit_numbers (tables version s) ≡ map number_of (nodes s.forest) → AreShownHousings version s
+pub housings_shown : (version : Version) (s : State) → IsSoundCatalogue s → unit_numbers (tables version s) ≡ map number_of (nodes s.catalogue.forest) → AreShownHousings version s
 housings_shown version s g told =
     let t : Rows = tables version s in
-    let us = nodes s.forest in
-    let rows : Unit → List HousingRow = λ unit. rows_from (housing_row s.boxes unit.id) 1 unit.values.boxes in
+    let us = nodes s.catalogue.forest in
+    let rows : Unit → List HousingRow = λ unit. rows_from (housing_row s.catalogue.containers unit.id) 1 unit.values.boxes in
     record {
       good = in_all (is_good_housing t) t.housings (λ row i.
           let o = in_flat_map rows us row i in
           let u : Unit = o.unit in
-          let k = each_in (IsGoodUnit s.boxes) us u g.units.each o.there in
-          let r = box_row s.boxes u.id 1 u.values.boxes row o.own in
+          let k = each_in (IsGoodUnit s.catalogue.containers) us u g.units.each o.there in
+          let r = box_row s.catalogue.containers u.id 1 u.values.boxes row o.own in
           let mine : length (housings_of row.unit t.housings) ≡ length u.values.boxes =
           ap (λ n. length (housings_of n t.housings)) r.unit
-          ∙ (ap length (each_in (HasRows t s.boxes) us u (all_rows version s g.units.ids) o.there).housings ∙ count_rows (housing_row s.boxes u.id) 1 u.values.boxes) in
+          ∙ (ap length (each_in (HasRows t s.catalogue.containers) us u (all_rows version s g.units.ids) o.there).housings ∙ count_rows (housing_row s.catalogue.containers u.id) 1 u.values.boxes) in
           let last = r.before in
           and_from (stands row.unit (unit_numbers t)) _ (ap (λ n. stands n (unit_numbers t)) r.unit ∙ (ap (stands u.id) told ∙ any_from_In (map number_of us) u.id (In-map number_of us u o.there)))
           (and_from (is_between 1 (length t.containers) row.container) (is_between 1 (length (housings_of row.unit t.housings)) row.ord)
-          (ap (λ n. is_between 1 n row.container) (count_rows container_row 1 s.boxes) ∙ (ap (is_between 1 (length s.boxes)) r.container ∙ number_ranged s.boxes r.box (all_in (λ box. list_any (is_same_box box) s.boxes) u.values.boxes r.box k.known r.there)))
+          (ap (λ n. is_between 1 n row.container) (count_rows container_row 1 s.catalogue.containers) ∙ (ap (is_between 1 (length s.catalogue.containers)) r.container ∙ number_ranged s.catalogue.containers r.box (all_in (λ box. list_any (is_same_box box) s.catalogue.containers) u.values.boxes r.box k.known r.there)))
           (and_from (nat_le 1 row.ord) (nat_le row.ord (length (housings_of row.unit t.housings))) (le-leb 1 row.ord r.behind) (le-leb row.ord (length (housings_of row.unit t.housings)) (omega (arith, mine, last))))));
-      places = pairs_apart (λ (row : HousingRow). row.unit) (λ (row : HousingRow). row.ord) rows (λ u. housings_own s.boxes u.id 1 u.values.boxes) us g.units.ids
-          (λ u i. subst (IsDistinct nat_eq) (sym (ords_count s.boxes u.id 1 u.values.boxes)) (numbers_apart 1 (length u.values.boxes)));
-      once = pairs_apart (λ (row : HousingRow). row.unit) (λ (row : HousingRow). row.container) rows (λ u. housings_own s.boxes u.id 1 u.values.boxes) us g.units.ids
-          (λ u i. let k = each_in (IsGoodUnit s.boxes) us u g.units.each i in
-          subst (IsDistinct nat_eq) (sym (numbers_kept s.boxes u.id 1 u.values.boxes)) (number_each s.boxes u.values.boxes k.known (all_different u.values.boxes k.apart)));
+      places = pairs_apart (λ (row : HousingRow). row.unit) (λ (row : HousingRow). row.ord) rows (λ u. housings_own s.catalogue.containers u.id 1 u.values.boxes) us g.units.ids
+          (λ u i. subst (IsDistinct nat_eq) (sym (ords_count s.catalogue.containers u.id 1 u.values.boxes)) (numbers_apart 1 (length u.values.boxes)));
+      once = pairs_apart (λ (row : HousingRow). row.unit) (λ (row : HousingRow). row.container) rows (λ u. housings_own s.catalogue.containers u.id 1 u.values.boxes) us g.units.ids
+          (λ u i. let k = each_in (IsGoodUnit s.catalogue.containers) us u g.units.each i in
+          subst (IsDistinct nat_eq) (sym (numbers_kept s.catalogue.containers u.id 1 u.values.boxes)) (number_each s.catalogue.containers u.values.boxes k.known (all_different u.values.boxes k.apart)));
     }

@@ -103,30 +103,30 @@ pub record AreShownUnits (version : Version) (s : State) : Type 0 where
   pub numbers : IsDistinct nat_eq (unit_numbers (tables version s))
   pub names : IsDistinct is_named_alike (tables version s).units
   pub placed : IsDistinct nat_eq (place_numbers (tables version s).places)
-  pub told : unit_numbers (tables version s) ≡ map number_of (nodes s.forest)
+  pub told : unit_numbers (tables version s) ≡ map number_of (nodes s.catalogue.forest)
 
 pub units_shown : (version : Version) (s : State) → IsSoundCatalogue s → AreShownUnits version s
 units_shown version s g =
-    let us = nodes s.forest in
-    let f : Forest ℕ = each number_of s.forest in
-    let ids : nodes f ≡ map number_of us = nodes-each number_of s.forest in
+    let us = nodes s.catalogue.forest in
+    let f : Forest ℕ = each number_of s.catalogue.forest in
+    let ids : nodes f ≡ map number_of us = nodes-each number_of s.catalogue.forest in
     let apart : IsDistinct nat_eq (nodes f) = subst (IsDistinct nat_eq) (sym ids) g.units.ids in
     let told : unit_numbers (tables version s) ≡ map number_of us = numbers_of_rows us in
     let placed : place_numbers (tables version s).places ≡ map number_of us = numbers_placed version f ∙ ids in
-    let rows : list_all (is_good_unit_row s.next_unit) (map unit_row us) ≡ true =
-    list_all-map (is_good_unit_row s.next_unit) unit_row us
-    ∙ in_all (λ u. is_good_unit_row s.next_unit (unit_row u)) us (λ u i.
-    let k = each_in (IsGoodUnit s.boxes) us u g.units.each i in
-    row_shown s.next_unit u (each_in (λ (unit : Unit). (1 ≤ unit.id) × (unit.id < s.next_unit)) us u g.units.given i) (each_in (λ (unit : Unit). IsSomeDay unit.until) us u g.closures i) (k.source, k.legacy, k.legacy_short, k.level_short)) in
-    let count : length (map unit_row us) ≡ size s.forest = length-map us unit_row ∙ length-nodes s.forest in
+    let rows : list_all (is_good_unit_row s.catalogue.next) (map unit_row us) ≡ true =
+    list_all-map (is_good_unit_row s.catalogue.next) unit_row us
+    ∙ in_all (λ u. is_good_unit_row s.catalogue.next (unit_row u)) us (λ u i.
+    let k = each_in (IsGoodUnit s.catalogue.containers) us u g.units.each i in
+    row_shown s.catalogue.next u (each_in (λ (unit : Unit). (1 ≤ unit.id) × (unit.id < s.catalogue.next)) us u g.units.given i) (each_in (λ (unit : Unit). IsSomeDay unit.until) us u g.closures i) (k.source, k.legacy, k.legacy_short, k.level_short)) in
+    let count : length (map unit_row us) ≡ size s.catalogue.forest = length-map us unit_row ∙ length-nodes s.catalogue.forest in
     let few = g.units.few in
-    let deep : height (state_of (tables version s)).forest ≤ most_deep = subst (λ h. height h ≤ most_deep) (sym (units_back version s g.units.ids g.units.each)) g.units.depth in
+    let deep : height (state_of (tables version s)).catalogue.forest ≤ most_deep = subst (λ h. height h ≤ most_deep) (sym (units_back version s g.units.ids g.units.each)) g.units.depth in
     record {
       places = places_shown version f apart;
-      units = and_from (list_all (is_good_unit_row s.next_unit) (map unit_row us)) _ rows
+      units = and_from (list_all (is_good_unit_row s.catalogue.next) (map unit_row us)) _ rows
           (and_from (all_stand_in (place_numbers (tables version s).places) (unit_numbers (tables version s))) _ (ap (λ ns. all_stand_in ns (unit_numbers (tables version s))) placed ∙ (ap (all_stand_in (map number_of us)) told ∙ stand_in_themselves (map number_of us)))
           (and_from (all_stand_in (unit_numbers (tables version s)) (place_numbers (tables version s).places)) _ (ap (λ ns. all_stand_in ns (place_numbers (tables version s).places)) told ∙ (ap (all_stand_in (map number_of us)) placed ∙ stand_in_themselves (map number_of us)))
-          (and_from (nat_le (length (map unit_row us)) most_units) (nat_le (height (state_of (tables version s)).forest) most_deep) (le-leb (length (map unit_row us)) most_units (omega (arith, few, count))) (le-leb (height (state_of (tables version s)).forest) most_deep deep))));
+          (and_from (nat_le (length (map unit_row us)) most_units) (nat_le (height (state_of (tables version s)).catalogue.forest) most_deep) (le-leb (length (map unit_row us)) most_units (omega (arith, few, count))) (le-leb (height (state_of (tables version s)).catalogue.forest) most_deep deep))));
       numbers = subst (IsDistinct nat_eq) (sym told) g.units.ids;
       names = names_shown us g.units.pairs;
       placed = subst (IsDistinct nat_eq) (sym placed) g.units.ids;

@@ -247,12 +247,12 @@ place_among place c (n ∷ ns) =
 stands_to : (n c : ℕ) → 1 ≤ c → c ≤ n → stands c (numbers_to n) ≡ true
 stands_to n c l h = elim (cases_Bool (stands c (numbers_to n))) [ inl e ↦ e | inr e ↦ absurd (false≢true (sym (none_to (nat_eq c) n c e l h) ∙ same_number c)) ]
 
-place_there : (s : State) (c : ℕ) (b : Bool) → is_some (numbered s.boxes c) ≡ b → AreGoodPlaces s → cond (stands c (containers s)) (s.place c) Shelf ≡ s.place c
-place_there s c true e g = ap (λ b. cond b (s.place c) Shelf) (stands_to (length s.boxes) c (numbered_from_one s.boxes c e) (numbered_within s.boxes c e))
+place_there : (s : State) (c : ℕ) (b : Bool) → is_some (numbered s.catalogue.containers c) ≡ b → AreGoodPlaces s → cond (stands c (containers s)) (s.place c) Shelf ≡ s.place c
+place_there s c true e g = ap (λ b. cond b (s.place c) Shelf) (stands_to (length s.catalogue.containers) c (numbered_from_one s.catalogue.containers c e) (numbered_within s.catalogue.containers c e))
 place_there s c false e g = if_shelf (stands c (containers s)) (s.place c) (g.known c e) ∙ sym (g.known c e)
 
 place_is : (s : State) → AreGoodPlaces s → (c : ℕ) → place_in (holding_rows s) c ≡ s.place c
-place_is s g c = place_among s.place c (containers s) ∙ place_there s c (is_some (numbered s.boxes c)) refl g
+place_is s g c = place_among s.place c (containers s) ∙ place_there s c (is_some (numbered s.catalogue.containers c)) refl g
 
 rows_get : {X Y : Type 0} (row : ℕ → X → Y) (n : ℕ) (xs : List X) (j : ℕ) → slice_get (rows_from row n xs) j ≡ option_map (row (n + j)) (slice_get xs j)
 rows_get row n [] j = refl

@@ -133,20 +133,20 @@ record AreGoodRows (t : Rows) : Type 0 where
   placed : all_stand_in (place_numbers t.places) (unit_numbers t) ≡ true
   told : all_stand_in (unit_numbers t) (place_numbers t.places) ≡ true
   few : length t.units ≤ most_units
-  depth : height (state_of t).forest ≤ most_deep
+  depth : height (state_of t).catalogue.forest ≤ most_deep
 
 good_rows : (t : Rows) → are_good_units t ≡ true → AreGoodRows t
 good_rows t h =
     let a = and_parts (list_all (is_good_unit_row t.office.next_unit) t.units) _ h in
     let b = and_parts (all_stand_in (place_numbers t.places) (unit_numbers t)) _ a.1 in
     let c = and_parts (all_stand_in (unit_numbers t) (place_numbers t.places)) _ b.1 in
-    let d = and_parts (nat_le (length t.units) most_units) (nat_le (height (state_of t).forest) most_deep) c.1 in
+    let d = and_parts (nat_le (length t.units) most_units) (nat_le (height (state_of t).catalogue.forest) most_deep) c.1 in
     record {
       each = λ row i. good_row t.office.next_unit row (all_in (is_good_unit_row t.office.next_unit) t.units row a.0 i);
       placed = b.0;
       told = c.0;
       few = leb-true (length t.units) most_units d.0;
-      depth = leb-true (height (state_of t).forest) most_deep d.1;
+      depth = leb-true (height (state_of t).catalogue.forest) most_deep d.1;
     }
 
 units_of : (version : Version) (t : Rows) → ArePlaced version t.places (places_said t.places) → AreGoodRows t → AreUnitsOf t (places_said t.places)
@@ -226,7 +226,7 @@ module _ (version : Version) (t : Rows) (k : MeetsCatalogueKeys t) (n : HasNoCau
   units : AreUnitsOf t (places_said t.places)
   units = units_of version t placed rows
 
-  reordered : IsPermutation (map unit_row (nodes (state_of t).forest)) t.units
+  reordered : IsPermutation (map unit_row (nodes (state_of t).catalogue.forest)) t.units
   reordered = units_are_said t (places_said t.places) k.units units
 
   boxes_differ : IsDistinct is_same_box (map box_from t.containers)
@@ -245,12 +245,12 @@ module _ (version : Version) (t : Rows) (k : MeetsCatalogueKeys t) (n : HasNoCau
   office = good_office version t.office n.office
 
   -- what is so of each unit of a row is so of each unit
-  of_units : (P : Unit → Type 0) → ((row : UnitRow) → In row t.units → P (unit_from t row)) → AllByRecursion P (nodes (state_of t).forest)
+  of_units : (P : Unit → Type 0) → ((row : UnitRow) → In row t.units → P (unit_from t row)) → AllByRecursion P (nodes (state_of t).catalogue.forest)
   of_units P h = subst (AllByRecursion P) (sym (nodes-each (unit_said t) (places_said t.places))) (all_mapped P (unit_said t) (nodes (places_said t.places)) (each_said t (places_said t.places) P k.units units h))
 
-  sound_units : AreGoodUnits (state_of t)
+  sound_units : AreGoodUnits (state_of t).catalogue
   sound_units =
-      let f = (state_of t).forest in
+      let f = (state_of t).catalogue.forest in
       let count : length (map unit_row (nodes f)) ≡ length (nodes f) = length-map (nodes f) unit_row in
       let all : length t.units ≡ length (map unit_row (nodes f)) = length_permutation (map unit_row (nodes f)) t.units reordered in
       let sized : length (nodes f) ≡ size f = length-nodes f in

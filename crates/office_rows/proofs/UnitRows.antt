@@ -239,13 +239,13 @@ all_three P Q R S f (u ∷ us) p q r = (f u p.0 q.0 r.0, all_three P Q R S f us 
 abbrev ElementsOf : Rows → Unit → Type 0
 ElementsOf t u = filter (λ (r : ElementRow). nat_eq r.unit u.id) t.elements ≡ element_rows_from u.id 1 u.values.texts
 
-pub all_rows : (version : Version) (s : State) → IsDistinct nat_eq (map number_of (nodes s.forest)) → AllByRecursion (HasRows (tables version s) s.boxes) (nodes s.forest)
+pub all_rows : (version : Version) (s : State) → IsDistinct nat_eq (map number_of (nodes s.catalogue.forest)) → AllByRecursion (HasRows (tables version s) s.catalogue.containers) (nodes s.catalogue.forest)
 all_rows version s d =
-    let us = nodes s.forest in
-    all_three (λ u. find (λ (row : UnitRow). nat_eq row.id u.id) (map unit_row us) ≡ Some (unit_row u)) (ElementsOf (tables version s)) (λ u. filter (λ (r : HousingRow). nat_eq r.unit u.id) (tables version s).housings ≡ rows_from (housing_row s.boxes u.id) 1 u.values.boxes) (HasRows (tables version s) s.boxes)
+    let us = nodes s.catalogue.forest in
+    all_three (λ u. find (λ (row : UnitRow). nat_eq row.id u.id) (map unit_row us) ≡ Some (unit_row u)) (ElementsOf (tables version s)) (λ u. filter (λ (r : HousingRow). nat_eq r.unit u.id) (tables version s).housings ≡ rows_from (housing_row s.catalogue.containers u.id) 1 u.values.boxes) (HasRows (tables version s) s.catalogue.containers)
     (λ u a b c. record { row = a; elements = b; housings = c }) us (rows_found us d)
     (own_rows (λ (r : ElementRow). r.unit) (λ (u : Unit). element_rows_from u.id 1 u.values.texts) (λ u. elements_own u.id 1 u.values.texts) us d)
-    (own_rows (λ (r : HousingRow). r.unit) (λ (u : Unit). rows_from (housing_row s.boxes u.id) 1 u.values.boxes) (λ u. housings_own s.boxes u.id 1 u.values.boxes) us d)
+    (own_rows (λ (r : HousingRow). r.unit) (λ (u : Unit). rows_from (housing_row s.catalogue.containers u.id) 1 u.values.boxes) (λ u. housings_own s.catalogue.containers u.id 1 u.values.boxes) us d)
 
 each_each : {A B C : Type 0} (f : A → B) (g : B → C) (t : Forest A) → each g (each f t) ≡ each (λ a. g (f a)) t
 each_each f g Empty = refl
@@ -265,11 +265,11 @@ places_back : (version : Version) (f : Forest Unit) → IsDistinct nat_eq (map n
 places_back Links f d = links_say (each number_of f) (siblings (each number_of f)) (record { distinct = subst (IsDistinct nat_eq) (sym (nodes-each number_of f)) d; rows = IsPermutation-refl (siblings (each number_of f)) })
 places_back Spans f d = spans_say (each number_of f)
 
-pub units_back : (version : Version) (s : State) → IsDistinct nat_eq (map number_of (nodes s.forest)) → AllByRecursion (IsGoodUnit s.boxes) (nodes s.forest) → SaysUnits version s
+pub units_back : (version : Version) (s : State) → IsDistinct nat_eq (map number_of (nodes s.catalogue.forest)) → AllByRecursion (IsGoodUnit s.catalogue.containers) (nodes s.catalogue.forest) → SaysUnits version s
 units_back version s d g =
     let t = tables version s in
-    let c = rows_back container_row box_from (λ n box. refl) 1 s.boxes in
-    ap (each (unit_said t)) (places_back version s.forest d)
-    ∙ (each_each number_of (unit_said t) s.forest
-    ∙ each_same (λ u. unit_said t u.id) s.forest
-    (all_two (HasRows t s.boxes) (IsGoodUnit s.boxes) (λ u. unit_said t u.id ≡ u) (λ u h k. unit_back t s.boxes u c h k) (nodes s.forest) (all_rows version s d) g))
+    let c = rows_back container_row box_from (λ n box. refl) 1 s.catalogue.containers in
+    ap (each (unit_said t)) (places_back version s.catalogue.forest d)
+    ∙ (each_each number_of (unit_said t) s.catalogue.forest
+    ∙ each_same (λ u. unit_said t u.id) s.catalogue.forest
+    (all_two (HasRows t s.catalogue.containers) (IsGoodUnit s.catalogue.containers) (λ u. unit_said t u.id ≡ u) (λ u h k. unit_back t s.catalogue.containers u c h k) (nodes s.catalogue.forest) (all_rows version s d) g))

@@ -71,7 +71,7 @@ abbrev pub are_good_units : Rows → Bool
 are_good_units t =
     list_all (is_good_unit_row t.office.next_unit) t.units
     && (all_stand_in (place_numbers t.places) (unit_numbers t) && (all_stand_in (unit_numbers t) (place_numbers t.places)
-    && (nat_le (length t.units) most_units && nat_le (height (state_of t).forest) most_deep)))
+    && (nat_le (length t.units) most_units && nat_le (height (state_of t).catalogue.forest) most_deep)))
 
 abbrev pub units_are_bad : Rows → Bool
 units_are_bad t = not (are_good_units t)

@@ -32,8 +32,8 @@ SoundTablesPass version s = IsSound s → PassesAtTheDesk (tables version s)
 -- what the causes 1 to 5 see to: the containers are numbered and no two of them are one, and the units of the rows have places
 pub record HasGoodCatalogue (t : Rows) : Type 0 where
   pub containers : are_numbered_from (λ (row : ContainerRow). row.id) 1 t.containers ≡ true
-  pub apart : distinct (state_of t).boxes ≡ (state_of t).boxes
-  pub placed : (u : ℕ) → is_unit_there t u ≡ true → has_unit (state_of t).forest u ≡ true
+  pub apart : distinct (state_of t).catalogue.containers ≡ (state_of t).catalogue.containers
+  pub placed : (u : ℕ) → is_unit_there t u ≡ true → has_unit (state_of t).catalogue.forest u ≡ true
 
 -- the days that the desk keeps are days of the calendar
 pub record AreGoodDeskDays (s : State) : Type 0 where

@@ -19,10 +19,10 @@ use Rattle.office_rows.specs.Causes.{cause, catalogue_cause, MeetsKeys}
 pub record IsSoundCatalogue (s : State) : Type 0 where
   pub settings : AreGoodSettings s.settings
   pub today : IsDayNumber s.day
-  pub closures : AllByRecursion (λ unit. IsSomeDay unit.until) (nodes s.forest)
-  pub units : AreGoodUnits s
-  pub containers : AreGoodContainers s
-  pub boxes : distinct s.boxes ≡ s.boxes
+  pub closures : AllByRecursion (λ unit. IsSomeDay unit.until) (nodes s.catalogue.forest)
+  pub units : AreGoodUnits s.catalogue
+  pub containers : AreGoodContainers s.catalogue
+  pub boxes : distinct s.catalogue.containers ≡ s.catalogue.containers
 
 -- rows with keys and without a cause say a sound catalogue, and are its rows
 abbrev pub SaysTheCatalogue : Version → Rows → Type 0

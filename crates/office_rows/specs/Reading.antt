@@ -122,13 +122,13 @@ tables version s =
         hands = s.settings.hands;
         run_size = s.settings.run;
         day = s.day;
-        next_unit = s.next_unit;
+        next_unit = s.catalogue.next;
       };
-      units = map unit_row (nodes s.forest);
-      places = place_rows version (each number_of s.forest);
-      elements = flat_map (λ (unit : Unit). element_rows_from unit.id 1 unit.values.texts) (nodes s.forest);
-      containers = rows_from container_row 1 s.boxes;
-      housings = flat_map (λ (unit : Unit). rows_from (housing_row s.boxes unit.id) 1 unit.values.boxes) (nodes s.forest);
+      units = map unit_row (nodes s.catalogue.forest);
+      places = place_rows version (each number_of s.catalogue.forest);
+      elements = flat_map (λ (unit : Unit). element_rows_from unit.id 1 unit.values.texts) (nodes s.catalogue.forest);
+      containers = rows_from container_row 1 s.catalogue.containers;
+      housings = flat_map (λ (unit : Unit). rows_from (housing_row s.catalogue.containers unit.id) 1 unit.values.boxes) (nodes s.catalogue.forest);
       readers = reader_rows s;
       seats = seat_rows s;
       orders = order_rows s;
@@ -246,9 +246,11 @@ state_of t =
         run = t.office.run_size;
       };
       day = t.office.day;
-      next_unit = t.office.next_unit;
-      forest = each (unit_said t) (places_said t.places);
-      boxes = map box_from t.containers;
+      catalogue = record {
+        forest = each (unit_said t) (places_said t.places);
+        containers = map box_from t.containers;
+        next = t.office.next_unit;
+      };
       readers = map reader_from t.readers;
       seats = seats_said t.office.seats 1 t.seats;
       orders = map order_from t.orders;
@@ -264,8 +266,8 @@ state_of t =
 pub record SaysAllButUnits (version : Version) (s : State) : Type 0 where
   pub settings : (state_of (tables version s)).settings ≡ s.settings
   pub day : (state_of (tables version s)).day ≡ s.day
-  pub next : (state_of (tables version s)).next_unit ≡ s.next_unit
-  pub boxes : (state_of (tables version s)).boxes ≡ s.boxes
+  pub next : (state_of (tables version s)).catalogue.next ≡ s.catalogue.next
+  pub boxes : (state_of (tables version s)).catalogue.containers ≡ s.catalogue.containers
   pub readers : (state_of (tables version s)).readers ≡ s.readers
   pub seats : (state_of (tables version s)).seats ≡ s.seats
   pub orders : (state_of (tables version s)).orders ≡ s.orders
@@ -277,4 +279,4 @@ pub record SaysAllButUnits (version : Version) (s : State) : Type 0 where
 
 -- the rows say the units too, and so all of the state
 abbrev pub SaysUnits : Version → State → Type 0
-SaysUnits version s = (state_of (tables version s)).forest ≡ s.forest
+SaysUnits version s = (state_of (tables version s)).catalogue.forest ≡ s.catalogue.forest

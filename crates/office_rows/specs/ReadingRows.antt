@@ -27,9 +27,11 @@ unit n boxes =
 abbrev pub sample : State
 sample =
     record office {
-      next_unit = 5;
-      forest = Node (unit 1 (box 66 ∷ box 65 ∷ [])) (Node (unit 4 []) Empty (Node (unit 2 (box 65 ∷ [])) Empty Empty)) (Node (unit 3 []) Empty Empty);
-      boxes = box 65 ∷ box 66 ∷ [];
+      catalogue = record {
+        forest = Node (unit 1 (box 66 ∷ box 65 ∷ [])) (Node (unit 4 []) Empty (Node (unit 2 (box 65 ∷ [])) Empty Empty)) (Node (unit 3 []) Empty Empty);
+        containers = box 65 ∷ box 66 ∷ [];
+        next = 5;
+      };
       readers = record { name = codes "Ann"; until = year_end } ∷ record { name = codes "Bob"; until = march_1 } ∷ [];
       seats = None ∷ Some 2 ∷ [];
       runs = record { day = march_1; lines = record { container = 2; order = 1; ticket = 1 } ∷ record { container = 1; order = 2; ticket = 2 } ∷ [] }
@@ -39,9 +41,9 @@ sample =
 -- the state that the rows of the sample say, part by part
 pub record SaysAgain (version : Version) : Type 0 where
   pub settings : (state_of (tables version sample)).settings ≡ sample.settings
-  pub next : (state_of (tables version sample)).next_unit ≡ sample.next_unit
-  pub forest : (state_of (tables version sample)).forest ≡ sample.forest
-  pub boxes : (state_of (tables version sample)).boxes ≡ sample.boxes
+  pub next : (state_of (tables version sample)).catalogue.next ≡ sample.catalogue.next
+  pub forest : (state_of (tables version sample)).catalogue.forest ≡ sample.catalogue.forest
+  pub boxes : (state_of (tables version sample)).catalogue.containers ≡ sample.catalogue.containers
   pub readers : (state_of (tables version sample)).readers ≡ sample.readers
   pub seats : (state_of (tables version sample)).seats ≡ sample.seats
   pub runs : (state_of (tables version sample)).runs ≡ sample.runs
