@@ -3,9 +3,19 @@ use Rattle.std.specs.Prelude.{ℕ, Bool, nat_le, nat_lt, List, [], ◌∷◌, Op
 use Rattle.desk_core.specs.declared.refusal.Refusal.TheVariants.{UnknownTicket, UnknownContainer, TicketExpired, NotAvailable, AlreadyOrdered, DailyLimit, NoSeatFree, AlreadySeated, NotSeated, HoldsContainers, NotAtDesk, NotFirst, HandsFull, Full}
 use Rattle.desk_core.specs.Refusals.{Check, when, unless}
 
--- how many orders there may ever be
+-- how many orders there may ever be, how many tickets, how many runs
 abbrev pub most_orders : ℕ
 most_orders = 10000000
+
+abbrev pub most_tickets : ℕ
+most_tickets = 1000000
+
+abbrev pub most_runs : ℕ
+most_runs = 1000000
+
+-- how many permits a ticket may have at a time
+abbrev pub most_permits : ℕ
+most_permits = 100
 
 -- ---- a ticket orders a container
 

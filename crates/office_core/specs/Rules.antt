@@ -4,6 +4,7 @@ use Rattle.std.specs.List.{list_any, list_all}
 use Rattle.isad_core.specs.Texts.{Bytes, is_blank_text}
 use Rattle.tree_core.specs.Forest.{Forest, Empty, Node, each, path, tree, branch, cut, move_last, has_place}
 use Rattle.desk_core.specs.Checks.{order_checks, issue_checks, take_seat_checks, leave_seat_checks}
+pub use Rattle.desk_core.specs.Checks.{most_tickets, most_runs, most_permits}
 use Rattle.desk_core.specs.Refusals.{Check, when, unless, first_that_holds}
 use Rattle.desk_core.specs.declared.reader.Place.{Place}
 use Rattle.desk_core.specs.declared.reader.Place.TheVariants.{Shelf, Desk, Out}
@@ -183,16 +184,6 @@ after s (command.Permit t u until) = record s { permits = put s.permits t (grant
 after s (command.Revoke t u) = record s { permits = put s.permits t (revoked u (s.permits t)) }
 
 -- ---- what a command asks for, in order
-
-abbrev pub most_tickets : ℕ
-most_tickets = 1000000
-
-abbrev pub most_runs : ℕ
-most_runs = 1000000
-
--- of one ticket
-abbrev pub most_permits : ℕ
-most_permits = 100
 
 abbrev pub checks : State → Command → List Check
 checks s (command.OpenDay day) =
