@@ -1,1 +1,9 @@
 pub mod Making
+pub mod Rows
+pub mod Shows
+pub mod Readers
+pub mod Seats
+pub mod Orders
+pub mod Holdings
+pub mod Runs
+pub mod Permits

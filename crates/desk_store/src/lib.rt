@@ -2,7 +2,21 @@
 #![tactic(auto)]
 
 mod blank;
+mod cards;
+mod granting;
+mod holdings;
 mod making;
+mod orders;
+mod queues;
+mod runs;
+mod seats;
 
 pub use blank::is_blank;
+pub use cards::{LiveOrder, ReaderCard};
+pub use granting::Permit;
+pub use holdings::{FirstOrder, Loan};
 pub use making::create_desk;
+pub use orders::{OrderState, PlacedOrder, WaitingOrder};
+pub use queues::ContainerQueue;
+pub use runs::Brought;
+pub use seats::TakenSeat;

@@ -1,0 +1,65 @@
+-- What was ordered, and who waits for a container.
+use Rattle.std.specs.Prelude.{◌≡◌, ℕ, suc, ℤ, ◌&&◌, ◌<◌, nat_eq, List, [], ◌∷◌, ◌++◌, length, map, filter, find, Option, Some, None, option_map}
+use Rattle.isad_core.specs.declared.values.BoxKey.{BoxKey}
+use Rattle.desk_core.specs.declared.reader.Place.{Place}
+use Rattle.desk_core.specs.declared.reader.Place.TheVariants.{Shelf, Desk as AtTheDesk, Out}
+use Rattle.isad_core.specs.Limits.{most_orders}
+use Rattle.desk_core.specs.DeskRows.{Desk, OrderRow, HoldingRow, with_state}
+use Rattle.desk_store.specs.declared.orders.OrderState.{OrderState}
+use Rattle.desk_store.specs.declared.orders.OrderState.TheVariants.{Waiting, «Out» as WithReader, Done, Cancelled}
+use Rattle.desk_store.specs.declared.orders.PlacedOrder.{PlacedOrder}
+use Rattle.desk_store.specs.declared.orders.WaitingOrder.{WaitingOrder}
+use Rattle.desk_store.specs.declared.queues.ContainerQueue.{ContainerQueue}
+
+-- ---- orders
+
+-- an order waits, is out, is done or is cancelled
+abbrev pub state_number : OrderState → ℕ
+state_number Waiting = 1
+state_number WithReader = 2
+state_number Done = 3
+state_number Cancelled = 4
+
+-- the order as it was placed, in the state that it is in
+abbrev pub IsOrder : OrderRow → PlacedOrder → Type 0
+IsOrder row o = (o.ticket ≡ row.ticket) × (o.container ≡ row.container) × (o.day ≡ row.day) × (state_number o.state ≡ row.state)
+
+abbrev pub order_with : ℕ → Desk → Option OrderRow
+order_with o d = find (λ (row : OrderRow). nat_eq row.id o) d.orders
+
+-- one more order, which waits; orders are numbered from 1 as they come
+abbrev pub with_order : ℕ → ℕ → ℤ → Desk → Desk
+with_order t c day d =
+    record d { orders = d.orders ++ record { id = suc (length d.orders); ticket = t; container = c; day = day; state = 1 } ∷ [] }
+
+-- there may be one more, and this is its number
+abbrev pub IsNextOrder : ℕ → Desk → Type 0
+IsNextOrder o d = (length d.orders < most_orders) × (o ≡ suc (length d.orders))
+
+-- the order is in another state from now on
+abbrev pub with_order_state : ℕ → OrderState → Desk → Desk
+with_order_state o state d = record d { orders = with_state o (state_number state) d.orders }
+
+-- ---- the queue of a container
+
+-- its orders that wait, by number
+abbrev pub queue_of : ℕ → Desk → List WaitingOrder
+queue_of c d =
+    map (λ (o : OrderRow). record { order = o.id; ticket = o.ticket })
+    (filter (λ o. nat_eq o.container c && nat_eq o.state 1) d.orders)
+
+-- where a container is: at the desk, out with an order, or on the shelf, where it has no row
+abbrev pub IsAt : Option HoldingRow → Place → Type 0
+IsAt None place = place ≡ Shelf
+IsAt (Some h) AtTheDesk = h.place ≡ 1
+IsAt (Some h) (Out o) = (h.place ≡ 2) × (h.held_by ≡ Some o)
+IsAt (Some h) Shelf = ⊥
+
+abbrev pub holding_of : ℕ → Desk → Option HoldingRow
+holding_of c d = find (λ (h : HoldingRow). nat_eq h.container c) d.holdings
+
+-- what is told of a container that is known: what is written on it, where it is, and who waits for it
+pub record IsQueue (c : ℕ) (d : Desk) (box : BoxKey) (q : ContainerQueue) : Type 0 where
+  pub name : q.name ≡ box.name
+  pub place : IsAt (holding_of c d) q.place
+  pub waiting : q.waiting ≡ queue_of c d

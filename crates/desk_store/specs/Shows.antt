@@ -1,0 +1,74 @@
+-- When the tables show a desk: each has the rows that its part of the desk names, and no others.
+use Rattle.std.specs.Prelude.{◌≡◌, ℕ, suc, ℤ, pos, ◌≤◌, ◌<◌, ◌^◌, List, [], ◌∷◌, length, map, IsPermutation, IsUtf8, true, ⊤}
+use Rattle.std.specs.List.{AllByRecursion}
+use Rattle.std.specs.Ordering.{int_cmp}
+use Rattle.sqlite.specs.Tree.{Trees}
+use Rattle.sqlite.specs.Order.{Row}
+use Rattle.isad_core.specs.Days.{is_day_number}
+use Rattle.isad_core.specs.Limits.{most_orders, most_tickets, most_runs}
+use Rattle.desk_core.specs.DeskRows.{Desk, ReaderRow, SeatRow, OrderRow, HoldingRow, RunRow, PermitRow}
+use Rattle.office_tables.specs.Order.{Rises}
+use Rattle.desk_store.specs.Rows.{reader_cells, seat_cells, order_cells, holding_cells, run_cells, run_line_cells, permit_cells}
+
+-- the rows have the numbers from n on, without a gap
+abbrev pub AreCountedFrom : {R : Type 0} → (R → ℕ) → ℕ → List R → Type 0
+AreCountedFrom number n [] = ⊤
+AreCountedFrom number n (row ∷ rows) = (number row ≡ n) × AreCountedFrom number (suc n) rows
+
+abbrev pub AreCounted : {R : Type 0} → (R → ℕ) → List R → Type 0
+AreCounted number = AreCountedFrom number 1
+
+-- the rows stand in the order of their numbers
+abbrev pub AreByNumber : {R : Type 0} → (R → ℕ) → List R → Type 0
+AreByNumber number = Rises (λ a b. int_cmp (pos (number a)) (pos (number b)))
+
+-- the table has these rows, in whatever order, each with a number of its own
+pub record HasNumbered {R : Type 0} (cells : ℤ × R → Row) (there : List Row) (rows : List R) : Type 0 where
+  pub numbered : List (ℤ × R)
+  pub are : there ≡ map cells numbered
+  pub rise : Rises (λ a b. int_cmp a.0 b.0) numbered
+  pub tell : IsPermutation rows (map (λ n. n.1) numbered)
+
+-- Tickets, orders and runs are numbered from 1 as they come, up to the most that there may ever be. Seats and holdings stand by
+-- the numbers of the seats and of the containers.
+pub record ShowsDesk (db : Trees) (d : Desk) : Type 0 where
+  pub readers : db 0 ≡ map reader_cells d.readers
+  pub tickets : AreCounted (λ (r : ReaderRow). r.ticket) d.readers
+  pub few_tickets : length d.readers ≤ most_tickets
+  pub seats : db 1 ≡ map seat_cells d.seats
+  pub seats_rise : AreByNumber (λ (s : SeatRow). s.seat) d.seats
+  pub orders : db 3 ≡ map order_cells d.orders
+  pub order_numbers : AreCounted (λ (o : OrderRow). o.id) d.orders
+  pub few_orders : length d.orders ≤ most_orders
+  pub holdings : db 6 ≡ map holding_cells d.holdings
+  pub holdings_rise : AreByNumber (λ (h : HoldingRow). h.container) d.holdings
+  pub runs : db 7 ≡ map run_cells d.runs
+  pub run_numbers : AreCounted (λ (r : RunRow). r.id) d.runs
+  pub few_runs : length d.runs ≤ most_runs
+  pub run_lines : HasNumbered run_line_cells (db 8) d.run_lines
+  pub permits : HasNumbered permit_cells (db 10) d.permits
+
+-- ---- what can be read back: names that are UTF-8, days of the calendar, seats and states that there are
+
+pub record IsLegibleReader (r : ReaderRow) : Type 0 where
+  pub name : IsUtf8 r.name
+  pub until : is_day_number r.until ≡ true
+
+-- a state from 1 to 4
+pub record IsLegibleOrder (o : OrderRow) : Type 0 where
+  pub day : is_day_number o.day ≡ true
+  pub some_state : 1 ≤ o.state
+  pub state : o.state ≤ 4
+
+-- at the desk or out
+pub record IsLegibleHolding (h : HoldingRow) : Type 0 where
+  pub some_place : 1 ≤ h.place
+  pub place : h.place ≤ 2
+
+pub record IsLegible (d : Desk) : Type 0 where
+  pub readers : AllByRecursion IsLegibleReader d.readers
+  pub seats : AllByRecursion (λ (s : SeatRow). s.seat < 2 ^ 32) d.seats
+  pub orders : AllByRecursion IsLegibleOrder d.orders
+  pub holdings : AllByRecursion IsLegibleHolding d.holdings
+  pub runs : AllByRecursion (λ (r : RunRow). is_day_number r.day ≡ true) d.runs
+  pub permits : AllByRecursion (λ (p : PermitRow). is_day_number p.until ≡ true) d.permits
