@@ -39,7 +39,8 @@ fn add_entries(text: &mut String, value: &str) -> Result<(), AllocError>
 
 // Adds what a column tells.
 fn add_told(text: &mut String, column: Column, value: &str) -> Result<(), AllocError>
-    ensures { OnOk result (string_bytes text.new ≡ fold with_entry (string_bytes text.old) (told_by column value.now)) }
+    ensures { OnOk result (string_bytes text.new
+        ≡ fold with_entry (string_bytes text.old) (told_by column value.now)) }
 {
     if column.is_split() {
         add_entries(text, value)

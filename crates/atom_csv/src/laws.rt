@@ -1,5 +1,6 @@
 //! What the rules say, computed for small files, and what follows from them for all.
-ghost use Rattle.std.specs.Prelude.{◌≡◌, ◌∷◌, ◌++◌, [], Err, List, None, Ok, Some, codes, replicate, true};
+ghost use Rattle.std.specs.Prelude.{◌≡◌, ◌∷◌, ◌++◌, [], List, codes, replicate, true};
+ghost use Rattle.std.specs.Prelude.{Err, Ok, None, Some};
 ghost use Rattle.isad_core.specs.Texts.{Bytes, is_blank_text};
 ghost use Rattle.atom_csv.specs.Entries.{entries, filled, joined};
 ghost use Rattle.atom_csv.specs.Fields.{is_empty, trimmed};
@@ -21,7 +22,8 @@ pub fn a_header_alone_tells_nothing()
 
 /// One byte order mark is skipped, and a second belongs to the first name.
 pub fn one_mark_is_skipped()
-    ensures one { file_of (0xEF ∷ 0xBB ∷ 0xBF ∷ codes "legacyId") ≡ Ok (record { rows = []; translations = 0 }) }
+    ensures one { file_of (0xEF ∷ 0xBB ∷ 0xBF ∷ codes "legacyId")
+        ≡ Ok (record { rows = []; translations = 0 }) }
     ensures two { file_of (0xEF ∷ 0xBB ∷ 0xBF ∷ 0xEF ∷ 0xBB ∷ 0xBF ∷ codes "legacyId") ≡ Err (1, 3) }
 {}
 
@@ -61,7 +63,8 @@ pub fn containers_go_by_their_places()
 
 /// A fonds and its series, as their rows tell them.
 pub fn a_fonds_and_a_series()
-    ensures { file_of (codes "legacyId,parentId,identifier,title,levelOfDescription,publicationStatus\n1,,HUL,Hull Dock Company,Fonds,Published\n2,1,1,Minutes,Series,Published\n")
+    ensures { file_of (codes "legacyId,parentId,identifier,title,levelOfDescription,publicationStatus\n"
+        ++ codes "1,,HUL,Hull Dock Company,Fonds,Published\n2,1,1,Minutes,Series,Published\n")
         ≡ Ok (record {
           rows = record {
             row = 2;

@@ -1,5 +1,6 @@
 //! The rows below a header.
-ghost use Rattle.std.specs.Prelude.{◌≡◌, ◌≤◌, IfOk, OnOk, None, Some, codes, if◌then◌else◌, option_map};
+ghost use Rattle.std.specs.Prelude.{◌≡◌, ◌≤◌, if◌then◌else◌, codes, option_map};
+ghost use Rattle.std.specs.Prelude.{IfOk, OnOk, None, Some};
 ghost use Rattle.std.specs.BTreeMap.{get_by_text};
 ghost use Rattle.std.specs.Str.{bytes_eq, str_eq_ignore_ascii_case};
 ghost use Rattle.isad_core.specs.Texts.{Bytes};
@@ -89,7 +90,8 @@ pub struct Rows {
 }
 
 impl Rows {
-    ghost use Rattle.std.specs.Prelude.{◌≡◌, ◌≤◌, ◌<◌, ◌++◌, ◌∷◌, ◌+◌, [], OnOk, IfErr, Err, length};
+    ghost use Rattle.std.specs.Prelude.{◌≡◌, ◌≤◌, ◌<◌, ◌++◌, ◌∷◌, ◌+◌, []};
+    ghost use Rattle.std.specs.Prelude.{OnOk, IfErr, Err, length};
     ghost use Rattle.std.specs.Prelude as std_list;
     ghost use Rattle.atom_csv.specs.Fields.{Fields, fields_in};
     ghost use Rattle.atom_csv.specs.FileOf.{below};

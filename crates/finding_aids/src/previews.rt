@@ -20,10 +20,12 @@ use std::alloc::Global;
 /// published top units in file order, in one text. Its units are not counted against any limit but
 /// that of their depth.
 pub fn preview(alloc: Global, file: &[u8], country: &str, repo: &str) -> Result<Vec<u8>, FileFault>
-    ensures text { IfOk result (λ text. preview_of (record { country = country.now; repo = repo.now }) file.now ≡ Ok text.items) }
+    ensures text { IfOk result (λ text.
+        preview_of (record { country = country.now; repo = repo.now }) file.now ≡ Ok text.items) }
 
     // The first row that has a cause, and its lowest cause: of the file, and else of its merge.
-    ensures bad { IfErr result (λ e. IsBad e (λ row cause. preview_of (record { country = country.now; repo = repo.now }) file.now ≡ Err (row, cause))) }
+    ensures bad { IfErr result (λ e. IsBad e (λ row cause.
+        preview_of (record { country = country.now; repo = repo.now }) file.now ≡ Err (row, cause))) }
 {
     let file = read_file(alloc, file)?;
     preview_rows(alloc, file.rows.as_slice(), country, repo)
@@ -36,8 +38,12 @@ fn preview_rows(
     country: &str,
     repo: &str,
 ) -> Result<Vec<u8>, FileFault>
-    ensures text { IfOk result (λ text. after_merging (record { country = country.now; repo = repo.now }) (merge empty_catalogue [] rows.now) ≡ Ok text.items) }
-    ensures bad { IfErr result (λ e. IsBad e (λ row cause. after_merging (record { country = country.now; repo = repo.now }) (merge empty_catalogue [] rows.now) ≡ Err (row, cause))) }
+    ensures text { IfOk result (λ text.
+        after_merging (record { country = country.now; repo = repo.now }) (merge empty_catalogue [] rows.now)
+        ≡ Ok text.items) }
+    ensures bad { IfErr result (λ e. IsBad e (λ row cause.
+        after_merging (record { country = country.now; repo = repo.now }) (merge empty_catalogue [] rows.now)
+        ≡ Err (row, cause))) }
 {
     let places = place_rows(alloc, rows)?;
     let trees = plant(alloc, rows, places.as_slice())?;

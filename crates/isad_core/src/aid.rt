@@ -1,7 +1,8 @@
 //! Finding aids.
 ghost use Rattle.std.specs.Prelude.{◌≡◌, ◌++◌, ◌+◌, ◌<◌, ◌^◌, IfOk, OnOk};
 ghost use Rattle.std.specs.List.{flat_map};
-ghost use Rattle.isad_core.specs.Printed.{aid, body_lines, container_text, element_text, full_lines, indent, line, unit_lines};
+ghost use Rattle.isad_core.specs.Printed.{aid, body_lines, full_lines, unit_lines};
+ghost use Rattle.isad_core.specs.Printed.{container_text, element_text, indent, line};
 
 use crate::element::Element;
 use crate::print::{end_line, push_container, push_element, push_head_line, push_indent};
@@ -56,7 +57,8 @@ fn push_full(
 
 /// A line for each element.
 fn push_elements(out: &mut Vec<u8>, depth: u64, lines: &[(Element, Text)]) -> Result<(), AllocError>
-    ensures { OnOk result (out.new.items ≡ out.old.items ++ flat_map (λ l. line (indent depth ++ element_text l.0 l.1)) lines.now) }
+    ensures { OnOk result (out.new.items
+        ≡ out.old.items ++ flat_map (λ l. line (indent depth ++ element_text l.0 l.1)) lines.now) }
 {
     for (element, value) in lines {
         push_indent(out, depth)?;
@@ -68,7 +70,8 @@ fn push_elements(out: &mut Vec<u8>, depth: u64, lines: &[(Element, Text)]) -> Re
 
 /// A line for each container.
 fn push_containers(out: &mut Vec<u8>, depth: u64, boxes: &[(u64, Text)]) -> Result<(), AllocError>
-    ensures { OnOk result (out.new.items ≡ out.old.items ++ flat_map (λ b. line (indent depth ++ container_text b.0 b.1)) boxes.now) }
+    ensures { OnOk result (out.new.items
+        ≡ out.old.items ++ flat_map (λ b. line (indent depth ++ container_text b.0 b.1)) boxes.now) }
 {
     for (number, name) in boxes {
         push_indent(out, depth)?;

@@ -1,6 +1,8 @@
 //! Days.
-ghost use Rattle.std.specs.Prelude.{◌≡◌, ◌≤◌, ◌+◌, ◌*◌, ◌/◌, ◌%◌, ◌∷◌, [], Some, None, IfSome, IfNone, pos, if◌then◌else◌};
-ghost use Rattle.isad_core.specs.Days.{IsDayNumber, date_of, day_of, day_text, in_two_digits, is_day_number, number_of_date};
+ghost use Rattle.std.specs.Prelude.{◌≡◌, ◌≤◌, ◌+◌, ◌*◌, ◌/◌, ◌%◌, ◌∷◌, [], if◌then◌else◌};
+ghost use Rattle.std.specs.Prelude.{Some, None, IfSome, IfNone, pos};
+ghost use Rattle.isad_core.specs.Days.{IsDayNumber, is_day_number, number_of_date, date_of, day_of};
+ghost use Rattle.isad_core.specs.Days.{day_text, in_two_digits};
 ghost use Rattle.isad_core.specs.Days as spec;
 ghost use Rattle.jiff_core.specs.Calendar.{IsCivilDate};
 
@@ -102,7 +104,8 @@ fn calendar_date(century: u8, rest: u8, month: u8, day: u8) -> Option<Date>
     requires rest { rest ≤ 99 }
     requires month { month ≤ 99 }
     requires day { day ≤ 99 }
-    ensures some { IfSome result (λ d. (d.year ≡ pos (century * 100 + rest)) × (d.month ≡ month) × (d.day ≡ day)) }
+    ensures some { IfSome result (λ d.
+        (d.year ≡ pos (century * 100 + rest)) × (d.month ≡ month) × (d.day ≡ day)) }
     ensures none { IfNone result (IsCivilDate (pos (century * 100 + rest)) month day → ⊥) }
 {
     let year = century as u16 * 100 + rest as u16;

@@ -35,7 +35,8 @@ pub fn worked_codes()
 
 /// The aid of a fonds with a series, open and closed.
 pub fn worked_aids()
-    ensures open { aid (fonds ∷ series ∷ []) ≡ codes "GB 0999 HUL [Fonds] Hull Dock Company\n  GB 0999 HUL/1 [Series] Minutes\n" }
+    ensures open { aid (fonds ∷ series ∷ [])
+        ≡ codes "GB 0999 HUL [Fonds] Hull Dock Company\n  GB 0999 HUL/1 [Series] Minutes\n" }
     ensures closed { aid (closed_series ∷ []) ≡ codes "  GB 0999 HUL/1 [Series] closed until 2024-03-02\n" }
 {}
 

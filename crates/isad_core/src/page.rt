@@ -1,7 +1,8 @@
 //! Pages of one unit.
 ghost use Rattle.std.specs.Prelude.{◌≡◌, ◌++◌, IfOk, OnOk, codes, decimal};
 ghost use Rattle.std.specs.List.{flat_map};
-ghost use Rattle.isad_core.specs.Printed.{container_text, found_container, found_element, head_line, indent, line, origin, page, unit_below};
+ghost use Rattle.isad_core.specs.Printed.{container_text, head_line, indent, line, origin, page};
+ghost use Rattle.isad_core.specs.Printed.{found_container, found_element, unit_below};
 
 use crate::element::Element;
 use crate::print::{
@@ -59,7 +60,8 @@ fn push_container_line(
     name: &Text,
     from: &Option<Text>,
 ) -> Result<(), AllocError>
-    ensures { OnOk result (out.new.items ≡ out.old.items ++ line (indent 1 ++ container_text number name.now ++ origin from.now)) }
+    ensures { OnOk result (out.new.items
+        ≡ out.old.items ++ line (indent 1 ++ container_text number name.now ++ origin from.now)) }
 {
     push_indent(out, 1)?;
     push_container(out, number, name)?;
@@ -79,7 +81,8 @@ fn push_units(out: &mut Vec<u8>, below: &[(u64, Shown)]) -> Result<(), AllocErro
 
 /// The line of a unit right below.
 fn push_unit(out: &mut Vec<u8>, number: u64, unit: &Shown) -> Result<(), AllocError>
-    ensures { OnOk result (out.new.items ≡ out.old.items ++ line (indent 1 ++ codes "Unit " ++ decimal number ++ codes ": " ++ head_line unit.now)) }
+    ensures { OnOk result (out.new.items ≡ out.old.items
+        ++ line (indent 1 ++ codes "Unit " ++ decimal number ++ codes ": " ++ head_line unit.now)) }
 {
     push_indent(out, 1)?;
     push(out, "Unit ")?;

@@ -12,7 +12,8 @@ ghost use Rattle.tree_core.specs.Spans.{number};
 ghost use Rattle.office_core.specs.Soundness.{AreGoodDays, AreGoodSettings, IsSound, NamesDays};
 ghost use Rattle.office_core.specs.Imported.{ImportsBringTheNew, ImportsKeepTheCatalogue};
 ghost use Rattle.office_core.specs.Secrecy.{SamePublic, AnswersAlike, ShowsOnlyPublished};
-ghost use Rattle.office_core.specs.Laws.{OutApart, GoesOn, IssuesTheFirst, OpenToHolders, ImportsAgain, Kind, all_given, ComesNew};
+ghost use Rattle.office_core.specs.Laws.{OutApart, GoesOn, IssuesTheFirst, OpenToHolders};
+ghost use Rattle.office_core.specs.Laws.{ImportsAgain, Kind, all_given, ComesNew};
 
 /// The reading room of a new office is sound, and it stays sound.
 pub fn desk_stays_sound()
@@ -44,7 +45,8 @@ pub fn open_to_holders()
 
 /// No number of a ticket, an order, a run, a container or a unit is given twice.
 pub fn given_once()
-    ensures { (kind : Kind) (s : State) (commands : List Command) → IsSoundDesk s → IsAscending (all_given kind s commands) }
+    ensures { (kind : Kind) (s : State) (commands : List Command) → IsSoundDesk s →
+        IsAscending (all_given kind s commands) }
 {}
 
 /// Two offices whose public parts are equal give equal answers to the public's questions.
@@ -69,7 +71,8 @@ pub fn units_come_new()
 
 /// Every day that is kept stays a day of the calendar, where the commands name such days.
 pub fn days_stay_days()
-    ensures { (s : State) (commands : List Command) → AllByRecursion NamesDays commands → AreGoodDays s → AreGoodDays (state_after s commands) }
+    ensures { (s : State) (commands : List Command) → AllByRecursion NamesDays commands →
+        AreGoodDays s → AreGoodDays (state_after s commands) }
 {}
 
 /// No command changes the settings.
@@ -79,7 +82,8 @@ pub fn settings_stay()
 
 /// A new office is sound, whole, where its settings and its day are good.
 pub fn starts_sound()
-    ensures { (settings : Settings) (day : ℤ) → AreGoodSettings settings → IsDayNumber day → IsSound (start settings day) }
+    ensures { (settings : Settings) (day : ℤ) → AreGoodSettings settings → IsDayNumber day →
+        IsSound (start settings day) }
 {}
 
 /// An import leaves the units, the containers and the permits of a sound state sound, whatever the file says.
@@ -94,5 +98,6 @@ pub fn imports_bring_the_new()
 
 /// A sound office stays sound, whole, over every list of commands that name days.
 pub fn stays_sound()
-    ensures { (s : State) (commands : List Command) → AllByRecursion NamesDays commands → IsSound s → IsSound (state_after s commands) }
+    ensures { (s : State) (commands : List Command) → AllByRecursion NamesDays commands → IsSound s →
+        IsSound (state_after s commands) }
 {}

@@ -10,8 +10,8 @@ pub fn sound_desks_pass()
     ensures { (version : Version) (s : State) → SoundTablesPass version s }
 {}
 
-/// Where the catalogue is good, rows that meet the keys and have none of these causes say a sound desk, which shows just
-/// those rows of the desk.
+/// Where the catalogue is good, rows that meet the keys and have none of these causes say a sound desk, which
+/// shows just those rows of the desk.
 pub fn passing_desks_are_sound()
     ensures { (version : Version) (t : Rows) → PassingRowsAreSound version t }
 {}

@@ -1,5 +1,6 @@
 //! The numbers of a file's containers.
-ghost use Rattle.std.specs.Prelude.{◌≡◌, ◌+◌, ◌++◌, ◌∷◌, [], IfOk, OnOk, None, Some, if◌then◌else◌, List};
+ghost use Rattle.std.specs.Prelude.{◌≡◌, ◌+◌, ◌++◌, ◌∷◌, [], if◌then◌else◌, List};
+ghost use Rattle.std.specs.Prelude.{IfOk, OnOk, None, Some};
 ghost use Rattle.std.specs.BTreeMap.{btree_map_len};
 ghost use Rattle.std.specs.List.{flat_map};
 ghost use Rattle.isad_core.specs.declared.values.BoxKey as spec;
@@ -39,7 +40,8 @@ pub fn number_of<'a>(numbers: &Numbers<'a>, container: &'a BoxKey) -> Option<u64
 
 /// Numbers the containers of a row.
 fn number_row<'a>(numbers: &mut Numbers<'a>, boxes: &'a [BoxKey]) -> Result<(), AllocError>
-    ensures { OnOk result ((seen : List spec.BoxKey) → AreNumbered seen numbers.old → AreNumbered (seen ++ boxes.now) numbers.new) }
+    ensures { OnOk result ((seen : List spec.BoxKey) →
+        AreNumbered seen numbers.old → AreNumbered (seen ++ boxes.now) numbers.new) }
 {
     for container in boxes {
         number_box(numbers, container)?;
@@ -49,7 +51,8 @@ fn number_row<'a>(numbers: &mut Numbers<'a>, boxes: &'a [BoxKey]) -> Result<(), 
 
 /// Gives a container the next number, unless it has one.
 fn number_box<'a>(numbers: &mut Numbers<'a>, container: &'a BoxKey) -> Result<(), AllocError>
-    ensures { OnOk result ((seen : List spec.BoxKey) → AreNumbered seen numbers.old → AreNumbered (seen ++ container.now ∷ []) numbers.new) }
+    ensures { OnOk result ((seen : List spec.BoxKey) →
+        AreNumbered seen numbers.old → AreNumbered (seen ++ container.now ∷ []) numbers.new) }
 {
     if number_of(numbers, container).is_some() {
         return Ok(());
@@ -64,8 +67,10 @@ fn set_number<'a>(
     container: &'a BoxKey,
     number: u64,
 ) -> Result<(), AllocError>
-    ensures set { OnOk result ((q : spec.BoxKey) → number_at numbers.new q ≡ (if is_same container.now q then Some number else number_at numbers.old q)) }
-    ensures count { OnOk result (number_at numbers.old container.now ≡ None → btree_map_len numbers.new ≡ btree_map_len numbers.old + 1) }
+    ensures set { OnOk result ((q : spec.BoxKey) → number_at numbers.new q
+        ≡ (if is_same container.now q then Some number else number_at numbers.old q)) }
+    ensures count { OnOk result (number_at numbers.old container.now ≡ None →
+        btree_map_len numbers.new ≡ btree_map_len numbers.old + 1) }
 {
     let texts = (
         container.name.as_str(),

@@ -1,5 +1,6 @@
 //! Where the rows of a file stand.
-ghost use Rattle.std.specs.Prelude.{◌≡◌, ◌≤◌, ◌∷◌, [], ℕ, Bool, IfOk, IfErr, OnOk, Some, option_copied, if◌then◌else◌};
+ghost use Rattle.std.specs.Prelude.{◌≡◌, ◌≤◌, ◌∷◌, [], ℕ, Bool, if◌then◌else◌};
+ghost use Rattle.std.specs.Prelude.{IfOk, IfErr, OnOk, Some, option_copied};
 ghost use Rattle.std.specs.BTreeMap.{get_by_text};
 ghost use Rattle.std.specs.List.{All};
 ghost use Rattle.std.specs.Str.{bytes_eq};
@@ -35,7 +36,8 @@ pub fn place_rows(alloc: Global, rows: &[Row]) -> Result<Vec<Place>, FileFault>
     ensures none_bad { IfOk result (λ places. faults rows.now ≡ []) }
     ensures places { IfOk result (λ places. ArePlaced rows.now places.items) }
     ensures shallow { IfOk result (λ places. All (λ place. place.depth ≤ most_deep) places.items) }
-    ensures bad { IfErr result (λ e. IsBad e (λ row cause. (later : _) × (faults rows.now ≡ (row, cause) ∷ later))) }
+    ensures bad { IfErr result (λ e. IsBad e (λ row cause.
+        (later : _) × (faults rows.now ≡ (row, cause) ∷ later))) }
 {
     let mut known: Known = BTreeMap::new(alloc);
     let mut places = Vec::new(alloc);
@@ -98,7 +100,8 @@ fn place_at(places: &[Place], index: usize) -> Option<Place>
 /// Keeps the index of a row.
 #[tactic(auto, using(std::proofs::lemmas::Map::Text::text_keys))]
 fn remember(known: &mut Known, alloc: Global, legacy: &Text, index: usize) -> Result<(), AllocError>
-    ensures { OnOk result ((q : Bytes) → get_by_text known.new q ≡ (if bytes_eq q legacy.now then Some index else get_by_text known.old q)) }
+    ensures { OnOk result ((q : Bytes) → get_by_text known.new q
+        ≡ (if bytes_eq q legacy.now then Some index else get_by_text known.old q)) }
 {
     let key = String::from_str(alloc, legacy.as_str())?;
     known.insert(key, index)?;

@@ -1,5 +1,6 @@
 //! The forest of a file's rows.
-ghost use Rattle.std.specs.Prelude.{◌≡◌, ◌≤◌, ◌<◌, ◌++◌, ◌∷◌, ℕ, [], IfOk, OnOk, None, Option, length, map, nat_eq, slice_get, if◌then◌else◌};
+ghost use Rattle.std.specs.Prelude.{◌≡◌, ◌≤◌, ◌<◌, ◌++◌, ◌∷◌, ℕ, [], if◌then◌else◌};
+ghost use Rattle.std.specs.Prelude.{IfOk, OnOk, None, Option, length, map, nat_eq, slice_get};
 ghost use Rattle.std.specs.List.{All};
 ghost use Rattle.std.specs.Option.{option_eq};
 ghost use Rattle.catalogue_core.specs.Merging.{numbered_from};
@@ -37,7 +38,8 @@ pub fn plant<'a>(
 ) -> Result<Vec<Tree<'a>>, AllocError>
     requires placed { ArePlaced rows.now places.now }
     requires shallow { All (λ place. place.depth ≤ most_deep) places.now }
-    ensures grove { IfOk result (λ tops. grove tops.items ≡ seen_below None (numbered_from Empty [] 1 [] rows.now)) }
+    ensures grove { IfOk result (λ tops. grove tops.items
+        ≡ seen_below None (numbered_from Empty [] 1 [] rows.now)) }
     ensures low { IfOk result (λ tops. height_of_all tops.items ≤ most_deep) }
 {
     let mut slots = bare_slots(alloc, places)?;
@@ -83,8 +85,12 @@ fn put<'a>(
     tree: Tree<'a>,
 ) -> Result<(), AllocError>
     requires { IsBelow (length slots.old.items) parent }
-    ensures places { OnOk result (map (λ slot. slot.place) slots.new.items ≡ map (λ slot. slot.place) slots.old.items) }
-    ensures ok { OnOk result ((p : Option ℕ) → grown_at slots.new.items tops.new.items p ≡ (if option_eq nat_eq parent p then grown_at slots.old.items tops.old.items p ++ tree.entry ∷ [] else grown_at slots.old.items tops.old.items p)) }
+    ensures places { OnOk result (map (λ slot. slot.place) slots.new.items
+        ≡ map (λ slot. slot.place) slots.old.items) }
+    ensures ok { OnOk result ((p : Option ℕ) → grown_at slots.new.items tops.new.items p
+        ≡ (if option_eq nat_eq parent p
+        then grown_at slots.old.items tops.old.items p ++ tree.entry ∷ []
+        else grown_at slots.old.items tops.old.items p)) }
 {
     match parent {
         None => tops.push(tree)?,
@@ -96,8 +102,12 @@ fn put<'a>(
 /// Puts a tree below the row with this index.
 fn put_at<'a>(slots: &mut Vec<Slot<'a>>, index: usize, tree: Tree<'a>) -> Result<(), AllocError>
     requires { index < length slots.old.items }
-    ensures places { OnOk result (map (λ slot. slot.place) slots.new.items ≡ map (λ slot. slot.place) slots.old.items) }
-    ensures ok { OnOk result ((j : ℕ) → children_at slots.new.items j ≡ (if nat_eq index j then children_at slots.old.items j ++ tree.entry ∷ [] else children_at slots.old.items j)) }
+    ensures places { OnOk result (map (λ slot. slot.place) slots.new.items
+        ≡ map (λ slot. slot.place) slots.old.items) }
+    ensures ok { OnOk result ((j : ℕ) → children_at slots.new.items j
+        ≡ (if nat_eq index j
+        then children_at slots.old.items j ++ tree.entry ∷ []
+        else children_at slots.old.items j)) }
 {
     let slot = &mut slots[index];
     slot.children.push(tree)?;

@@ -1,5 +1,6 @@
 //! The finding aids of a file's trees.
-ghost use Rattle.std.specs.Prelude.{◌≡◌, ◌≤◌, ◌+◌, ◌++◌, ◌∷◌, [], IfOk, OnOk, List, map, option_copied, unwrap_or};
+ghost use Rattle.std.specs.Prelude.{◌≡◌, ◌≤◌, ◌+◌, ◌++◌, ◌∷◌, []};
+ghost use Rattle.std.specs.Prelude.{IfOk, OnOk, List, map, option_copied, unwrap_or};
 ghost use Rattle.isad_core.specs.Limits.{most_deep};
 ghost use Rattle.isad_core.specs.Printed.{aid, unit_lines};
 ghost use Rattle.finding_aids.specs.Planting.{grove, height_of_all};
@@ -24,7 +25,9 @@ pub struct Printer<'a> {
 impl<'a> Printer<'a> {
     /// What is shown of a unit, where `ids` are the identifiers from the top down to it.
     fn shown(&self, ids: &[Text], depth: u32, values: &'a Values) -> Result<Shown, AllocError>
-        ensures { IfOk result (λ shown. shown ≡ shown_told (record { country = self.now.country.now; repo = self.now.repo.now }) (number_by self.now.numbers) ids.now depth values.now) }
+        ensures { IfOk result (λ shown. shown
+            ≡ shown_told (record { country = self.now.country.now; repo = self.now.repo.now })
+            (number_by self.now.numbers) ids.now depth values.now) }
     {
         Ok(Shown {
             depth,
@@ -47,7 +50,9 @@ impl<'a> Printer<'a> {
         trees: &[Tree<'a>],
     ) -> Result<(), AllocError>
         requires { depth + height_of_all trees.now ≤ most_deep }
-        ensures printed { OnOk result (out.new.items ≡ out.old.items ++ aid (shown_by (record { country = self.now.country.now; repo = self.now.repo.now }) (number_by self.now.numbers) ids.old.items depth (grove trees.now))) }
+        ensures printed { OnOk result (out.new.items ≡ out.old.items
+            ++ aid (shown_by (record { country = self.now.country.now; repo = self.now.repo.now })
+            (number_by self.now.numbers) ids.old.items depth (grove trees.now))) }
         ensures ids { OnOk result (ids.new.items ≡ ids.old.items) }
     {
         for tree in trees {
@@ -67,7 +72,9 @@ impl<'a> Printer<'a> {
         depth: u32,
         values: &'a Values,
     ) -> Result<(), AllocError>
-        ensures { OnOk result (out.new.items ≡ out.old.items ++ unit_lines (shown_told (record { country = self.now.country.now; repo = self.now.repo.now }) (number_by self.now.numbers) ids.now depth values.now)) }
+        ensures { OnOk result (out.new.items ≡ out.old.items
+            ++ unit_lines (shown_told (record { country = self.now.country.now; repo = self.now.repo.now })
+            (number_by self.now.numbers) ids.now depth values.now)) }
     {
         let shown = self.shown(ids, depth, values)?;
         let text = aid_text(self.alloc, &[shown])?;
