@@ -4,7 +4,8 @@ use Rattle.std.specs.List.{list_any, list_all}
 use Rattle.std.proofs.lemmas.Bool.{eq-eqb, cases_Bool, false≢true}
 use Rattle.std.proofs.lemmas.List.{map-append}
 use Rattle.std.proofs.lemmas.List.Elements.{filter-append}
-use Rattle.catalogue_core.proofs.Members.{Has, some_from, has_filtered}
+use Rattle.catalogue_core.proofs.Members.{some_from, has_filtered}
+use Rattle.catalogue_core.specs.Members.{StandsIn}
 use Rattle.isad_core.specs.declared.values.BoxKey.{BoxKey}
 use Rattle.isad_core.specs.Boxes.{is_same as is_same_box}
 use Rattle.tree_core.specs.Forest.{Forest, Empty, Node, nodes, each, has, path, tree, HasDistinctIds}
@@ -28,7 +29,7 @@ all_map : {A B : Type 0} (p : B → Bool) (g : A → B) (xs : List A) → list_a
 all_map p g [] = refl
 all_map p g (x ∷ xs) = ap (λ b. p (g x) && b) (all_map p g xs)
 
-all_agree : {A : Type 0} (p q : A → Bool) (xs : List A) → ((x : A) → Has xs x → p x ≡ q x) → list_all p xs ≡ list_all q xs
+all_agree : {A : Type 0} (p q : A → Bool) (xs : List A) → ((x : A) → StandsIn x xs → p x ≡ q x) → list_all p xs ≡ list_all q xs
 all_agree p q [] h = refl
 all_agree p q (x ∷ xs) h = ap₂ ◌&&◌ (h x (inl refl)) (all_agree p q xs (λ y i. h y (inr i)))
 
@@ -278,7 +279,7 @@ module _ (box : BoxKey) (today : ℤ) where
       ∙ ap (λ l. cond (names_it a) (clean_of A g a) true && list_all (clean_of A g) l) (filter-append names_it (nodes c) (nodes o))
       ∙ ap (λ b. cond (names_it a) (clean_of A g a) true && b) (list_all-append (clean_of A g) (filter names_it (nodes c)) (filter names_it (nodes o))))
     where
-      in_part : (u : Unit) (g : Forest Unit) → Has (nodes g) u → has (has_id u.id) g ≡ true
+      in_part : (u : Unit) (g : Forest Unit) → StandsIn u (nodes g) → has (has_id u.id) g ≡ true
       in_part u g h = some_from (has_id u.id) (nodes g) u h (eq-eqb u.id u.id refl)
 
       not_first : (x : ℕ) (c o : Forest ℕ) → ((y : ℕ) → has (nat_eq y) c ≡ true → has (nat_eq y) o ≡ false) → has (nat_eq x) o ≡ true → has (nat_eq x) c ≡ false

@@ -7,3 +7,7 @@ use Rattle.catalogue_core.specs.Units.{Unit, has_id}
 -- the number of a unit of the forest that passes, or none where none does
 abbrev pub Finds : (Unit → Bool) → Forest Unit → Option ℕ → Type 0
 Finds is f found = MatchOption found (has is f ≡ false) (λ id. list_any (λ u. is u && has_id id u) (nodes f) ≡ true)
+
+-- the unit with this number is there
+abbrev pub has_unit : Forest Unit → ℕ → Bool
+has_unit f u = has (has_id u) f

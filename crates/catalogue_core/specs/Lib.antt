@@ -11,3 +11,9 @@ pub mod Marked
 pub mod OpenMarks
 pub mod Bounds
 pub mod Aids
+pub mod Sources
+pub mod Intake
+pub mod GoodCatalogues
+pub mod Members
+pub mod Published
+pub mod Pages

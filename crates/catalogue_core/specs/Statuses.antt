@@ -20,3 +20,7 @@ with_status ids draft c = record c { forest = each (λ u. if is_chosen ids u the
 -- a unit alone, or with all below it, in the forest of unit numbers
 abbrev pub chosen_units : Bool → ℕ → Forest ℕ → List ℕ
 chosen_units whole id f = if whole then branch (nat_eq id) f else id ∷ []
+
+-- the unit, or with `whole` each unit of its branch
+abbrev pub chosen : Bool → ℕ → Catalogue → List ℕ
+chosen whole u c = chosen_units whole u (each (λ unit. unit.id) c.forest)

@@ -24,7 +24,7 @@ pub use Rattle.office_core.specs.Rows
 pub use Rattle.office_core.specs.Sound
 pub use Rattle.office_core.specs.Laws
 pub use Rattle.office_core.specs.Json
-pub use Rattle.office_core.specs.Pages
+pub use Rattle.catalogue_core.specs.Pages
 pub use Rattle.office_core.specs.Queries
 pub use Rattle.office_core.specs.AnswerRows
 pub use Rattle.office_core.specs.Secrecy

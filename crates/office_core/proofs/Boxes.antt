@@ -7,10 +7,10 @@ use Rattle.desk_core.specs.declared.reader.Place.{Place}
 use Rattle.office_core.specs.declared.command.Command.{Command}
 use Rattle.office_core.specs.declared.command.Command.TheVariants as command
 use Rattle.office_core.specs.State.{State, container_of}
-use Rattle.office_core.specs.Intake.{Taken}
+use Rattle.catalogue_core.specs.Intake.{Taken}
 use Rattle.office_core.specs.Rules.{after, step, cancelled, issued, returned, imported, taken}
 use Rattle.office_core.proofs.Steps.{step_at}
-use Rattle.office_core.proofs.Imports.{taken_is, distinct_again}
+use Rattle.catalogue_core.proofs.Imported.{taken_is, distinct_again}
 
 -- no two containers have one name, location and kind
 AreApartBoxes : State → Type 0

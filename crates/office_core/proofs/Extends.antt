@@ -11,11 +11,11 @@ use Rattle.desk_core.specs.declared.reader.Place.{Place}
 use Rattle.office_core.specs.State.{State, Reader, Order, is_ticket, is_container, container_of}
 use Rattle.office_core.specs.declared.command.Command.{Command}
 use Rattle.office_core.specs.declared.command.Command.TheVariants as command
-use Rattle.office_core.specs.Intake.{Taken}
+use Rattle.catalogue_core.specs.Intake.{Taken}
 use Rattle.office_core.specs.Rules.{checks, after, renewed, cancelled, issued, returned, imported, taken}
 use Rattle.office_core.proofs.Words.{numbered_within, numbered-push}
 use Rattle.office_core.proofs.Steps.{held_so, Passes}
-use Rattle.office_core.proofs.Imports.{new_boxes, boxes_after}
+use Rattle.catalogue_core.proofs.Imported.{new_boxes, boxes_after}
 
 pub some_is : {X : Type 0} (o : Option X) (x : X) → o ≡ Some x → is_some o ≡ true
 some_is None x e = absurd (cc)

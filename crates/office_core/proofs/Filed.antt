@@ -11,7 +11,7 @@ use Rattle.office_core.specs.State.{State, Order, Line, Run, End, Done, Cancelle
 use Rattle.office_core.specs.declared.command.Command.{Command}
 use Rattle.office_core.specs.declared.command.Command.TheVariants as command
 use Rattle.office_core.specs.Rules.{checks, after, ordered, cancelled, fetched, reshelved, issued, returned, state_after, imported, taken}
-use Rattle.office_core.specs.Intake.{Taken}
+use Rattle.catalogue_core.specs.Intake.{Taken}
 use Rattle.office_core.specs.Sound.{ExactlyOne, IsFiled, is_out_for, IsAscending, AreFiled}
 use Rattle.office_core.proofs.Words.{same_number, other_number, put_here, put_there, put_each, stands-push, stands-without_other, stands-without_same, below_none, ascending-without, ascending-push, all_from_stands, numbered_within, numbered-push, numbered-push_last, numbered_past}
 use Rattle.office_core.proofs.Steps.{held_so, Passes, run_keeps}

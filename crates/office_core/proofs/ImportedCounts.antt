@@ -14,16 +14,19 @@ use Rattle.office_core.specs.declared.command.Command.TheVariants as command
 use Rattle.office_core.specs.declared.done.Done.{Done}
 use Rattle.office_core.specs.declared.done.Done.TheVariants as done
 use Rattle.office_core.specs.declared.done.Remark.{Remark}
-use Rattle.office_core.specs.State.{State, has_unit}
-use Rattle.office_core.specs.Intake.{Intake, Taken, is_new, told_of, bad_file}
+use Rattle.office_core.specs.State.{State}
+use Rattle.catalogue_core.specs.Finding.{has_unit}
+use Rattle.catalogue_core.specs.Intake.{Intake, Taken, is_new}
+use Rattle.office_core.specs.Intake.{told_of, bad_file}
 use Rattle.office_core.specs.Rules.{Reply, taken, imported}
-use Rattle.office_core.specs.Soundness.{AreGoodUnits, IsSound}
+use Rattle.catalogue_core.specs.GoodCatalogues.{AreGoodUnits}
+use Rattle.office_core.specs.Soundness.{IsSound}
 use Rattle.office_core.specs.Imported.{ImportsBringTheNew}
 use Rattle.catalogue_core.proofs.DistinctLists.{all_so}
 use Rattle.office_core.proofs.Steps.{step_at}
-use Rattle.office_core.proofs.Imports.{new_rows, taken_is}
-use Rattle.office_core.proofs.Comes.{length-numbered}
-use Rattle.office_core.proofs.MergedNodes.{merged_nodes, still_there}
+use Rattle.catalogue_core.proofs.Imported.{new_rows, taken_is}
+use Rattle.catalogue_core.proofs.UnitsAfter.{length-numbered}
+use Rattle.catalogue_core.proofs.MergedNodes.{merged_nodes, still_there}
 
 abbrev done_reply : Done → Reply
 done_reply d = Ok d

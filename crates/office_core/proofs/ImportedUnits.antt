@@ -1,8 +1,8 @@
 -- An accepted import keeps the catalogue's own lines of soundness.
-use Rattle.std.proofs.Common.{◌≡◌, ◌+◌, ◌<◌, ◌≤◌, true, false, not, ◌||◌, List, [], ◌∷◌, ◌++◌, length, None, Ok, Err, refl, sym, ap, subst, arith}
+use Rattle.std.proofs.Common.{◌≡◌, ◌+◌, ◌<◌, ◌≤◌, true, false, not, ◌||◌, List, [], ◌++◌, length, None, Ok, Err, refl, sym, ap, subst, arith}
 use Rattle.std.specs.Prelude.{nat_lt}
-use Rattle.std.specs.List.{list_all, flat_map, AllByRecursion}
-use Rattle.std.proofs.lemmas.Bool.{and_parts, and_from, or_parts, ltb-false, not-true}
+use Rattle.std.specs.List.{flat_map, AllByRecursion}
+use Rattle.std.proofs.lemmas.Bool.{or_parts, ltb-false}
 use Rattle.isad_core.specs.Texts.{Bytes, is_blank_text}
 use Rattle.isad_core.specs.declared.values.BoxKey.{BoxKey}
 use Rattle.atom_csv.specs.declared.file.Row.{Row}
@@ -12,25 +12,30 @@ use Rattle.desk_core.specs.declared.refusal.Refusal.TheVariants.{Full}
 use Rattle.catalogue_core.specs.Units.{Unit}
 use Rattle.catalogue_core.specs.Merging.{Catalogue, New, numbered_from, new_unit, revised, merged_forest, merged_boxes, is_known}
 use Rattle.office_core.specs.declared.command.Command.TheVariants as command
-use Rattle.office_core.specs.State.{State, has_unit}
-use Rattle.office_core.specs.Intake.{Intake, Taken, too_much, is_full}
+use Rattle.office_core.specs.State.{State}
+use Rattle.catalogue_core.specs.Finding.{has_unit}
+use Rattle.catalogue_core.specs.Intake.{Intake, Taken, is_full}
+use Rattle.office_core.specs.Intake.{too_much}
 use Rattle.isad_core.specs.Limits.{most_units, most_unit_numbers, most_containers}
-use Rattle.office_core.specs.Rules.{is_source, taken, imported, checks, after}
-use Rattle.office_core.specs.Soundness.{AreGoodUnits, AreGoodContainers, ArePermitsOfUnits, IsGoodUnit, IsSound}
+use Rattle.catalogue_core.specs.Sources.{is_source}
+use Rattle.office_core.specs.Rules.{taken, imported, checks, after}
+use Rattle.catalogue_core.specs.GoodCatalogues.{AreGoodUnits, AreGoodContainers, IsGoodUnit}
+use Rattle.office_core.specs.Soundness.{ArePermitsOfUnits, IsSound}
 use Rattle.office_core.specs.Imported.{IsSoundCatalogue, ImportsKeepTheCatalogue}
 use Rattle.office_core.proofs.Steps.{Passes, held_so, held_not, step_at}
 use Rattle.catalogue_core.proofs.EachOf.{all_and, all_append, all_distinct, all_filtered}
 use Rattle.catalogue_core.proofs.DistinctLists.{all_so}
-use Rattle.office_core.proofs.GoodRows.{IsGoodRow, good_rows}
+use Rattle.catalogue_core.proofs.GoodRows.{IsGoodRow, good_rows}
 use Rattle.catalogue_core.proofs.FileRows.{apart_rows}
-use Rattle.office_core.proofs.Imports.{new_rows, IsTaken, taken_is}
-use Rattle.office_core.proofs.Rooted.{revised_id}
-use Rattle.office_core.proofs.Again.{all_merged, numbered_rows}
-use Rattle.office_core.proofs.Comes.{ids_between}
-use Rattle.office_core.proofs.MergedNodes.{still_there}
-use Rattle.office_core.proofs.ImportedValues.{AreGoodValues, all_told, good_revised, good_new}
-use Rattle.office_core.proofs.ImportedNumbers.{distinct_numbers, distinct_pairs}
-use Rattle.office_core.proofs.ImportedDepth.{merged_depth}
+use Rattle.catalogue_core.proofs.Imported.{new_rows, IsTaken, taken_is}
+use Rattle.catalogue_core.proofs.Rooted.{revised_id}
+use Rattle.catalogue_core.proofs.ImportedAgain.{all_merged, numbered_rows}
+use Rattle.catalogue_core.proofs.UnitsAfter.{ids_between}
+use Rattle.catalogue_core.proofs.MergedNodes.{still_there}
+use Rattle.catalogue_core.proofs.ImportedValues.{AreGoodValues, all_told, good_revised, good_new}
+use Rattle.catalogue_core.proofs.ImportedNumbers.{distinct_numbers, distinct_pairs}
+use Rattle.catalogue_core.proofs.ImportedDepth.{merged_depth}
+use Rattle.catalogue_core.proofs.NamedBoxes.{named_from, named_all, named_told}
 
 -- ---- what the refusals leave
 
@@ -39,22 +44,6 @@ room c h =
     let a = or_parts (nat_lt most_units (size c.forest)) (nat_lt (most_unit_numbers + 1) c.next || nat_lt most_containers (length c.containers)) (held_not (is_full c) Full h) in
     let b = or_parts (nat_lt (most_unit_numbers + 1) c.next) (nat_lt most_containers (length c.containers)) a.1 in
     (ltb-false most_units (size c.forest) a.0, ltb-false (most_unit_numbers + 1) c.next b.0, ltb-false most_containers (length c.containers) b.1)
-
--- ---- containers
-
-named_from : (boxes : List BoxKey) → list_all (λ box. not (is_blank_text box.name)) boxes ≡ true → AllByRecursion (λ (box : BoxKey). is_blank_text box.name ≡ false) boxes
-named_from [] h = tt
-named_from (box ∷ boxes) h =
-    let r = and_parts (not (is_blank_text box.name)) (list_all (λ (box : BoxKey). not (is_blank_text box.name)) boxes) h in
-    (not-true (is_blank_text box.name) r.0, named_from boxes r.1)
-
-named_all : (boxes : List BoxKey) → AllByRecursion (λ (box : BoxKey). is_blank_text box.name ≡ false) boxes → list_all (λ (box : BoxKey). not (is_blank_text box.name)) boxes ≡ true
-named_all [] h = refl
-named_all (box ∷ boxes) h = and_from (not (is_blank_text box.name)) (list_all (λ (box : BoxKey). not (is_blank_text box.name)) boxes) (ap not h.0) (named_all boxes h.1)
-
-named_told : (rows : List Row) → AllByRecursion IsGoodRow rows → AllByRecursion (λ (box : BoxKey). is_blank_text box.name ≡ false) (flat_map (λ (row : Row). row.values.boxes) rows)
-named_told [] h = tt
-named_told (row ∷ rows) h = all_append (λ (box : BoxKey). is_blank_text box.name ≡ false) row.values.boxes (flat_map (λ (row : Row). row.values.boxes) rows) h.0.named (named_told rows h.1)
 
 -- ---- a sound state and a file that it takes
 

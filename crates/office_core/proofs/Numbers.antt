@@ -11,13 +11,13 @@ use Rattle.office_core.specs.Rules.{after, told, step, renewed, cancelled, issue
 use Rattle.isad_core.specs.Texts.{Bytes}
 use Rattle.isad_core.specs.Boxes.{distinct}
 use Rattle.desk_core.specs.declared.refusal.Refusal.{Refusal}
-use Rattle.office_core.specs.Intake.{Taken}
+use Rattle.catalogue_core.specs.Intake.{Taken}
 use Rattle.office_core.specs.Sound.{IsAscending}
 use Rattle.office_core.specs.Laws.{Kind, Tickets, Orders, Runs, Containers, Units, numbers_from, ticket_given, order_given, run_given, given, all_given}
 use Rattle.catalogue_core.proofs.EachOf.{all_append}
 use Rattle.catalogue_core.proofs.DistinctLists.{all_so}
 use Rattle.office_core.proofs.Steps.{step_at}
-use Rattle.office_core.proofs.Imports.{new_boxes, boxes_after, next_after}
+use Rattle.catalogue_core.proofs.Imported.{new_boxes, boxes_after, next_after}
 use Rattle.office_core.proofs.Boxes.{step_apart}
 
 -- the next number that will be given

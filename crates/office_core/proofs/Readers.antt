@@ -9,12 +9,13 @@ use Rattle.catalogue_core.specs.Units.{has_id}
 use Rattle.isad_core.specs.Boxes.{distinct}
 use Rattle.desk_core.specs.declared.reader.Place.TheVariants.{Shelf, Desk, Out}
 use Rattle.desk_core.specs.declared.reader.Place.{Place}
-use Rattle.office_core.specs.State.{State, Reader, Permit, has_unit, container_of, is_ticket, has_permit, granted, revoked}
+use Rattle.office_core.specs.State.{State, Reader, Permit, container_of, is_ticket, has_permit, granted, revoked}
+use Rattle.catalogue_core.specs.Finding.{has_unit}
 use Rattle.office_core.specs.declared.command.Command.{Command}
 use Rattle.office_core.specs.declared.command.Command.TheVariants as command
 use Rattle.isad_core.specs.Limits.{most_tickets, most_permits}
 use Rattle.office_core.specs.Rules.{is_name, renewed, checks, after, cancelled, issued, returned, imported, taken, removed}
-use Rattle.office_core.specs.Intake.{Taken}
+use Rattle.catalogue_core.specs.Intake.{Taken}
 use Rattle.office_core.specs.Sound.{AreGoodReaders, ByUnit, AreGoodPermits}
 use Rattle.office_core.proofs.Words.{put_each, numbered-push, numbered-push_last, other_number}
 use Rattle.office_core.proofs.Steps.{held_so, held_not, Passes}

@@ -12,7 +12,7 @@ use Rattle.office_core.specs.declared.command.Command.TheVariants as command
 use Rattle.isad_core.specs.Limits.{most_runs}
 use Rattle.office_core.specs.Rules.{checks, after, fetched, cancelled, issued, returned, imported, taken}
 use Rattle.isad_core.specs.Boxes.{distinct}
-use Rattle.office_core.specs.Intake.{Taken}
+use Rattle.catalogue_core.specs.Intake.{Taken}
 use Rattle.office_core.specs.Sound.{IsAscending, IsGoodLine, AreApart, IsGoodRun, AreGoodRuns}
 use Rattle.office_core.proofs.Words.{same_number, all-push, ascending-push, numbered-push, numbered-push_last}
 use Rattle.office_core.proofs.Steps.{held_not, Passes}

@@ -1,39 +1,37 @@
 -- A sound state stays sound.
-use Rattle.std.proofs.Common.{◌≡◌, ℕ, Bool, true, false, not, cond, List, [], ◌∷◌, Option, Some, None, refl, sym, ap, ◌∙◌, subst}
+use Rattle.std.proofs.Common.{◌≡◌, ℕ, true, not, List, [], ◌∷◌, Option, Some, None, refl, sym, ap, ◌∙◌, subst}
 use Rattle.std.specs.Prelude.{ℤ, nat_eq, nat_lt}
 use Rattle.std.specs.List.{AllByRecursion}
 use Rattle.std.proofs.lemmas.Bool.{ltb-false}
 use Rattle.std.proofs.lemmas.List.Sorted.{list_any-IsPermutation}
-use Rattle.catalogue_core.specs.Merging.{Catalogue}
-use Rattle.tree_core.specs.Forest.{Forest, nodes, each, has_place, cut, move_last}
+use Rattle.tree_core.specs.Forest.{nodes, each, has_place, cut, move_last}
 use Rattle.desk_core.specs.declared.reader.Place.{Place}
 use Rattle.desk_core.specs.declared.reader.Place.TheVariants.{Shelf, Desk, Out}
 use Rattle.catalogue_core.specs.Units.{Unit, has_id}
-use Rattle.catalogue_core.specs.Statuses.{is_chosen}
+use Rattle.catalogue_core.specs.Statuses.{chosen}
 use Rattle.office_core.specs.declared.command.Command.{Command}
 use Rattle.office_core.specs.declared.command.Command.TheVariants as command
 use Rattle.office_core.specs.Words.{put}
-use Rattle.office_core.specs.State.{State, Permit, has_unit, container_of, granted, revoked}
+use Rattle.office_core.specs.State.{State, Permit, container_of, granted, revoked}
+use Rattle.catalogue_core.specs.Finding.{has_unit}
 use Rattle.isad_core.specs.Limits.{most_deep}
-use Rattle.office_core.specs.Rules.{depth_after, is_into_itself, checks, after, removed, cancelled, issued, returned, chosen, state_after}
-use Rattle.office_core.specs.Soundness.{AreGoodSettings, AreGoodUnits, AreGoodContainers, ArePermitsOfUnits, IsSound, NamesDays}
+use Rattle.catalogue_core.specs.Moves.{depth_after, is_into_itself}
+use Rattle.office_core.specs.Rules.{checks, after, removed, cancelled, issued, returned, state_after}
+use Rattle.office_core.specs.Soundness.{AreGoodSettings, ArePermitsOfUnits, IsSound, NamesDays}
+use Rattle.catalogue_core.specs.GoodCatalogues.{AreGoodUnits, AreGoodContainers}
 use Rattle.office_core.specs.Imported.{IsSoundCatalogue}
 use Rattle.office_core.proofs.Steps.{Passes, held_so, held_not, run_keeps_if}
 use Rattle.office_core.proofs.Extends.{extends_after}
-use Rattle.office_core.proofs.Again.{all_filtered}
-use Rattle.office_core.proofs.Comes.{each_units}
+use Rattle.catalogue_core.proofs.EachOf.{all_filtered}
+use Rattle.catalogue_core.proofs.UnitsAfter.{each_units}
 use Rattle.catalogue_core.proofs.DistinctLists.{all_so}
 use Rattle.office_core.proofs.Days.{days_after}
 use Rattle.office_core.proofs.Readers.{all_granted, all_passing}
 use Rattle.office_core.proofs.Words.{put_each}
 use Rattle.office_core.proofs.Soundness.{desk_after}
 use Rattle.office_core.proofs.ImportedUnits.{import_keeps_units}
-use Rattle.office_core.proofs.Catalogues.{KeepsUnits, each_good, cut_good, CanMove, move_same, move_good}
-
--- ---- commands that leave the catalogue
-
-same_containers : (c : Catalogue) (f : Forest Unit) → AreGoodContainers c → AreGoodContainers (record c { forest = f })
-same_containers c f h = record { named = h.named; few = h.few }
+use Rattle.catalogue_core.proofs.GoodChanges.{KeepsUnits, each_good, cut_good, CanMove, move_same, move_good}
+use Rattle.catalogue_core.proofs.KeptUnits.{same_containers, status_keeps, closure_keeps}
 
 permits_there : (s t : State) → t.permits ≡ s.permits → ((v : ℕ) → has_unit s.catalogue.forest v ≡ true → has_unit t.catalogue.forest v ≡ true) → ArePermitsOfUnits s → ArePermitsOfUnits t
 permits_there s t e f g n =
@@ -60,34 +58,6 @@ returned_good : (s : State) (c : ℕ) (p : Place) → IsSoundCatalogue s → IsS
 returned_good s c Shelf g = g
 returned_good s c Desk g = g
 returned_good s c (Out o) g = good_same s (returned s c (Out o)) refl refl g
-
--- ---- commands that change it
-
-status_keeps : (ids : List ℕ) (draft : Bool) → KeepsUnits (λ (unit : Unit). cond (is_chosen ids unit) (record unit { draft = draft }) unit)
-status_keeps ids draft =
-    record {
-      id = λ unit. (at (is_chosen ids unit) unit).0;
-      source = λ unit. (at (is_chosen ids unit) unit).1;
-      legacy = λ unit. (at (is_chosen ids unit) unit).2;
-      values = λ unit. (at (is_chosen ids unit) unit).3;
-    }
-  where
-    at : (b : Bool) (unit : Unit) → let new : Unit = cond b (record unit { draft = draft }) unit in (new.id ≡ unit.id) × (new.source ≡ unit.source) × (new.legacy ≡ unit.legacy) × (new.values ≡ unit.values)
-    at true unit = (refl, refl, refl, refl)
-    at false unit = (refl, refl, refl, refl)
-
-closure_keeps : (until : Option ℤ) (u : ℕ) → KeepsUnits (λ (unit : Unit). cond (has_id u unit) (record unit { until = until }) unit)
-closure_keeps until u =
-    record {
-      id = λ unit. (at (has_id u unit) unit).0;
-      source = λ unit. (at (has_id u unit) unit).1;
-      legacy = λ unit. (at (has_id u unit) unit).2;
-      values = λ unit. (at (has_id u unit) unit).3;
-    }
-  where
-    at : (b : Bool) (unit : Unit) → let new : Unit = cond b (record unit { until = until }) unit in (new.id ≡ unit.id) × (new.source ≡ unit.source) × (new.legacy ≡ unit.legacy) × (new.values ≡ unit.values)
-    at true unit = (refl, refl, refl, refl)
-    at false unit = (refl, refl, refl, refl)
 
 changed_good : (s : State) (g : Unit → Unit) → KeepsUnits g → IsSoundCatalogue s → IsSoundCatalogue (record s { catalogue = record s.catalogue { forest = each g s.catalogue.forest } })
 changed_good s g k h =

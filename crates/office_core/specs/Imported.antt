@@ -5,9 +5,11 @@ use Rattle.tree_core.specs.Forest.{size}
 use Rattle.office_core.specs.declared.command.Command.TheVariants as command
 use Rattle.office_core.specs.declared.done.Done.TheVariants as done
 use Rattle.office_core.specs.declared.done.Remark.{Remark}
-use Rattle.office_core.specs.State.{State, has_unit}
+use Rattle.office_core.specs.State.{State}
+use Rattle.catalogue_core.specs.Finding.{has_unit}
 use Rattle.office_core.specs.Rules.{step}
-use Rattle.office_core.specs.Soundness.{AreGoodUnits, AreGoodContainers, ArePermitsOfUnits}
+use Rattle.catalogue_core.specs.GoodCatalogues.{AreGoodUnits, AreGoodContainers}
+use Rattle.office_core.specs.Soundness.{ArePermitsOfUnits}
 
 -- the catalogue's own lines of soundness
 pub record IsSoundCatalogue (s : State) : Type 0 where

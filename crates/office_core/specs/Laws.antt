@@ -1,7 +1,8 @@
 -- What the rules keep.
 use Rattle.std.specs.Prelude.{◌≡◌, ◌≢◌, ℕ, zero, suc, ◌-◌, ◌<◌, ◌≤◌, Bool, true, cond, List, [], ◌∷◌, ◌++◌, length, Option, Some, None, Ok, option_map, option_to_list, ◌⊎◌}
 use Rattle.office_core.specs.Words.{numbered, stands}
-use Rattle.office_core.specs.State.{Order, End, Done, Cancelled, State, has_unit, container_of, order_out, is_by}
+use Rattle.office_core.specs.State.{Order, End, Done, Cancelled, State, container_of, order_out, is_by}
+use Rattle.catalogue_core.specs.Finding.{has_unit}
 use Rattle.office_core.specs.Sound.{is_out_for, IsGoodHolder}
 use Rattle.office_core.specs.declared.command.Command.{Command}
 use Rattle.office_core.specs.declared.command.Command.TheVariants as command

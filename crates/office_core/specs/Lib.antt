@@ -7,7 +7,6 @@ pub mod Rules
 pub mod Sound
 pub mod Laws
 pub mod Json
-pub mod Pages
 pub mod Queries
 pub mod AnswerRows
 pub mod Secrecy

@@ -21,7 +21,7 @@ use Rattle.office_core.specs.declared.query.Answer.TheVariants.{Text, Json, Unkn
 use Rattle.office_core.specs.Words.{numbered, numbers_to, some_and}
 use Rattle.office_core.specs.State.{Reader, Line, Run, Permit, State, is_by, waits, container_of, order_out, seat_of, containers}
 use Rattle.office_core.specs.Json.{count, date, list, or_null, fields}
-use Rattle.office_core.specs.Pages.{Press, is_numbered, fonds_text, aid_of, page_of}
+use Rattle.catalogue_core.specs.Pages.{Press, is_numbered, fonds_text, aid_of, page_of}
 
 -- ---- what the public asks: it is answered from what the public may know of the forest
 

@@ -1,27 +1,29 @@
 -- The rules of the office: what each command asks for, in order, what it does, and what is told of it.
-use Rattle.std.specs.Prelude.{option_map, ℕ, ℤ, int_lt, zero, suc, ◌+◌, Bool, not, ◌&&◌, ◌||◌, cond, List, [], ◌∷◌, ◌++◌, length, filter, replicate, Option, Some, None, Result, Ok, Err, unwrap_or, is_some, nat_eq, nat_lt, nat_le, max}
+use Rattle.std.specs.Prelude.{option_map, ℕ, ℤ, int_lt, zero, suc, ◌+◌, Bool, not, ◌&&◌, cond, List, [], ◌∷◌, ◌++◌, length, filter, replicate, Option, Some, None, Result, Ok, Err, unwrap_or, is_some, nat_eq, nat_lt, nat_le}
 use Rattle.std.specs.List.{list_any, list_all}
 use Rattle.isad_core.specs.Limits.{most_deep, most_tickets, most_runs, most_permits}
 use Rattle.isad_core.specs.Texts.{Bytes, is_blank_text}
-use Rattle.tree_core.specs.Forest.{Forest, Empty, Node, each, path, tree, branch, has_place}
+use Rattle.tree_core.specs.Forest.{branch, has_place}
 use Rattle.desk_core.specs.Checks.{order_checks, issue_checks, take_seat_checks, leave_seat_checks}
 use Rattle.desk_core.specs.Refusals.{Check, when, unless, first_that_holds}
 use Rattle.desk_core.specs.declared.reader.Place.{Place}
 use Rattle.desk_core.specs.declared.reader.Place.TheVariants.{Shelf, Desk, Out}
 use Rattle.desk_core.specs.declared.refusal.Refusal.{Refusal}
 use Rattle.desk_core.specs.declared.refusal.Refusal.TheVariants.{UnknownUnit, UnknownTicket, UnknownContainer, UnknownOrder, OrderNotWaiting, NotIssued, DayNotLater, StillIssued, IntoItself, WithReader, Full, NothingToMove, TooDeep, BadName, NoPermit}
-use Rattle.catalogue_core.specs.Units.{Unit, has_id}
-use Rattle.catalogue_core.specs.Merging.{Catalogue}
-use Rattle.catalogue_core.specs.Moves.{with_moved, without_branch}
-use Rattle.catalogue_core.specs.Statuses.{chosen_units, with_closure, with_status}
+use Rattle.catalogue_core.specs.Units.{has_id}
+use Rattle.catalogue_core.specs.Moves.{with_moved, without_branch, is_into_itself, depth_after}
+use Rattle.catalogue_core.specs.Statuses.{with_closure, with_status, chosen}
 use Rattle.office_core.specs.declared.command.Command.{Command}
 use Rattle.office_core.specs.declared.command.Command.TheVariants as command
 use Rattle.office_core.specs.declared.done.Done.{Done}
 use Rattle.office_core.specs.declared.done.Done.TheVariants as done
 use Rattle.office_core.specs.Words.{numbered, put, some_and, first_that, first, is_empty, stands, without}
-use Rattle.office_core.specs.State.{Reader, State, has_unit, is_ticket, is_expired, is_seated, seat_of, free_seat, sit, rise, containers, is_container, opens, container_of, is_by, order_out, is_desk, is_out, held, waits, has_ordered, placed, picked, next_run, brings, idle, has_permit, granted, revoked, granted_until}
+use Rattle.office_core.specs.State.{Reader, State, is_ticket, is_expired, is_seated, seat_of, free_seat, sit, rise, containers, is_container, opens, container_of, is_by, order_out, is_desk, is_out, held, waits, has_ordered, placed, picked, next_run, brings, idle, has_permit, granted, revoked, granted_until}
+use Rattle.catalogue_core.specs.Finding.{has_unit}
 use Rattle.office_core.specs.State as state
-use Rattle.office_core.specs.Intake.{Taken, take, bad_file, too_much, told_of}
+use Rattle.catalogue_core.specs.Intake.{Taken, take}
+use Rattle.office_core.specs.Intake.{bad_file, too_much, told_of}
+use Rattle.catalogue_core.specs.Sources.{is_source}
 
 -- ---- names
 
@@ -30,18 +32,6 @@ abbrev pub is_name : Bytes → Bool
 is_name name =
     nat_le 1 (length name) && (nat_le (length name) 100
     && (not (is_blank_text name) && list_all (λ b. nat_le 32 b && not (nat_eq b 127)) name))
-
-abbrev pub is_between : ℕ → ℕ → ℕ → Bool
-is_between low high b = nat_le low b && nat_le b high
-
--- an ASCII letter, a digit, a dot, a low line or a hyphen
-abbrev pub is_source_letter : ℕ → Bool
-is_source_letter b =
-    is_between 65 90 b || (is_between 97 122 b || (is_between 48 57 b || (nat_eq b 46 || (nat_eq b 95 || nat_eq b 45))))
-
--- the name of a source: 1 to 64 of these
-abbrev pub is_source : Bytes → Bool
-is_source source = nat_le 1 (length source) && (nat_le (length source) 64 && list_all is_source_letter source)
 
 -- ---- the gate
 
@@ -58,30 +48,6 @@ kept s = first_that (is_kept_from_holder s) (containers s)
 -- the reader who has it.
 abbrev pub gate : State → Check
 gate s = option_map WithReader (kept s)
-
--- ---- changes of the catalogue
-
--- the unit, or with `whole` each unit of its branch
-abbrev pub chosen : Bool → ℕ → Catalogue → List ℕ
-chosen whole u c = chosen_units whole u (each (λ unit. unit.id) c.forest)
-
--- the parent is the unit itself, or lies below it; the place above the tops does not
-abbrev pub is_into_itself : ℕ → Option ℕ → Forest Unit → Bool
-is_into_itself u parent f = some_and (λ p. list_any (has_id p) (branch (has_id u) f)) parent
-
--- how many units stand above one another
-abbrev pub height : Forest Unit → ℕ
-height Empty = 0
-height (Node unit children others) = max (1 + height children) (height others)
-
--- how deep a unit lies: 1 for a top, and 0 for the place above the tops
-abbrev pub depth : Option ℕ → Forest Unit → ℕ
-depth None f = 0
-depth (Some u) f = length (path (has_id u) f)
-
--- how deep the lowest unit of a branch would lie below the parent
-abbrev pub depth_after : ℕ → Option ℕ → Forest Unit → ℕ
-depth_after u parent f = depth parent f + height (tree (has_id u) f)
 
 -- ---- what a command does where no check holds
 

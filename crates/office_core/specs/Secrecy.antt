@@ -1,24 +1,19 @@
 -- What the public cannot learn, and what it is shown of what.
-use Rattle.std.specs.Prelude.{◌≡◌, ◌⊎◌, ℕ, ℤ, false, cond, List, [], ◌∷◌, Option, Some, None}
-use Rattle.std.specs.List.{flat_map, list_any, AllByRecursion}
+use Rattle.std.specs.Prelude.{◌≡◌, ℕ, List, [], Some}
+use Rattle.std.specs.List.{flat_map, AllByRecursion}
 use Rattle.isad_core.specs.Texts.{Bytes}
 use Rattle.isad_core.specs.declared.shown.Page.{Page}
 use Rattle.isad_core.specs.declared.shown.Shown.{Shown}
-use Rattle.isad_core.specs.declared.values.BoxKey.{BoxKey}
 use Rattle.tree_core.specs.Forest.{nodes}
 use Rattle.catalogue_core.specs.Merging.{box_number}
-use Rattle.catalogue_core.specs.Units.{Unit, is_closed}
 use Rattle.catalogue_core.specs.Housing.{paths}
-use Rattle.catalogue_core.specs.Publishing.{PublicUnit, Told, Stub, stub_of}
+use Rattle.catalogue_core.specs.Publishing.{PublicUnit}
 use Rattle.office_core.specs.declared.query.Query.TheVariants as query
 use Rattle.office_core.specs.State.{State}
 use Rattle.catalogue_core.specs.Aids.{shown_unit}
-use Rattle.office_core.specs.Pages.{before_last, side_by_side, aid_units, page_of}
+use Rattle.catalogue_core.specs.Pages.{side_by_side, aid_units, page_of}
 use Rattle.office_core.specs.Queries.{answer, press, public_forest}
-
-abbrev pub boxes_told : PublicUnit → List BoxKey
-boxes_told (Told id values) = values.boxes
-boxes_told (Stub id identifier level until) = []
+use Rattle.catalogue_core.specs.Published.{boxes_told, IsPublished}
 
 -- the public parts of two offices are the same: whose archives they are, the day, what the public may know of the
 -- forest, and the numbers of the containers that stand in it
@@ -35,32 +30,6 @@ pub record AnswersAlike (s t : State) : Type 0 where
   pub fonds : answer s query.Fonds ≡ answer t query.Fonds
   pub aid : (u : ℕ) → answer s (query.Aid u) ≡ answer t (query.Aid u)
   pub page : (u : ℕ) → answer s (query.Page u) ≡ answer t (query.Page u)
-
--- ---- what is shown stands in what the public may know
-
--- x stands in the list
-abbrev pub StandsIn : {X : Type 0} → X → List X → Type 0
-StandsIn x [] = ⊥
-StandsIn x (y ∷ ys) = (x ≡ y) ⊎ StandsIn x ys
-
-abbrev pub last_of : List Unit → Option Unit
-last_of [] = None
-last_of (unit ∷ []) = Some unit
-last_of (unit ∷ lower ∷ way) = last_of (lower ∷ way)
-
--- what the public is told of a unit on a day: a stub where it is closed, and otherwise its values
-abbrev pub TellsOf : ℤ → Option Unit → PublicUnit → Type 0
-TellsOf day None told = ⊥
-TellsOf day (Some unit) told = told ≡ cond (is_closed day unit) (stub_of unit unit.until) (Told unit.id unit.values)
-
--- What is told is of a unit of the forest, the last of one of these paths: neither it nor a unit above it is a draft, and no
--- unit above it is closed. Where it is closed itself, its stub alone is told.
-pub record IsPublished (day : ℤ) (ways : List (List Unit)) (told : PublicUnit) : Type 0 where
-  pub way : List Unit
-  pub stands : StandsIn way ways
-  pub no_draft : list_any (λ (unit : Unit). unit.draft) way ≡ false
-  pub open_above : list_any (is_closed day) (before_last way) ≡ false
-  pub tells : TellsOf day (last_of way) told
 
 -- what is printed is what is told of such a unit
 pub record ShowsPublished (s : State) (shown : Shown) : Type 0 where

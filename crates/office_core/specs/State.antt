@@ -3,10 +3,8 @@ use Rattle.std.specs.Prelude.{ℕ, ℤ, int_lt, int_le, Bool, true, false, not, 
 use Rattle.std.specs.Ordering.{int_eq}
 use Rattle.std.specs.List.{list_any}
 use Rattle.isad_core.specs.Texts.{Bytes}
-use Rattle.tree_core.specs.Forest.{Forest, has}
 use Rattle.desk_core.specs.declared.reader.Place.{Place}
 use Rattle.desk_core.specs.declared.reader.Place.TheVariants.{Shelf, Desk, Out}
-use Rattle.catalogue_core.specs.Units.{Unit, has_id}
 use Rattle.catalogue_core.specs.Merging.{Catalogue, empty_catalogue}
 use Rattle.catalogue_core.specs.Housing.{is_open}
 use Rattle.office_core.specs.Words.{numbered, numbers_to, some_and, place_of, first, is_empty, stands}
@@ -78,11 +76,6 @@ start settings day =
       past = λ o. None;
       permits = λ t. [];
     }
-
--- ---- units
-
-abbrev pub has_unit : Forest Unit → ℕ → Bool
-has_unit f u = has (has_id u) f
 
 -- ---- readers and seats
 

@@ -10,7 +10,7 @@ use Rattle.tree_core.proofs.Lists.{In, In-append, In-map, head_apart, any_from_I
 use Rattle.catalogue_core.specs.Units.{Unit}
 use Rattle.office_rows.specs.Reading.{number_of}
 use Rattle.office_core.proofs.Words.{other_number}
-use Rattle.office_core.proofs.Imports.{distinct_filter, distinct_again}
+use Rattle.catalogue_core.proofs.Imported.{distinct_filter, distinct_again}
 use Rattle.office_rows.proofs.RowsByNumber.{each_in, in_each, in_filter}
 
 -- ---- lists of lists

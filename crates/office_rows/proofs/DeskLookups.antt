@@ -9,8 +9,9 @@ use Rattle.tree_core.specs.Forest.{nodes}
 use Rattle.tree_core.proofs.Lists.{list_any-map}
 use Rattle.catalogue_core.specs.Units.{Unit}
 use Rattle.office_core.specs.Words.{numbered, some_and}
-use Rattle.office_core.specs.State.{State, Order, is_ticket, is_container, has_unit}
-use Rattle.office_core.specs.Rules.{is_between}
+use Rattle.office_core.specs.State.{State, Order, is_ticket, is_container}
+use Rattle.catalogue_core.specs.Finding.{has_unit}
+use Rattle.catalogue_core.specs.Sources.{is_between}
 use Rattle.office_rows.specs.Tables.{ReaderRow, reader_row, OrderRow, order_row, order_rows, RunRow, run_row}
 use Rattle.tree_core.specs.Versions.{Version}
 use Rattle.office_rows.specs.Reading.{UnitRow, unit_row, ContainerRow, container_row, tables}

@@ -4,7 +4,7 @@ use Rattle.std.specs.Prelude.{map, filter, filter_map, find, nat_eq}
 use Rattle.std.specs.List.{list_any, flat_map, cons_option}
 use Rattle.std.proofs.lemmas.Bool.{eqb-true, cases_eq, false≢true}
 use Rattle.std.proofs.lemmas.List.Concat.{flat_map-cons}
-use Rattle.office_core.specs.Secrecy.{StandsIn}
+use Rattle.catalogue_core.specs.Members.{StandsIn}
 use Rattle.office_core.specs.Laws.{numbers_from}
 use Rattle.office_rows.specs.DeskCauses.{AreInOrder}
 use Rattle.office_core.proofs.Words.{same_number, other_number}

@@ -6,7 +6,7 @@ use Rattle.std.proofs.lemmas.Bool.{and_parts, and_from, or_cases, or_parts, or_f
 use Rattle.std.proofs.lemmas.List.Concat.{flat_map-cons}
 use Rattle.office_core.specs.Words.{numbers_to}
 use Rattle.office_core.specs.Laws.{numbers_from}
-use Rattle.office_core.specs.Secrecy.{StandsIn}
+use Rattle.catalogue_core.specs.Members.{StandsIn}
 
 module _ {X : Type 0} where
   pub all_in : (P : X → Type 0) (xs : List X) (x : X) → AllByRecursion P xs → StandsIn x xs → P x

@@ -12,11 +12,11 @@ use Rattle.desk_core.specs.declared.reader.Place.{Place}
 use Rattle.desk_core.specs.declared.reader.Place.TheVariants.{Shelf, Desk, Out}
 use Rattle.office_core.specs.Words.{numbered, some_and, stands}
 use Rattle.office_core.specs.State.{State, Order, End, Done, Cancelled, container_of, containers, is_container, order_out}
-use Rattle.office_core.specs.Secrecy.{StandsIn}
+use Rattle.catalogue_core.specs.Members.{StandsIn}
 use Rattle.office_core.specs.Laws.{Standing, Waiting, WithItsReader, Ended, stands_as, standing}
 use Rattle.office_core.specs.Sound.{ExactlyOne, IsFiled, is_out_for}
 use Rattle.office_core.specs.Soundness.{IsSound}
-use Rattle.office_core.specs.Rules.{is_between}
+use Rattle.catalogue_core.specs.Sources.{is_between}
 use Rattle.office_rows.specs.Tables.{rows_from, OrderRow, order_row, order_rows, state_number, HoldingRow, holding_row, holding_rows}
 use Rattle.tree_core.specs.Versions.{Version}
 use Rattle.office_rows.specs.Reading.{tables}

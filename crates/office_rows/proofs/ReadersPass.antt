@@ -8,10 +8,12 @@ use Rattle.std.proofs.lemmas.List.Sums.{length-filter}
 use Rattle.isad_core.specs.Days.{IsDayNumber, is_day_number}
 use Rattle.isad_core.proofs.DayLemmas.{is_day_number-true}
 use Rattle.office_core.specs.Words.{numbers_to}
-use Rattle.office_core.specs.State.{Permit, State, is_ticket, is_seat_of, has_unit}
-use Rattle.office_core.specs.Secrecy.{StandsIn}
+use Rattle.office_core.specs.State.{Permit, State, is_ticket, is_seat_of}
+use Rattle.catalogue_core.specs.Finding.{has_unit}
+use Rattle.catalogue_core.specs.Members.{StandsIn}
 use Rattle.office_core.specs.Soundness.{IsSound}
-use Rattle.office_core.specs.Rules.{is_name, is_between}
+use Rattle.office_core.specs.Rules.{is_name}
+use Rattle.catalogue_core.specs.Sources.{is_between}
 use Rattle.isad_core.specs.Limits.{most_tickets, most_permits}
 use Rattle.office_rows.specs.Tables.{ReaderRow, reader_row, reader_rows, SeatRow, seat_rows_from, seat_rows, PermitRow, permit_row, permit_rows}
 use Rattle.tree_core.specs.Versions.{Version}

@@ -9,7 +9,7 @@ use Rattle.isad_core.specs.Days.{IsDayNumber, is_day_number}
 use Rattle.isad_core.proofs.DayLemmas.{is_day_number-true}
 use Rattle.office_core.specs.Words.{numbered, some_and}
 use Rattle.office_core.specs.State.{State, Order, Line, Run, containers, is_seated, held, opens, order_out}
-use Rattle.office_core.specs.Secrecy.{StandsIn}
+use Rattle.catalogue_core.specs.Members.{StandsIn}
 use Rattle.office_core.specs.Sound.{IsGoodLine}
 use Rattle.office_core.specs.Soundness.{IsSound}
 use Rattle.isad_core.specs.Limits.{most_runs}

@@ -7,7 +7,7 @@ use Rattle.tree_core.proofs.Lists.{list_any-map}
 use Rattle.desk_core.specs.declared.reader.Place.TheVariants.{Shelf, Desk, Out}
 use Rattle.office_core.specs.Words.{numbered, some_and, stands}
 use Rattle.office_core.specs.State.{End, Done, Cancelled, container_of}
-use Rattle.office_core.specs.Secrecy.{StandsIn}
+use Rattle.catalogue_core.specs.Members.{StandsIn}
 use Rattle.office_core.specs.Laws.{standing}
 use Rattle.office_core.specs.Sound.{IsAscending, IsFiled, AreFiled, is_out_for}
 use Rattle.office_rows.specs.Tables.{OrderRow, order_row, order_rows, order_from, state_number, waiting_for, end_of, past_in, HoldingRow, place_from, place_in}

@@ -8,8 +8,9 @@ use Rattle.std.proofs.lemmas.List.{length-map}
 use Rattle.std.proofs.lemmas.List.Sums.{length-filter}
 use Rattle.isad_core.specs.Days.{IsDayNumber}
 use Rattle.office_core.specs.Words.{numbers_to}
-use Rattle.office_core.specs.State.{Reader, Permit, is_seat_of, has_unit}
-use Rattle.office_core.specs.Secrecy.{StandsIn}
+use Rattle.office_core.specs.State.{Reader, Permit, is_seat_of}
+use Rattle.catalogue_core.specs.Finding.{has_unit}
+use Rattle.catalogue_core.specs.Members.{StandsIn}
 use Rattle.office_core.specs.Laws.{numbers_from}
 use Rattle.office_core.specs.Sound.{SitOnce, AreGoodSeats, AreGoodReaders, ByUnit, AreGoodPermits}
 use Rattle.office_core.specs.Soundness.{ArePermitsOfUnits}

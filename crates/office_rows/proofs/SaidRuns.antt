@@ -9,10 +9,10 @@ use Rattle.std.proofs.lemmas.List.Sums.{length-filter}
 use Rattle.isad_core.specs.Days.{IsDayNumber, is_day_number}
 use Rattle.office_core.specs.Words.{numbered, some_and}
 use Rattle.office_core.specs.State.{Order, Line, Run, State, container_of, is_by}
-use Rattle.office_core.specs.Secrecy.{StandsIn}
+use Rattle.catalogue_core.specs.Members.{StandsIn}
 use Rattle.office_core.specs.Laws.{numbers_from}
 use Rattle.office_core.specs.Sound.{IsGoodLine, AreApart, IsGoodRun, AreGoodRuns}
-use Rattle.office_core.specs.Rules.{is_between}
+use Rattle.catalogue_core.specs.Sources.{is_between}
 use Rattle.isad_core.specs.Limits.{most_runs}
 use Rattle.office_rows.specs.Tables.{OrderRow, order_from, RunRow, run_row, run_rows, RunLineRow, run_line_row, lines_from, run_line_rows}
 use Rattle.office_rows.specs.Reading.{Rows, state_of, line_from, run_from}

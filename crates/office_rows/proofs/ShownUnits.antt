@@ -25,8 +25,10 @@ use Rattle.catalogue_core.proofs.NodeLemmas.{length-nodes}
 use Rattle.isad_core.specs.Limits.{most_units, most_unit_numbers, most_deep, most_bytes}
 use Rattle.office_core.specs.State.{State}
 use Rattle.office_core.specs.Words.{stands}
-use Rattle.office_core.specs.Rules.{is_source, is_between, height}
-use Rattle.office_core.specs.Soundness.{is_country, is_repository, IsSomeDay, IsGoodUnit, is_same_unit}
+use Rattle.catalogue_core.specs.Sources.{is_source, is_between}
+use Rattle.catalogue_core.specs.Moves.{height}
+use Rattle.office_core.specs.Soundness.{is_country, is_repository}
+use Rattle.catalogue_core.specs.GoodCatalogues.{IsSomeDay, IsGoodUnit, is_same_unit}
 use Rattle.office_rows.specs.Reading.{OfficeRow, UnitRow, unit_row, number_of, place_rows, tables, state_of}
 use Rattle.office_rows.specs.CatalogueCauses.{is_good_office, are_good_places, is_some_day, is_good_unit_row, unit_numbers, place_numbers, all_stand_in, are_good_units, is_named_alike}
 use Rattle.office_rows.specs.Judged.{IsSoundCatalogue}

@@ -22,8 +22,10 @@ use Rattle.catalogue_core.specs.Units.{Unit}
 use Rattle.catalogue_core.proofs.NodeLemmas.{length-nodes}
 use Rattle.isad_core.specs.Limits.{most_units, most_unit_numbers, most_containers, most_deep, most_bytes}
 use Rattle.office_core.specs.Words.{stands}
-use Rattle.office_core.specs.Rules.{is_source, is_between, height}
-use Rattle.office_core.specs.Soundness.{is_country, is_repository, IsSomeDay, IsGoodUnit, AreGoodSettings, AreGoodUnits, is_same_unit}
+use Rattle.catalogue_core.specs.Sources.{is_source, is_between}
+use Rattle.catalogue_core.specs.Moves.{height}
+use Rattle.office_core.specs.Soundness.{is_country, is_repository, AreGoodSettings}
+use Rattle.catalogue_core.specs.GoodCatalogues.{IsSomeDay, IsGoodUnit, AreGoodUnits, is_same_unit}
 use Rattle.office_core.specs.Laws.{numbers_from}
 use Rattle.office_rows.specs.Reading.{OfficeRow, UnitRow, unit_row, number_of, ElementRow, ContainerRow, HousingRow, Rows, place_rows, state_of, box_from, text_said, boxes_said, places_said, unit_said, unit_from, housings_of}
 use Rattle.office_rows.specs.DeskCauses.{are_numbered_from}

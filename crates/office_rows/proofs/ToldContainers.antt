@@ -12,7 +12,7 @@ use Rattle.office_rows.specs.Tables.{rows_from}
 use Rattle.office_rows.specs.Reading.{ContainerRow, container_row, box_from}
 use Rattle.office_rows.specs.DeskCauses.{are_numbered_from}
 use Rattle.office_rows.specs.CatalogueCauses.{is_same_container}
-use Rattle.office_core.proofs.Imports.{same_box}
+use Rattle.catalogue_core.proofs.Imported.{same_box}
 use Rattle.office_rows.proofs.UnitRows.{box_itself}
 use Rattle.office_rows.proofs.RowsByNumber.{each_in}
 

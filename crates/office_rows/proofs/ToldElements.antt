@@ -16,8 +16,8 @@ use Rattle.tree_core.proofs.Repeats.{distinct_repeats}
 use Rattle.catalogue_core.specs.Units.{Unit}
 use Rattle.office_core.specs.Laws.{numbers_from}
 use Rattle.office_core.specs.Words.{stands}
-use Rattle.office_core.specs.Rules.{is_between}
-use Rattle.office_core.specs.Soundness.{is_good_text}
+use Rattle.catalogue_core.specs.Sources.{is_between}
+use Rattle.catalogue_core.specs.GoodCatalogues.{is_good_text}
 use Rattle.office_rows.specs.Reading.{ElementRow, after_level, element_rows_from, Rows, text_said, unit_said}
 use Rattle.office_rows.specs.CatalogueCauses.{is_same_element, is_good_element}
 use Rattle.office_rows.proofs.UnitRows.{found_kept}

@@ -17,7 +17,7 @@ use Rattle.catalogue_core.specs.Merging.{box_number, number_in}
 use Rattle.tree_core.specs.Forest.{Forest, Empty, Node, nodes, each}
 use Rattle.tree_core.specs.Links.{siblings}
 use Rattle.office_core.specs.State.{State}
-use Rattle.office_core.specs.Soundness.{IsGoodUnit}
+use Rattle.catalogue_core.specs.GoodCatalogues.{IsGoodUnit}
 use Rattle.office_core.specs.Words.{numbered}
 use Rattle.office_core.specs.Laws.{numbers_from}
 use Rattle.office_rows.specs.Tables.{rows_from}
@@ -27,7 +27,7 @@ use Rattle.office_rows.proofs.TableLaws.{rows_back}
 use Rattle.office_rows.proofs.Nested.{spans_say}
 use Rattle.office_rows.proofs.Linked.{links_say}
 use Rattle.office_core.proofs.Words.{same_number, other_number}
-use Rattle.office_core.proofs.Imports.{same_box}
+use Rattle.catalogue_core.proofs.Imported.{same_box}
 use Rattle.office_rows.proofs.ReadBack.{filter_parts}
 
 -- ---- units with numbers of their own

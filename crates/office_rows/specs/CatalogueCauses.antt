@@ -15,7 +15,8 @@ use Rattle.tree_core.specs.Versions.{version_number, Version, Links, Spans}
 use Rattle.office_core.specs.Words.{stands}
 use Rattle.isad_core.specs.Limits.{most_units, most_unit_numbers, most_containers, most_deep, most_bytes}
 use Rattle.office_core.specs.State.{State}
-use Rattle.office_core.specs.Rules.{is_source, is_between, height}
+use Rattle.catalogue_core.specs.Sources.{is_source, is_between}
+use Rattle.catalogue_core.specs.Moves.{height}
 use Rattle.office_core.specs.Soundness.{is_country, is_repository}
 use Rattle.office_rows.specs.Reading.{OfficeRow, UnitRow, ElementRow, ContainerRow, HousingRow, PlaceRows, LinkRows, SpanRows, Rows, tables, state_of, box_from, housings_of}
 use Rattle.office_rows.specs.DeskCauses.{are_numbered_from}

@@ -7,7 +7,8 @@ use Rattle.isad_core.specs.Days.{is_day_number}
 use Rattle.isad_core.specs.Limits.{most_orders, most_tickets, most_runs, most_permits}
 use Rattle.office_core.specs.Words.{numbered, some_and}
 use Rattle.office_core.specs.State.{State, containers, is_seated, held, opens, order_out}
-use Rattle.office_core.specs.Rules.{is_name, is_between}
+use Rattle.office_core.specs.Rules.{is_name}
+use Rattle.catalogue_core.specs.Sources.{is_between}
 use Rattle.office_rows.specs.Tables.{ReaderRow, SeatRow, OrderRow, HoldingRow, RunRow, RunLineRow, PermitRow}
 use Rattle.office_rows.specs.Reading.{UnitRow, ContainerRow, Rows, state_of}
 

@@ -3,7 +3,8 @@ use Rattle.std.specs.Prelude.{◌≡◌, ℕ, true, false}
 use Rattle.std.specs.List.{AllByRecursion}
 use Rattle.isad_core.specs.Days.{IsDayNumber}
 use Rattle.isad_core.specs.Boxes.{distinct}
-use Rattle.office_core.specs.State.{State, has_unit}
+use Rattle.office_core.specs.State.{State}
+use Rattle.catalogue_core.specs.Finding.{has_unit}
 use Rattle.tree_core.specs.Versions.{Version}
 use Rattle.office_rows.specs.Reading.{ContainerRow, Rows, tables, state_of}
 use Rattle.office_core.specs.Sound.{IsSoundDesk}

@@ -7,7 +7,8 @@ use Rattle.isad_core.specs.Boxes.{distinct}
 use Rattle.tree_core.specs.Forest.{nodes}
 use Rattle.tree_core.specs.Versions.{Version}
 use Rattle.office_core.specs.State.{State}
-use Rattle.office_core.specs.Soundness.{AreGoodSettings, AreGoodUnits, AreGoodContainers, IsSomeDay, IsSound}
+use Rattle.office_core.specs.Soundness.{AreGoodSettings, IsSound}
+use Rattle.catalogue_core.specs.GoodCatalogues.{AreGoodUnits, AreGoodContainers, IsSomeDay}
 use Rattle.office_rows.specs.Reading.{Rows, tables, state_of}
 use Rattle.office_rows.specs.CatalogueCauses.{MeetsCatalogueKeys, IsCatalogueOf}
 use Rattle.office_rows.specs.DeskJudged.{SaysDeskAgain}

@@ -16,16 +16,18 @@ use Rattle.isad_core.specs.Boxes.{distinct, is_same}
 use Rattle.catalogue_core.specs.Merging.{Catalogue}
 use Rattle.catalogue_core.specs.Units.{Unit, has_id}
 use Rattle.catalogue_core.proofs.NodeLemmas.{length-nodes}
-use Rattle.office_core.specs.State.{has_unit}
+use Rattle.catalogue_core.specs.Finding.{has_unit}
 use Rattle.isad_core.specs.Limits.{most_units, most_deep, most_bytes}
-use Rattle.office_core.specs.Rules.{is_into_itself, depth_after, is_source}
-use Rattle.office_core.specs.Soundness.{is_good_text, IsGoodUnit, is_same_unit, AreGoodUnits}
-use Rattle.office_core.proofs.Again.{all_append, all_split, all_each}
+use Rattle.catalogue_core.specs.Moves.{is_into_itself, depth_after}
+use Rattle.catalogue_core.specs.Sources.{is_source}
+use Rattle.catalogue_core.specs.GoodCatalogues.{is_good_text, IsGoodUnit, is_same_unit, AreGoodUnits}
+use Rattle.catalogue_core.proofs.EachOf.{all_append, all_split}
+use Rattle.catalogue_core.proofs.ImportedAgain.{all_each}
 use Rattle.catalogue_core.proofs.DistinctLists.{all_so, distinct_so, distinct_mapped, distinct_unmapped, distinct_beside, distinct_parts}
-use Rattle.office_core.proofs.Days.{all_cut, all_moved}
-use Rattle.office_core.proofs.ImportedNumbers.{same_flip}
-use Rattle.office_core.proofs.Branches.{many, passing, passing-many, IsOnePlace, moved_same}
-use Rattle.office_core.proofs.Heights.{height-each, height_cut, height_moved}
+use Rattle.catalogue_core.proofs.EachAfter.{all_cut, all_moved}
+use Rattle.catalogue_core.proofs.ImportedNumbers.{same_flip}
+use Rattle.catalogue_core.proofs.Branches.{many, passing, passing-many, IsOnePlace, moved_same}
+use Rattle.catalogue_core.proofs.Heights.{height-each, height_cut, height_moved}
 
 -- ---- no two alike
 

@@ -8,7 +8,7 @@ use Rattle.tree_core.specs.Forest.{Forest, Empty, Node, nodes, has, path}
 use Rattle.tree_core.proofs.Lists.{apart_append, eqb_comm}
 use Rattle.catalogue_core.specs.Units.{Unit, has_id}
 use Rattle.catalogue_core.proofs.EachOf.{all_and, all_split, all_of_found, none_found, some_found}
-use Rattle.office_core.proofs.Comes.{each_there}
+use Rattle.catalogue_core.proofs.UnitsAfter.{each_there}
 
 abbrev number_of : Unit → ℕ
 number_of unit = unit.id

@@ -9,13 +9,13 @@ use Rattle.atom_csv.specs.declared.file.Row.{Row}
 use Rattle.tree_core.specs.Forest.{Forest, Empty, Node, nodes, has, path, each}
 use Rattle.catalogue_core.specs.Units.{Unit, has_id, is_from}
 use Rattle.catalogue_core.specs.Merging.{New, number_of, numbered_from, branches, new_unit, new_units, revised, grown, merged_forest, has_legacy, depth_under, cause_at, faults_below}
-use Rattle.office_core.specs.Rules.{height}
+use Rattle.catalogue_core.specs.Moves.{height}
 use Rattle.isad_core.specs.Limits.{most_deep}
-use Rattle.office_core.proofs.Heights.{height-join}
+use Rattle.catalogue_core.proofs.Heights.{height-join}
 use Rattle.catalogue_core.proofs.EachOf.{all_true, all_split, all_of_found, none_found, some_found}
-use Rattle.office_core.proofs.Rooted.{revised_id}
-use Rattle.office_core.proofs.MergedNodes.{IsBefore, same_place}
-use Rattle.office_core.proofs.UnitPlaces.{HaveOwnNumbers, LieDeep, same_depth, lie_deep}
+use Rattle.catalogue_core.proofs.Rooted.{revised_id}
+use Rattle.catalogue_core.proofs.MergedNodes.{IsBefore, same_place}
+use Rattle.catalogue_core.proofs.UnitPlaces.{HaveOwnNumbers, LieDeep, same_depth, lie_deep}
 
 -- how deep the catalogued unit with this number lies
 abbrev depth_of : Forest Unit → ℕ → ℕ

@@ -13,14 +13,14 @@ use Rattle.tree_core.specs.Forest.{Forest, nodes}
 use Rattle.tree_core.proofs.Lists.{eqb_comm}
 use Rattle.catalogue_core.specs.Units.{Unit, is_from}
 use Rattle.catalogue_core.specs.Merging.{Catalogue, New, numbered_from, new_unit, revised, merged_forest, has_legacy, is_known}
-use Rattle.office_core.specs.Soundness.{is_same_unit}
+use Rattle.catalogue_core.specs.GoodCatalogues.{is_same_unit}
 use Rattle.catalogue_core.proofs.DistinctLists.{all_mapped, all_so, distinct_so, distinct_mapped, distinct_beside}
 use Rattle.catalogue_core.proofs.FileRows.{AreApartRows}
 use Rattle.catalogue_core.proofs.EachOf.{all_filtered}
-use Rattle.office_core.proofs.Again.{numbered_rows, is_from_revised, one_text, other_way}
-use Rattle.office_core.proofs.Imports.{new_rows}
-use Rattle.office_core.proofs.Rooted.{revised_id}
-use Rattle.office_core.proofs.MergedNodes.{AreNumberedFrom, numbered_are, merged_nodes}
+use Rattle.catalogue_core.proofs.ImportedAgain.{numbered_rows, is_from_revised, one_text, other_way}
+use Rattle.catalogue_core.proofs.Imported.{new_rows}
+use Rattle.catalogue_core.proofs.Rooted.{revised_id}
+use Rattle.catalogue_core.proofs.MergedNodes.{AreNumberedFrom, numbered_are, merged_nodes}
 
 abbrev number_of : Unit → ℕ
 number_of unit = unit.id

@@ -7,8 +7,8 @@ use Rattle.std.proofs.lemmas.List.{append-nil}
 use Rattle.std.proofs.lemmas.List.Folds.{list_any-append}
 use Rattle.std.proofs.lemmas.List.Sorted.{IsPermutation-refl, IsPermutation-trans, IsPermutation-sym, IsPermutation-cons, IsPermutation-append_comm, IsPermutation-append_left, IsPermutation-append_right, list_any-IsPermutation}
 use Rattle.tree_core.specs.Forest.{Forest, Empty, Node, nodes, has, tree, branch, cut, put_below, put_last, move_last}
-use Rattle.office_core.specs.Words.{some_and}
-use Rattle.office_core.proofs.Rooted.{has_node, nodes-join}
+use Rattle.std.specs.Option.{option_map_or}
+use Rattle.catalogue_core.proofs.Rooted.{has_node, nodes-join}
 
 -- ---- how many nodes pass
 
@@ -142,7 +142,7 @@ IsOnePlace is (Some p) f = (passing (is p) f ≤ 1) × (has (is p) f ≡ true)
 
 -- p does not stand in the branch of u
 abbrev pub IsElsewhere : {A : Type 0} → (ℕ → A → Bool) → ℕ → Option ℕ → Forest A → Type 0
-IsElsewhere is u p f = some_and (λ v. list_any (is v) (branch (is u) f)) p ≡ false
+IsElsewhere is u p f = option_map_or (λ v. list_any (is v) (branch (is u) f)) p false ≡ false
 
 put_last_adds : {A : Type 0} (is : ℕ → A → Bool) (p : Option ℕ) (g f : Forest A) → IsOnePlace is p f → IsPermutation (nodes (put_last is p g f)) (nodes g ++ nodes f)
 put_last_adds is None g f h = subst (λ l. IsPermutation l (nodes g ++ nodes f)) (sym (nodes-join f g)) (IsPermutation-append_comm (nodes f) (nodes g))

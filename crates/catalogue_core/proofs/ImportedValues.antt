@@ -13,12 +13,12 @@ use Rattle.atom_csv.specs.declared.file.Row.{Row}
 use Rattle.isad_core.proofs.BoxLemmas.{same_sym}
 use Rattle.catalogue_core.specs.Units.{Unit}
 use Rattle.catalogue_core.specs.Merging.{New, new_unit, revised, has_legacy, merged_boxes}
-use Rattle.office_core.specs.Rules.{is_source}
+use Rattle.catalogue_core.specs.Sources.{is_source}
 use Rattle.isad_core.specs.Limits.{most_bytes}
-use Rattle.office_core.specs.Soundness.{is_good_text, IsGoodUnit}
+use Rattle.catalogue_core.specs.GoodCatalogues.{is_good_text, IsGoodUnit}
 use Rattle.catalogue_core.proofs.EachOf.{all_and, all_of_found}
-use Rattle.office_core.proofs.GoodRows.{IsGoodRow}
-use Rattle.office_core.proofs.Again.{box_itself, stands_box, still_stands}
+use Rattle.catalogue_core.proofs.GoodRows.{IsGoodRow}
+use Rattle.catalogue_core.proofs.ImportedAgain.{box_itself, stands_box, still_stands}
 
 -- ---- containers that are known
 

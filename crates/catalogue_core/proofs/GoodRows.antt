@@ -18,11 +18,11 @@ use Rattle.atom_csv.specs.declared.column.Column.TheVariants as column
 use Rattle.atom_csv.specs.declared.file.File.{File}
 use Rattle.atom_csv.specs.declared.file.Row.{Row}
 use Rattle.atom_csv.proofs.ToldLemmas.{file_sound}
-use Rattle.office_core.specs.Soundness.{is_good_text}
+use Rattle.catalogue_core.specs.GoodCatalogues.{is_good_text}
 use Rattle.isad_core.specs.Limits.{most_bytes}
 use Rattle.catalogue_core.proofs.EachOf.{all_and}
 use Rattle.catalogue_core.proofs.FileRows.{read_from, tells, line_at, no_fault_cons}
-use Rattle.office_core.proofs.Imports.{distinct_again}
+use Rattle.catalogue_core.proofs.Imported.{distinct_again}
 
 -- ---- how long and how many
 

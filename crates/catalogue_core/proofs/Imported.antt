@@ -12,7 +12,7 @@ use Rattle.atom_csv.specs.declared.file.File.{File}
 use Rattle.atom_csv.specs.declared.file.Row.{Row}
 use Rattle.catalogue_core.specs.Merging.{Catalogue, merge, merged, or_first, faults_below, numbered_from, is_known, merged_boxes}
 use Rattle.isad_core.specs.Boxes.{distinct, is_same as is_same_box}
-use Rattle.office_core.specs.Intake.{Intake, take, take_rows, with_file}
+use Rattle.catalogue_core.specs.Intake.{Intake, take, take_rows, with_file}
 
 -- the rows of units that are not catalogued
 abbrev pub new_rows : Catalogue → Bytes → List Row → List Row

@@ -14,9 +14,9 @@ use Rattle.tree_core.proofs.EachLemmas.{nodes-each}
 use Rattle.catalogue_core.specs.Units.{Unit, has_id, is_from}
 use Rattle.catalogue_core.specs.Merging.{New, branches, number_of, numbered_from, has_legacy, new_unit, new_units, revised, grown, merged_forest}
 use Rattle.catalogue_core.proofs.EachOf.{all_and, all_true, all_of_found}
-use Rattle.office_core.specs.State.{has_unit}
-use Rattle.office_core.proofs.Comes.{each_units}
-use Rattle.office_core.proofs.Rooted.{nodes-join, has-join, grown_keeps, revised_id}
+use Rattle.catalogue_core.specs.Finding.{has_unit}
+use Rattle.catalogue_core.proofs.UnitsAfter.{each_units}
+use Rattle.catalogue_core.proofs.Rooted.{nodes-join, has-join, grown_keeps, revised_id}
 
 -- ---- the places below which a row may stand
 

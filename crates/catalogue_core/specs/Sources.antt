@@ -1,0 +1,16 @@
+-- The names of sources.
+use Rattle.std.specs.Prelude.{ℕ, Bool, ◌&&◌, ◌||◌, length, nat_eq, nat_le}
+use Rattle.std.specs.List.{list_all}
+use Rattle.isad_core.specs.Texts.{Bytes}
+
+abbrev pub is_between : ℕ → ℕ → ℕ → Bool
+is_between low high b = nat_le low b && nat_le b high
+
+-- an ASCII letter, a digit, a dot, a low line or a hyphen
+abbrev pub is_source_letter : ℕ → Bool
+is_source_letter b =
+    is_between 65 90 b || (is_between 97 122 b || (is_between 48 57 b || (nat_eq b 46 || (nat_eq b 95 || nat_eq b 45))))
+
+-- the name of a source: 1 to 64 of these
+abbrev pub is_source : Bytes → Bool
+is_source source = nat_le 1 (length source) && (nat_le (length source) 64 && list_all is_source_letter source)
