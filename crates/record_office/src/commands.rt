@@ -25,7 +25,8 @@ fn read_file<F: Files, R: Read>(
     path: Option<&Text>,
     reader: &mut R,
 ) -> Result<Vec<u8>, ReadFault>
-    ensures reads { IfOk result (λ v. Reads (option_copied path.entry) (R.remaining reader.old) (R.remaining reader.new) v.items) }
+    ensures reads { IfOk result (λ v.
+        Reads (option_copied path.entry) (R.remaining reader.old) (R.remaining reader.new) v.items) }
     ensures front { (gone : List ℕ) × Consumes (R.remaining reader.old) (R.remaining reader.new) gone }
 {
     match path {

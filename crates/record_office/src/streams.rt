@@ -76,7 +76,8 @@ fn read_within<R: Read>(alloc: Global, reader: &mut R, reads: u32) -> Result<Vec
 pub fn write_whole<W: Write>(writer: &mut W, bytes: &[u8]) -> Result<(), WriteFault>
     ensures whole { OnOk result (Appends (W.contents writer.old) (W.contents writer.new) bytes.now) }
     // In any case, only a front of the bytes was written.
-    ensures front { (written : List ℕ) × IsFront written bytes.now × Appends (W.contents writer.old) (W.contents writer.new) written }
+    ensures front { (written : List ℕ) ×
+        IsFront written bytes.now × Appends (W.contents writer.old) (W.contents writer.new) written }
 {
     if bytes.is_empty() {
         return Ok(());
@@ -88,7 +89,8 @@ pub fn write_whole<W: Write>(writer: &mut W, bytes: &[u8]) -> Result<(), WriteFa
 // Writes the bytes, in at most so many writes.
 fn write_within<W: Write>(writer: &mut W, bytes: &[u8], writes: u32) -> Result<(), WriteFault>
     ensures whole { OnOk result (Appends (W.contents writer.old) (W.contents writer.new) bytes.now) }
-    ensures front { (written : List ℕ) × IsFront written bytes.now × Appends (W.contents writer.old) (W.contents writer.new) written }
+    ensures front { (written : List ℕ) ×
+        IsFront written bytes.now × Appends (W.contents writer.old) (W.contents writer.new) written }
 {
     let mut rest = bytes;
     for _write in 0..writes {

@@ -96,7 +96,8 @@ pub fn given<R: Env + AllocGlobal>(rt: &R, alloc: Global) -> Result<Vec<String>,
 
 /// The command takes the words of a preview, and takes neither no words nor a call for help.
 pub fn previews_are_taken()
-    ensures preview { takes program (codes "preview" ∷ codes "--country" ∷ codes "GB" ∷ codes "--repo" ∷ codes "0999" ∷ codes "a.csv" ∷ []) ≡ true }
+    ensures preview { takes program (codes "preview"
+        ∷ codes "--country" ∷ codes "GB" ∷ codes "--repo" ∷ codes "0999" ∷ codes "a.csv" ∷ []) ≡ true }
     ensures no_words { takes program [] ≡ false }
     ensures help { takes program (codes "--help" ∷ []) ≡ false }
 {}

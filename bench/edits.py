@@ -1,0 +1,240 @@
+"""Tries edits that the prover has to refuse, many of different functions in one check of a copy of the crate.
+
+  edits.sh [--gate] [--jobs N] [--said FOLDER] [CRATE | CRATE/EDIT ..]
+
+An edit is a file of bench/edits/CRATE (with --gate: of crates/CRATE/must-fail), written as `rt ci` reads it: lines
+`file: PATH`, `old: TEXT`, `new: TEXT`. It counts as refused where the check says of the edited function itself that
+it is not proved, for a goal of its own: of a caller it only says that it calls such a function. A round takes one
+edit a function, and none whose text another of the round changes. What a round did not refuse is tried by itself, so
+nothing is hidden by the other edits. An edit outside any function (a constant, a definition) is always tried by
+itself, and is refused where any function or lemma of the crate is.
+
+The copy stands over the work that `rt check` kept in out/, so check the crate first. Verdicts: `refused`, `PROVED`
+(the contracts let the wrong body through), `unreadable` (its text is gone, or what it makes does not compile). The
+last line has the counts; the exit status is 1 where one is proved or unreadable.
+"""
+
+import argparse
+import os
+import re
+import shutil
+import subprocess
+import sys
+import tempfile
+
+TOP = os.path.dirname(os.path.dirname(os.path.abspath(__file__)))
+FN = re.compile(r"^( *)(?:pub(?:\([a-z]+\))? )?(?:const )?(?:unsafe )?fn (\w+)", re.M)
+IMPL = re.compile(r"^impl(?:<[^{\n]*?>)? (?:[\w:<>', ]+ for )?&?(?:'\w+ )?(\w+)", re.M)
+TOLD = re.compile(r"^(?:fn|struct|enum|impl|trait) (\S+?): (.*)$", re.M)
+FAILED = re.compile(r"not proved|no proof")
+OF_OTHERS = re.compile(r"(?:not proved|no proof)[:;] it (?:calls|passes)")
+LEMMA = re.compile(r"^(?:\./)?(proofs/\S+?):\d+:\d+: error", re.M)
+NAMES = r"has no field|is not in scope|has no `|was not admitted"
+UNREAD = re.compile(r"^(?:\./)?((?:src|specs)/\S+?):\d+:\d+: (error.*)$", re.M)
+
+
+class Function:
+    """A function of a file of src/: its module's path, the type of its impl (or none), its name, where it stands."""
+
+    def __init__(self, crate, path, text, at):
+        inside = os.path.splitext(path)[0].split("/")[1:]
+        module = [] if inside in (["lib"], ["main"]) else [it for it in inside if it != "mod"]
+        self.name, self.start = at[2], at.start()
+        end = re.compile(rf"^{at[1]}}}", re.M).search(text, at.end())
+        self.end = end.end() if end else len(text)
+        impls = list(IMPL.finditer(text, 0, self.start)) if at[1] else []
+        self.type = impls[-1][1] if impls else ""
+        where = re.escape("::".join([crate, *module]))
+        held = rf"{self.type}\w*" if self.type else ""
+        self.line = re.compile(rf"{where}::(?:{held}::)?(?:fn::)?(?:{held}::)?{self.name}(?![A-Za-z0-9_])")
+        self.key = (path, self.type, self.name)
+
+
+class Edit:
+    """An edit's changes, the functions that they stand in, and what was found of it."""
+
+    def __init__(self, file, crate, folder):
+        self.name, self.why, self.verdict = os.path.basename(file)[: -len(".edit")], "", ""
+        self.changes, self.functions = [], []
+        path, old, texts = "", None, {}
+        for line in open(file, encoding="utf-8").read().split("\n"):
+            if line.startswith("file: "):
+                path = line[len("file: ") :].strip()
+                if path not in texts:
+                    if not os.path.isfile(f"{folder}/{path}"):
+                        return self.fault(f"there is no file {path}")
+                    texts[path] = open(f"{folder}/{path}", encoding="utf-8").read()
+            elif line.startswith("old: "):
+                old = line[len("old: ") :]
+            elif line.startswith("new:") and path and old:
+                if texts[path].count(old) != 1:
+                    return self.fault(f"an old text stands {texts[path].count(old)} times in {path}, and not once: {old}")
+                new = line[len("new: ") :]
+                self.place(crate, path, texts[path], texts[path].index(old), old)
+                texts[path] = texts[path].replace(old, new)
+                self.changes.append((path, old, new))
+                old = None
+        if not self.changes:
+            self.fault("it has no old and new text")
+
+    def fault(self, why):
+        self.verdict, self.why = "unreadable", why
+
+    def place(self, crate, path, text, start, old):
+        end = start + len(old)
+        found = [Function(crate, path, text, at) for at in FN.finditer(text)] if path.startswith("src/") else []
+        inside = [it for it in found if it.start <= start and end <= it.end]
+        self.functions.append(inside[-1] if inside else None)
+
+    def alone(self):
+        return None in self.functions
+
+    def where(self):
+        names = ["::".join(filter(None, it.key[1:])) if it else "no function" for it in self.functions]
+        return ", ".join(dict.fromkeys(names))
+
+    def goes_with(self, other):
+        return not {it.key for it in self.functions} & {it.key for it in other.functions}
+
+
+def applied(edits, folder):
+    """The texts with all of these edits, by path; or none where one edit's text is no longer there once."""
+    texts = {}
+    for path, old, new in [change for edit in edits for change in edit.changes]:
+        if path not in texts:
+            texts[path] = open(f"{folder}/{path}", encoding="utf-8").read()
+        if texts[path].count(old) != 1:
+            return None
+        texts[path] = texts[path].replace(old, new)
+    return texts
+
+
+def round_of(edits, folder):
+    """As many of the edits as go together, taken in their order."""
+    taken = []
+    for edit in edits:
+        if not taken or not (edit.alone() or taken[0].alone()):
+            if all(edit.goes_with(it) for it in taken) and applied([*taken, edit], folder) is not None:
+                taken.append(edit)
+    return taken
+
+
+class Bench:
+    """A copy of a crate, over the work that its last check kept, and of what it stands on."""
+
+    def __init__(self, crate, room, jobs, said):
+        self.crate, self.jobs, self.said, self.folder = crate, jobs, said, f"{room}/crates/{crate}"
+        lines = [it for it in open(f"{TOP}/crates.txt", encoding="utf-8") if re.match(r"\w+", it)]
+        below = {it.split(":")[0].split()[0]: it.split(":")[1].split() for it in lines}
+        wanted, queue = set(), [crate]
+        while queue:
+            name = queue.pop()
+            if name in below and name not in wanted:
+                wanted.add(name)
+                queue.extend(below[name])
+        for name in sorted(wanted):
+            leave = [] if name == crate else ["incremental"]
+            leave = shutil.ignore_patterns("must-fail", *leave)
+            shutil.copytree(f"{TOP}/crates/{name}", f"{room}/crates/{name}", ignore=leave)
+        with open(f"{room}/crates.txt", "w", encoding="utf-8") as out:
+            out.writelines(it for it in lines if re.match(r"\w+", it)[0] in wanted)
+        if os.path.isfile(f"{TOP}/HANDLES"):
+            shutil.copy(f"{TOP}/HANDLES", room)
+
+    def check(self, edits):
+        """What the check says of the crate with these edits; the texts are as they were when it returns."""
+        texts = applied(edits, self.folder)
+        before = {path: open(f"{self.folder}/{path}", encoding="utf-8").read() for path in texts}
+        try:
+            self.write(texts)
+            words = ["rt", "check", "--jobs", str(self.jobs)]
+            ran = subprocess.run(words, cwd=self.folder, stdin=subprocess.DEVNULL, capture_output=True, text=True)
+            self.keep(f"=== {' '.join(it.name for it in edits)}\n{ran.stdout}{ran.stderr}\n")
+            return ran.stdout + ran.stderr
+        finally:
+            self.write(before)
+
+    def keep(self, said):
+        if self.said:
+            os.makedirs(self.said, exist_ok=True)
+            with open(f"{self.said}/{self.crate}.said", "a", encoding="utf-8") as out:
+                out.write(said)
+
+    def write(self, texts):
+        for path, text in texts.items():
+            with open(f"{self.folder}/{path}", "w", encoding="utf-8") as out:
+                out.write(text)
+
+
+def own_failures(said):
+    """The names that are not proved on their own account."""
+    lines = [(at[1], at[2]) for at in TOLD.finditer(said)]
+    return [name for name, what in lines if FAILED.match(what) and not OF_OTHERS.match(what)]
+
+
+def only_names(edit, said):
+    """Whether the edited functions fail only since a proof file names what the edit took away: that shows little."""
+    places = "|".join(it.name for it in edit.functions if it)
+    told = re.findall(rf"^.*proofs/\S*\b(?:{places})\b\S*: error.*$", said, re.M)
+    goals = any(re.search(rf"^note: {path}:", said, re.M) for path, _, _ in edit.changes)
+    return bool(told) and not goals and all(re.search(NAMES, it) for it in told)
+
+
+def judge(edit, said):
+    """Sets the edit's verdict by what was said."""
+    if not TOLD.search(said) or any(path in [it[0] for it in edit.changes] for path, _ in UNREAD.findall(said)):
+        why = UNREAD.search(said)
+        return edit.fault(why[0] if why else said.strip().split("\n")[-1])
+    failed = own_failures(said)
+    own = [name for name in failed if any(it and it.line.match(name) for it in edit.functions)]
+    if own or edit.alone() and (failed or LEMMA.search(said)):
+        edit.verdict, edit.why = "refused", own[0] if own else (failed or LEMMA.findall(said))[0]
+        if own and only_names(edit, said):
+            edit.why += " (only since a proof file names what the edit took away)"
+    else:
+        told = f" (only {', '.join(failed[:3])} is told)" if failed else ""
+        edit.verdict, edit.why = "PROVED", edit.where() + told
+
+
+def try_edits(bench, edits):
+    """Gives each edit its verdict: rounds of many, then each that no round refused by itself."""
+    queue, again = [it for it in edits if not it.verdict], []
+    while queue:
+        taken = round_of(queue, bench.folder)
+        said = bench.check(taken)
+        for edit in taken:
+            queue.remove(edit)
+            judge(edit, said)
+            again += [edit] if len(taken) > 1 and edit.verdict != "refused" else []
+        print(f"  ({len(taken)} at once, {sum(it.verdict == 'refused' for it in taken)} refused)", flush=True)
+    for edit in again:
+        judge(edit, bench.check([edit]))
+
+
+def main():
+    words = argparse.ArgumentParser(prog="edits.sh", description=__doc__.split("\n")[0])
+    words.add_argument("--gate", action="store_true", help="the edits of crates/CRATE/must-fail")
+    words.add_argument("--jobs", type=int, default=1, help="the processors of one check")
+    words.add_argument("--said", metavar="FOLDER", help="keep what each check said there")
+    words.add_argument("names", nargs="*", metavar="CRATE | CRATE/EDIT", help="those of a crate, or one edit")
+    given = words.parse_args()
+    of = (lambda it: f"{TOP}/crates/{it}/must-fail") if given.gate else (lambda it: f"{TOP}/bench/edits/{it}")
+    crates = [it for it in sorted(os.listdir(f"{TOP}/crates")) if os.path.isdir(of(it))]
+    names = dict.fromkeys(it.split("/")[0] for it in given.names) or crates
+    counts = {"refused": 0, "PROVED": 0, "unreadable": 0}
+    for crate in names:
+        only = [it.split("/")[1] + ".edit" for it in given.names if it.startswith(f"{crate}/")]
+        files = only or sorted(it for it in os.listdir(of(crate)) if it.endswith(".edit"))
+        edits = [Edit(f"{of(crate)}/{it}", crate, f"{TOP}/crates/{crate}") for it in files]
+        print(f"{crate}: {len(edits)} edits", flush=True)
+        with tempfile.TemporaryDirectory(prefix="edits-") as room:
+            try_edits(Bench(crate, room, given.jobs, given.said), edits)
+        for edit in edits:
+            counts[edit.verdict] += 1
+            print(f"{edit.verdict:10} {crate}/{edit.name}: {edit.why[:200]}", flush=True)
+    print(", ".join(f"{number} {verdict}" for verdict, number in counts.items()))
+    return 1 if counts["PROVED"] or counts["unreadable"] else 0
+
+
+if __name__ == "__main__":
+    sys.exit(main())
