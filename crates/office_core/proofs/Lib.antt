@@ -36,6 +36,7 @@ pub mod ImportedDepth
 pub mod ImportedValues
 pub mod ImportedUnits
 pub mod ImportedCounts
+pub mod LastNumberSound
 pub mod DeskRows
 pub mod CatalogueRows
 pub mod ShownRows
