@@ -25,6 +25,7 @@ pub mod Stays
 pub mod WorkedSound
 pub mod ImportedUnits
 pub mod ImportedCounts
+pub mod LastNumberSound
 pub mod DeskRows
 pub mod CatalogueRows
 pub mod ShownRows
