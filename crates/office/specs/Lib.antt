@@ -3,7 +3,6 @@ pub use Rattle.finding_aids.specs.Numbers
 pub use Rattle.finding_aids.specs.Places
 pub use Rattle.finding_aids.specs.Planting
 pub use Rattle.finding_aids.specs.Preview
-pub use Rattle.finding_aids.specs.Printing
 pub use Rattle.finding_aids.specs.Slots
 pub use Rattle.office_rows.specs.Tables
 pub use Rattle.office_rows.specs.Reading
