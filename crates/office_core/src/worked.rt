@@ -1,7 +1,7 @@
 //! The rules at work in small offices, worked by hand.
 
-ghost use Rattle.office_core.specs.Rows as row;
-ghost use Rattle.office_core.specs.AnswerRows as answers;
+ghost use Rattle.office_core.specs.WorkedReplies as row;
+ghost use Rattle.office_core.specs.WorkedAnswers as answers;
 
 /// The commands of each row get the replies of the row.
 pub fn worked_rows()

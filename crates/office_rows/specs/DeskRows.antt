@@ -21,7 +21,7 @@ rows_from row n (x ∷ xs) = row n x ∷ rows_from row (suc n) xs
 pub record ReaderRow : Type 0 where
   pub ticket : ℕ
   pub name : Bytes
-  pub until : ℤ
+  pub until : ℤ  -- the last day
 
 abbrev pub reader_row : ℕ → Reader → ReaderRow
 reader_row t reader = record { ticket = t; name = reader.name; until = reader.until }
@@ -124,7 +124,7 @@ run_line_rows s = lines_from 1 s.runs
 pub record PermitRow : Type 0 where
   pub ticket : ℕ
   pub unit : ℕ
-  pub until : ℤ
+  pub until : ℤ  -- the last day
 
 abbrev pub permit_row : ℕ → Permit → PermitRow
 permit_row t permit = record { ticket = t; unit = permit.unit; until = permit.until }
