@@ -64,10 +64,10 @@ tree_alike P is (Node a c o) h =
 
 -- one unit
 
-numbers_alike : (xs ys boxes : List BoxKey) → Alike xs ys boxes → numbered_boxes xs boxes ≡ numbered_boxes ys boxes
+numbers_alike : (xs ys boxes : List BoxKey) → Alike xs ys boxes → numbered_boxes (box_number xs) boxes ≡ numbered_boxes (box_number ys) boxes
 numbers_alike xs ys [] h = refl
 numbers_alike xs ys (box ∷ boxes) h =
-    ap (λ n. (n, box.name) ∷ numbered_boxes xs boxes) h.0 ∙ ap (λ l. (box_number ys box, box.name) ∷ l) (numbers_alike xs ys boxes h.1)
+    ap (λ n. (n, box.name) ∷ numbered_boxes (box_number xs) boxes) h.0 ∙ ap (λ l. (box_number ys box, box.name) ∷ l) (numbers_alike xs ys boxes h.1)
 
 unit_alike : (at : Repository) (xs ys : List BoxKey) (ids : List Bytes) (depth : ℕ) (unit : PublicUnit) → Alike xs ys (boxes_told unit) → shown_unit at xs ids depth unit ≡ shown_unit at ys ids depth unit
 unit_alike at xs ys ids depth (Told id values) h =

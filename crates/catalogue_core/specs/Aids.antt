@@ -5,6 +5,7 @@ use Rattle.isad_core.specs.Texts.{Bytes}
 use Rattle.isad_core.specs.Codes.{code_of}
 use Rattle.isad_core.specs.Values.{identifier, own_lines, title}
 use Rattle.isad_core.specs.declared.values.BoxKey.{BoxKey}
+use Rattle.isad_core.specs.declared.values.Values.{Values}
 use Rattle.isad_core.specs.declared.shown.Shown.{Shown}
 use Rattle.isad_core.specs.declared.shown.Body.TheVariants.{Full, Closed}
 use Rattle.tree_core.specs.Forest.{Forest, Empty, Node}
@@ -21,19 +22,23 @@ identifier_of (Told id values) = identifier values
 identifier_of (Stub id name level until) = name
 
 -- the containers of a unit, each with its number
-abbrev pub numbered_boxes : List BoxKey → List BoxKey → List (ℕ × Bytes)
-numbered_boxes containers boxes = map (λ b. (box_number containers b, b.name)) boxes
+abbrev pub numbered_boxes : (BoxKey → ℕ) → List BoxKey → List (ℕ × Bytes)
+numbered_boxes number boxes = map (λ b. (number b, b.name)) boxes
 
--- what is shown of a unit, where `ids` are the identifiers from the top down to it
-abbrev pub shown_unit : Repository → List BoxKey → List Bytes → ℕ → PublicUnit → Shown
-shown_unit at containers ids depth (Told id values) = record {
+-- what is shown of a unit whose values are told: `ids` are the identifiers from the top down to it, and `number` says the
+-- numbers of containers
+abbrev pub shown_told : Repository → (BoxKey → ℕ) → List Bytes → ℕ → Values → Shown
+shown_told at number ids depth values = record {
   depth = depth;
   code = code_of at.country at.repo ids;
   level = values.level;
   title = title values;
-  body = Full (own_lines values) (numbered_boxes containers values.boxes);
+  body = Full (own_lines values) (numbered_boxes number values.boxes);
 }
-shown_unit at containers ids depth (Stub id name level until) = record {
+
+abbrev pub shown_unit_by : Repository → (BoxKey → ℕ) → List Bytes → ℕ → PublicUnit → Shown
+shown_unit_by at number ids depth (Told id values) = shown_told at number ids depth values
+shown_unit_by at number ids depth (Stub id name level until) = record {
   depth = depth;
   code = code_of at.country at.repo ids;
   level = level;
@@ -42,9 +47,16 @@ shown_unit at containers ids depth (Stub id name level until) = record {
 }
 
 -- the units of a forest in walk order, below units with these identifiers
+abbrev pub shown_by : Repository → (BoxKey → ℕ) → List Bytes → ℕ → Forest PublicUnit → List Shown
+shown_by at number above depth Empty = []
+shown_by at number above depth (Node unit children others) =
+    shown_unit_by at number (above ++ identifier_of unit ∷ []) depth unit
+    ∷ (shown_by at number (above ++ identifier_of unit ∷ []) (depth + 1) children
+    ++ shown_by at number above depth others)
+
+-- the same, where the containers are numbered as they stand
+abbrev pub shown_unit : Repository → List BoxKey → List Bytes → ℕ → PublicUnit → Shown
+shown_unit at containers = shown_unit_by at (box_number containers)
+
 abbrev pub shown_below : Repository → List BoxKey → List Bytes → ℕ → Forest PublicUnit → List Shown
-shown_below at containers above depth Empty = []
-shown_below at containers above depth (Node unit children others) =
-    shown_unit at containers (above ++ identifier_of unit ∷ []) depth unit
-    ∷ (shown_below at containers (above ++ identifier_of unit ∷ []) (depth + 1) children
-    ++ shown_below at containers above depth others)
+shown_below at containers = shown_by at (box_number containers)

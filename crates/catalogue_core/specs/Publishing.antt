@@ -8,7 +8,7 @@ use Rattle.tree_core.specs.Withheld.{public}
 use Rattle.catalogue_core.specs.Units.{Unit, is_closed}
 
 -- A unit as the public knows it: what its description tells, or, where it is closed, that it is
--- there, by its code and its level, and until when. Sources, drafts and past closures are not told.
+-- there, by its code and its level, and on which day that ends. Sources, drafts and past closures are not told.
 pub data PublicUnit : Type 0 where
   Told : (id : ℕ) (values : Values) → PublicUnit
   Stub : (id : ℕ) (identifier level : Bytes) (until : ℤ) → PublicUnit

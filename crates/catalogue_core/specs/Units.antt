@@ -10,7 +10,7 @@ pub record Unit : Type 0 where
   pub legacy : Bytes  -- its number there
   pub values : Values
   pub draft : Bool
-  pub until : Option ℤ  -- the day on which its closure ends
+  pub until : Option ℤ  -- the first day on which its closure holds no more
 
 -- the unit has this number
 abbrev pub has_id : ℕ → Unit → Bool

@@ -7,21 +7,19 @@ use Rattle.std.specs.List.{flat_map}
 use Rattle.isad_core.specs.Texts.{Bytes}
 use Rattle.isad_core.specs.Printed.{aid}
 use Rattle.isad_core.specs.declared.values.BoxKey.{BoxKey}
-use Rattle.isad_core.specs.declared.shown.Shown.{Shown}
 use Rattle.atom_csv.specs.declared.file.Row.{Row}
 use Rattle.atom_csv.specs.Reads.{IsBad}
 use Rattle.atom_csv.specs.declared.file.FileFault.{FileFault}
 use Rattle.atom_csv.specs.declared.file.FileFault.TheVariants.{Bad, Memory}
 use Rattle.isad_core.specs.Boxes.{distinct}
-use Rattle.tree_core.specs.Forest.{Forest, Empty, Node}
+use Rattle.tree_core.specs.Forest.{Forest, Empty}
 use Rattle.catalogue_core.specs.Merging.{box_number, empty_catalogue, is_known, merge, merged, numbered_from, or_first}
-use Rattle.catalogue_core.specs.Publishing.{PublicUnit, Told, Stub}
-use Rattle.catalogue_core.specs.Aids.{Repository, identifier_of, shown_below, shown_unit}
-use Rattle.finding_aids.specs.Numbers.{AreNumbered, Texts}
+use Rattle.catalogue_core.specs.Publishing.{PublicUnit}
+use Rattle.catalogue_core.specs.Aids.{Repository, shown_by}
+use Rattle.finding_aids.specs.Numbers.{AreNumbered, Texts, number_by}
 use Rattle.finding_aids.specs.Places.{faults}
 use Rattle.finding_aids.specs.Planting.{grove, seen_below}
 use Rattle.finding_aids.specs.Preview.{after_merging}
-use Rattle.finding_aids.specs.Printing.{number_by, shown_by, shown_unit_by}
 use Rattle.finding_aids.specs.declared.previews.planting.Tree.{Tree}
 
 -- ---- every row of a file is new
@@ -34,18 +32,6 @@ merge-rows : (rows : List Row) → merge empty_catalogue [] rows ≡ or_first (f
 merge-rows rows = ap (λ (new : List Row). or_first (faults new) (merged empty_catalogue [] rows (numbered_from Empty [] 1 [] new))) (all_new rows)
 
 -- ---- what is shown, by the numbers of the code
-
-shown_unit-by : (at : Repository) (containers : List BoxKey) (ids : List Bytes) (depth : ℕ) (unit : PublicUnit) → shown_unit at containers ids depth unit ≡ shown_unit_by at (box_number containers) ids depth unit
-shown_unit-by at containers ids depth (Told id values) = refl
-shown_unit-by at containers ids depth (Stub id name level until) = refl
-
-shown_below-by : (at : Repository) (containers : List BoxKey) (ids : List Bytes) (depth : ℕ) (f : Forest PublicUnit) → shown_below at containers ids depth f ≡ shown_by at (box_number containers) ids depth f
-shown_below-by at containers ids depth Empty = refl
-shown_below-by at containers ids depth (Node unit children others) =
-    let path = ids ++ identifier_of unit ∷ [] in
-    ap (λ (s : Shown). s ∷ (shown_below at containers path (depth + 1) children ++ shown_below at containers ids depth others)) (shown_unit-by at containers path depth unit)
-    ∙ (ap (λ (below : List Shown). shown_unit_by at (box_number containers) path depth unit ∷ (below ++ shown_below at containers ids depth others)) (shown_below-by at containers path (depth + 1) children)
-    ∙ ap (λ (beside : List Shown). shown_unit_by at (box_number containers) path depth unit ∷ (shown_by at (box_number containers) path (depth + 1) children ++ beside)) (shown_below-by at containers ids depth others))
 
 numbers_by : (seen : List BoxKey) (numbers : BTreeMap Texts ℕ) → AreNumbered seen numbers → number_by numbers ≡ box_number (distinct seen)
 numbers_by seen numbers h = fun_ext (λ b. ap (λ o. unwrap_or o 0) (h.numbered b))
@@ -60,9 +46,9 @@ previewed at rows trees numbers text none planted numbered printed =
     let public = seen_below None (numbered_from Empty [] 1 [] rows) in
     ap (after_merging at) (merge-rows rows)
     ∙ (ap (λ (fs : List (ℕ × ℕ)). after_merging at (or_first fs (merged empty_catalogue [] rows (numbered_from Empty [] 1 [] rows)))) none
-    ∙ ap Ok (ap aid (shown_below-by at (distinct seen) [] 0 public)
-    ∙ (ap (λ (n : BoxKey → ℕ). aid (shown_by at n [] 0 public)) (sym (numbers_by seen numbers numbered))
-    ∙ (ap (λ (f : Forest PublicUnit). aid (shown_by at (number_by numbers) [] 0 f)) (sym planted) ∙ sym printed))))
+    ∙ ap Ok
+    (ap (λ (n : BoxKey → ℕ). aid (shown_by at n [] 0 public)) (sym (numbers_by seen numbers numbered))
+    ∙ (ap (λ (f : Forest PublicUnit). aid (shown_by at (number_by numbers) [] 0 f)) (sym planted) ∙ sym printed)))
 
 pub preview_refused : (at : Repository) (rows : List Row) (row cause : ℕ) → (later : List (ℕ × ℕ)) × (faults rows ≡ (row, cause) ∷ later)
     → after_merging at (merge empty_catalogue [] rows) ≡ Err (row, cause)

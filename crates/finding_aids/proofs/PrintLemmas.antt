@@ -11,9 +11,8 @@ use Rattle.isad_core.specs.declared.values.BoxKey.{BoxKey}
 use Rattle.isad_core.specs.declared.shown.Shown.{Shown}
 use Rattle.tree_core.specs.Forest.{Forest, Empty, Node, join}
 use Rattle.catalogue_core.specs.Publishing.{PublicUnit}
-use Rattle.catalogue_core.specs.Aids.{Repository, identifier_of}
+use Rattle.catalogue_core.specs.Aids.{Repository, identifier_of, shown_by, shown_told, shown_unit_by}
 use Rattle.finding_aids.specs.Planting.{grove, height, height_of_all, side_by_side, tree_of}
-use Rattle.finding_aids.specs.Printing.{shown_by, shown_told, shown_unit_by}
 use Rattle.finding_aids.specs.declared.previews.planting.Tree.{Tree}
 use Rattle.finding_aids.specs.declared.previews.planting.Tree.TheViews.{out-Tree}
 use Rattle.finding_aids.proofs.PlantLemmas.{height-parts, length-push, side_by_side-push, tree_of-parts}

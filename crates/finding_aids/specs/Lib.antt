@@ -2,5 +2,4 @@ pub mod Numbers
 pub mod Places
 pub mod Planting
 pub mod Preview
-pub mod Printing
 pub mod Slots

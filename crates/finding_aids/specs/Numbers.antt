@@ -1,5 +1,5 @@
 -- The numbers of containers as the code keeps them.
-use Rattle.std.specs.Prelude.{◌≡◌, ℕ, List, length, Option}
+use Rattle.std.specs.Prelude.{◌≡◌, ℕ, List, length, Option, unwrap_or}
 use Rattle.std.specs.Borrow.{Bor}
 use Rattle.std.specs.BTreeMap.{BTreeMap, btree_map_len, get_by}
 use Rattle.std.specs.Cmp.Lexicographic.{slice_cmp}
@@ -26,3 +26,7 @@ number_at numbers b = get_by (compared b.name b.location b.kind) numbers
 pub record AreNumbered (seen : List BoxKey) (numbers : BTreeMap Texts ℕ) : Type 0 where
   pub numbered : (b : BoxKey) → number_at numbers b ≡ number_in (distinct seen) b
   pub count : btree_map_len numbers ≡ length (distinct seen)
+
+-- the number of a container, by the map
+abbrev pub number_by : BTreeMap Texts ℕ → BoxKey → ℕ
+number_by numbers b = unwrap_or (number_at numbers b) 0

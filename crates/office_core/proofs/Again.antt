@@ -14,7 +14,7 @@ use Rattle.office_core.specs.declared.done.Done.TheVariants as done
 use Rattle.office_core.specs.declared.done.Remark.{Remark}
 use Rattle.office_core.specs.State.{State}
 use Rattle.catalogue_core.specs.Intake.{Intake, Taken, take, take_rows, with_file, is_full, is_same, is_new}
-use Rattle.office_core.specs.Intake.{bad_file, too_much, remarks, told_of}
+use Rattle.office_core.specs.ImportReply.{bad_file, too_much, remarks, told_of}
 use Rattle.office_core.specs.Rules.{Reply, taken, imported, gate, decided, step}
 use Rattle.catalogue_core.specs.Sources.{is_source}
 use Rattle.office_core.specs.Laws.{ImportsAgain}

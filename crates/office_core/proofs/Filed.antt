@@ -12,7 +12,7 @@ use Rattle.office_core.specs.declared.command.Command.{Command}
 use Rattle.office_core.specs.declared.command.Command.TheVariants as command
 use Rattle.office_core.specs.Rules.{checks, after, ordered, cancelled, fetched, reshelved, issued, returned, state_after, imported, taken}
 use Rattle.catalogue_core.specs.Intake.{Taken}
-use Rattle.office_core.specs.Sound.{ExactlyOne, IsFiled, is_out_for, IsAscending, AreFiled}
+use Rattle.office_core.specs.SoundDesk.{ExactlyOne, IsFiled, is_out_for, IsAscending, AreFiled}
 use Rattle.office_core.proofs.Words.{same_number, other_number, put_here, put_there, put_each, stands-push, stands-without_other, stands-without_same, below_none, ascending-without, ascending-push, all_from_stands, numbered_within, numbered-push, numbered-push_last, numbered_past}
 use Rattle.office_core.proofs.Steps.{held_so, Passes, run_keeps}
 
@@ -299,7 +299,7 @@ all_taken P (suc k) [] h = tt
 all_taken P (suc k) (n ∷ ns) h = (h.0, all_taken P k ns h.1)
 
 pub picked_due : (s : State) → AllByRecursion (λ o. is_due s o ≡ true) (picked s)
-picked_due s = all_taken (λ o. is_due s o ≡ true) s.settings.run (filter (is_due s) (numbers_to (length s.orders))) (all_filtered (is_due s) (numbers_to (length s.orders)))
+picked_due s = all_taken (λ o. is_due s o ≡ true) s.settings.run_size (filter (is_due s) (numbers_to (length s.orders))) (all_filtered (is_due s) (numbers_to (length s.orders)))
 
 line_of : ℕ → Order → Line
 line_of o order = record { container = order.container; order = o; ticket = order.ticket }

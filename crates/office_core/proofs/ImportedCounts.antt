@@ -17,7 +17,7 @@ use Rattle.office_core.specs.declared.done.Remark.{Remark}
 use Rattle.office_core.specs.State.{State}
 use Rattle.catalogue_core.specs.Finding.{has_unit}
 use Rattle.catalogue_core.specs.Intake.{Intake, Taken, is_new}
-use Rattle.office_core.specs.Intake.{told_of, bad_file}
+use Rattle.office_core.specs.ImportReply.{told_of, bad_file}
 use Rattle.office_core.specs.Rules.{Reply, taken, imported}
 use Rattle.catalogue_core.specs.GoodCatalogues.{AreGoodUnits}
 use Rattle.office_core.specs.Soundness.{IsSound}

@@ -15,13 +15,13 @@ use Rattle.office_core.specs.declared.command.Command.TheVariants as command
 use Rattle.office_core.specs.State.{State}
 use Rattle.catalogue_core.specs.Finding.{has_unit}
 use Rattle.catalogue_core.specs.Intake.{Intake, Taken, is_full}
-use Rattle.office_core.specs.Intake.{too_much}
+use Rattle.office_core.specs.ImportReply.{too_much}
 use Rattle.isad_core.specs.Limits.{most_units, most_unit_numbers, most_containers}
 use Rattle.catalogue_core.specs.Sources.{is_source}
 use Rattle.office_core.specs.Rules.{taken, imported, checks, after}
 use Rattle.catalogue_core.specs.GoodCatalogues.{AreGoodUnits, AreGoodContainers, IsGoodUnit}
 use Rattle.office_core.specs.Soundness.{ArePermitsOfUnits, IsSound}
-use Rattle.office_core.specs.Imported.{IsSoundCatalogue, ImportsKeepTheCatalogue}
+use Rattle.office_core.specs.Imported.{HasGoodCatalogue, ImportsKeepTheCatalogue}
 use Rattle.office_core.proofs.Steps.{Passes, held_so, held_not, step_at}
 use Rattle.catalogue_core.proofs.EachOf.{all_and, all_append, all_distinct, all_filtered}
 use Rattle.catalogue_core.proofs.DistinctLists.{all_so}
@@ -125,18 +125,18 @@ module _ (s : State) (source file : Bytes) (intake : Intake) (e : taken s source
   permits_there : ArePermitsOfUnits after_import
   permits_there = λ t. all_so (λ permit. has_unit s.catalogue.forest permit.unit ≡ true) (λ permit. has_unit forest permit.unit ≡ true) (λ permit. still_there source rows new s.catalogue.forest permit.unit) (s.permits t) (g.permits t)
 
-  sound_import : IsSoundCatalogue (imported s (Ok intake))
-  sound_import = subst IsSoundCatalogue (sym is_after) (record { units = good_units; containers = good_containers; permits = permits_there })
+  sound_import : HasGoodCatalogue (imported s (Ok intake))
+  sound_import = subst HasGoodCatalogue (sym is_after) (record { units = good_units; containers = good_containers; permits = permits_there })
 
-at_taken : (s : State) (source file : Bytes) (t : Taken) → taken s source file ≡ t → IsSound s → is_source source ≡ true → too_much t ≡ None → IsSoundCatalogue (imported s t)
+at_taken : (s : State) (source file : Bytes) (t : Taken) → taken s source file ≡ t → IsSound s → is_source source ≡ true → too_much t ≡ None → HasGoodCatalogue (imported s t)
 at_taken s source file (Ok intake) e g named fits = sound_import s source file intake e g named fits
 at_taken s source file (Err fault) e g named fits = record { units = g.units; containers = g.containers; permits = g.permits }
 
-pub import_keeps_units : (s : State) (source file : Bytes) → IsSound s → Passes (checks s (command.Import source file)) → IsSoundCatalogue (after s (command.Import source file))
+pub import_keeps_units : (s : State) (source file : Bytes) → IsSound s → Passes (checks s (command.Import source file)) → HasGoodCatalogue (after s (command.Import source file))
 import_keeps_units s source file g ok = at_taken s source file (taken s source file) refl g (held_so (is_source source) _ ok.0) ok.1.1.0
 
 pub imports_keep : (s : State) → IsSound s → ImportsKeepTheCatalogue s
 imports_keep s g source file =
-    step_at (λ t reply. IsSoundCatalogue t) s (command.Import source file)
+    step_at (λ t reply. HasGoodCatalogue t) s (command.Import source file)
     (λ why. record { units = g.units; containers = g.containers; permits = g.permits })
     (λ ok. import_keeps_units s source file g ok)

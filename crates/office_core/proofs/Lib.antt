@@ -1,5 +1,5 @@
 pub mod Orders
-pub mod Rows
+pub mod WorkedReplies
 pub mod Counts
 pub mod Steps
 pub mod Words
@@ -13,15 +13,15 @@ pub mod Places
 pub mod OrderLaws
 pub mod Boxes
 pub mod Numbers
-pub mod Soundness
-pub mod AnswerRows
+pub mod SoundDesk
+pub mod WorkedAnswers
 pub mod NoLeak
 pub mod Published
 pub mod Again
 pub mod Comes
 pub mod Days
 pub mod Starts
-pub mod Stays
+pub mod StaysSound
 pub mod WorkedSound
 pub mod ImportedUnits
 pub mod ImportedCounts

@@ -12,7 +12,7 @@ use Rattle.isad_core.specs.Texts.{Bytes}
 use Rattle.isad_core.specs.Boxes.{distinct}
 use Rattle.desk_core.specs.declared.refusal.Refusal.{Refusal}
 use Rattle.catalogue_core.specs.Intake.{Taken}
-use Rattle.office_core.specs.Sound.{IsAscending}
+use Rattle.office_core.specs.SoundDesk.{IsAscending}
 use Rattle.office_core.specs.Laws.{Kind, Tickets, Orders, Runs, Containers, Units, numbers_from, ticket_given, order_given, run_given, given, all_given}
 use Rattle.catalogue_core.proofs.EachOf.{all_append}
 use Rattle.catalogue_core.proofs.DistinctLists.{all_so}

@@ -13,7 +13,7 @@ use Rattle.office_core.specs.declared.command.Command.TheVariants as command
 use Rattle.office_core.specs.Rules.{Reply, checks, after, step, ordered, cancelled, fetched, reshelved, issued, returned, imported, taken}
 use Rattle.office_core.specs.declared.done.Done.TheVariants as done
 use Rattle.catalogue_core.specs.Intake.{Taken}
-use Rattle.office_core.specs.Sound.{is_out_for, IsAscending, AreFiled}
+use Rattle.office_core.specs.SoundDesk.{is_out_for, IsAscending, AreFiled}
 use Rattle.office_core.specs.Laws.{Standing, Waiting, WithItsReader, Ended, stands_as, standing, OutApart, Goes, GoesOn, IsFirstWaiting, IssuesTheFirst}
 use Rattle.office_core.proofs.Words.{same_number}
 use Rattle.office_core.proofs.Steps.{held_so, Passes, step_at}

@@ -18,7 +18,7 @@ use Rattle.isad_core.specs.Limits.{most_orders}
 use Rattle.catalogue_core.specs.Housing.{is_open}
 use Rattle.isad_core.specs.Boxes.{distinct}
 use Rattle.catalogue_core.specs.Intake.{Taken}
-use Rattle.office_core.specs.Sound.{ExactlyOne, IsFiled, is_out_for, AreFiled, IsGoodOrder, AreGoodOrders}
+use Rattle.office_core.specs.SoundDesk.{ExactlyOne, IsFiled, is_out_for, AreFiled, IsGoodOrder, AreGoodOrders}
 use Rattle.office_core.proofs.Words.{same_number, put_each, numbered-push, numbered-push_last}
 use Rattle.office_core.proofs.Steps.{held_so, held_not, Passes}
 use Rattle.office_core.proofs.Extends.{Extends, extends_after, same_day, no_later_than}

@@ -14,7 +14,7 @@ use Rattle.office_core.specs.declared.command.Command.{Command}
 use Rattle.office_core.specs.declared.command.Command.TheVariants as command
 use Rattle.office_core.specs.Rules.{is_kept_from_holder, kept, checks, after, ordered, cancelled, fetched, reshelved, issued, returned, imported, taken}
 use Rattle.catalogue_core.specs.Intake.{Taken}
-use Rattle.office_core.specs.Sound.{is_out_for, AreFiled, AreGoodOrders, IsGoodHolder, AreGoodPlaces}
+use Rattle.office_core.specs.SoundDesk.{is_out_for, AreFiled, AreGoodOrders, IsGoodHolder, AreGoodPlaces}
 use Rattle.office_core.proofs.Words.{same_number, put_here, put_there, put_each, numbered_within}
 use Rattle.office_core.proofs.Steps.{held_so, held_not, passes_gate, Passes}
 use Rattle.office_core.proofs.Filed.{out_with, fetched_out, reshelved_out}

@@ -16,7 +16,7 @@ use Rattle.office_core.specs.declared.command.Command.TheVariants as command
 use Rattle.isad_core.specs.Limits.{most_tickets, most_permits}
 use Rattle.office_core.specs.Rules.{is_name, renewed, checks, after, cancelled, issued, returned, imported, taken, removed}
 use Rattle.catalogue_core.specs.Intake.{Taken}
-use Rattle.office_core.specs.Sound.{AreGoodReaders, ByUnit, AreGoodPermits}
+use Rattle.office_core.specs.SoundDesk.{AreGoodReaders, ByUnit, AreGoodPermits}
 use Rattle.office_core.proofs.Words.{put_each, numbered-push, numbered-push_last, other_number}
 use Rattle.office_core.proofs.Steps.{held_so, held_not, Passes}
 use Rattle.office_core.proofs.Extends.{Extends, extends_after}

@@ -13,7 +13,7 @@ use Rattle.isad_core.specs.Limits.{most_runs}
 use Rattle.office_core.specs.Rules.{checks, after, fetched, cancelled, issued, returned, imported, taken}
 use Rattle.isad_core.specs.Boxes.{distinct}
 use Rattle.catalogue_core.specs.Intake.{Taken}
-use Rattle.office_core.specs.Sound.{IsAscending, IsGoodLine, AreApart, IsGoodRun, AreGoodRuns}
+use Rattle.office_core.specs.SoundDesk.{IsAscending, IsGoodLine, AreApart, IsGoodRun, AreGoodRuns}
 use Rattle.office_core.proofs.Words.{same_number, all-push, ascending-push, numbered-push, numbered-push_last}
 use Rattle.office_core.proofs.Steps.{held_not, Passes}
 use Rattle.office_core.proofs.Filed.{all_taken, picked_due}
@@ -55,7 +55,7 @@ ascending_take (suc k) [] h = tt
 ascending_take (suc k) (m ∷ ms) h = (all_taken (λ n. m < n) k ms h.0, ascending_take k ms h.1)
 
 ascending_picked : (s : State) → IsAscending (picked s)
-ascending_picked s = ascending_take s.settings.run (filter (is_due s) (numbers_to (length s.orders))) (ascending_filter (is_due s) (numbers_to (length s.orders)) (ascending_to (length s.orders)))
+ascending_picked s = ascending_take s.settings.run_size (filter (is_due s) (numbers_to (length s.orders))) (ascending_filter (is_due s) (numbers_to (length s.orders)) (ascending_to (length s.orders)))
 
 -- an order that is due
 
@@ -131,7 +131,7 @@ good_run s t run e g =
     record {
       day = no_later_than run.day s.day t.day a b;
       some = g.some;
-      few = subst (λ settings. length run.lines ≤ settings.run) (sym e.settings) g.few;
+      few = subst (λ settings. length run.lines ≤ settings.run_size) (sym e.settings) g.few;
       apart = g.apart;
       lines = all_weaker (IsGoodLine s) (IsGoodLine t) (λ l h. good_line s t l e h) run.lines g.lines;
     }
@@ -148,7 +148,7 @@ run_good s some =
     let all = picked_due s in
     let n = count_lines s (picked s) all in
     let one = not_empty (picked s) some in
-    let most = length-take s.settings.run (filter (is_due s) (numbers_to (length s.orders))) in
+    let most = length-take s.settings.run_size (filter (is_due s) (numbers_to (length s.orders))) in
     record {
       day = same_day s.day;
       some = omega (arith, n, one);

@@ -12,7 +12,7 @@ use Rattle.office_core.specs.declared.command.Command.TheVariants as command
 use Rattle.office_core.specs.Rules.{checks, after, cancelled, issued, returned, imported, taken}
 use Rattle.isad_core.specs.Boxes.{distinct}
 use Rattle.catalogue_core.specs.Intake.{Taken}
-use Rattle.office_core.specs.Sound.{SitOnce, AreGoodSeats}
+use Rattle.office_core.specs.SoundDesk.{SitOnce, AreGoodSeats}
 use Rattle.office_core.proofs.Words.{same_number, other_number}
 use Rattle.office_core.proofs.Steps.{held_so, held_not, Passes}
 use Rattle.office_core.proofs.Extends.{Extends, extends_after}

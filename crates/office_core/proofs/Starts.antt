@@ -6,7 +6,7 @@ use Rattle.isad_core.specs.Days.{IsDayNumber}
 use Rattle.office_core.specs.State.{Settings, start}
 use Rattle.office_core.specs.Soundness.{AreGoodSettings, IsSound}
 use Rattle.catalogue_core.specs.GoodCatalogues.{AreGoodUnits}
-use Rattle.office_core.proofs.Soundness.{desk_start}
+use Rattle.office_core.proofs.SoundDesk.{desk_start}
 
 no_units : (settings : Settings) (day : ℤ) → AreGoodUnits (start settings day).catalogue
 unfolding IsDistinct

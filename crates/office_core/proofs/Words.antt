@@ -4,7 +4,7 @@ use Rattle.std.specs.Prelude.{nat_eq, is_some}
 use Rattle.std.specs.List.{AllByRecursion}
 use Rattle.std.proofs.lemmas.Bool.{eqb-true, ne_eqb, eq-eqb, cases_eq, false≢true}
 use Rattle.office_core.specs.Words.{numbered, put, stands, without}
-use Rattle.office_core.specs.Sound.{IsAscending}
+use Rattle.office_core.specs.SoundDesk.{IsAscending}
 
 pub same_number : (n : ℕ) → nat_eq n n ≡ true
 same_number n = eq-eqb n n refl

@@ -18,12 +18,12 @@ use Rattle.catalogue_core.specs.Finding.{has_unit}
 use Rattle.catalogue_core.specs.Moves.{height}
 use Rattle.office_core.specs.Rules.{is_name}
 use Rattle.isad_core.specs.Limits.{most_permits}
-use Rattle.office_core.specs.Sound.{ByUnit, IsSoundDesk}
+use Rattle.office_core.specs.SoundDesk.{ByUnit, IsSoundDesk}
 use Rattle.catalogue_core.specs.GoodCatalogues.{IsSomeDay, IsGoodUnit, is_same_unit, AreGoodUnits}
 use Rattle.office_core.specs.Soundness.{IsSound}
 use Rattle.office_core.specs.Worked.{office, march_1, march_31, year_end, titled, units_from, permits_from, hundred_permits}
 use Rattle.office_core.proofs.Words.{put_each}
-use Rattle.office_core.proofs.Soundness.{desk_start, no_value}
+use Rattle.office_core.proofs.SoundDesk.{desk_start, no_value}
 
 -- ---- units side by side
 
@@ -169,7 +169,7 @@ hundred_desk =
 pub hundred_sound : IsSound hundred_permits
 hundred_sound =
     record {
-      settings = record { country = refl; repo = refl; seats = refl; daily = refl; hands = refl; run = refl };
+      settings = record { country = refl; repo = refl; seats = refl; daily = refl; hands = refl; run_size = refl };
       days = record {
         today = (omega (arith, ints), omega (arith, ints));
         readers = ((omega (arith, ints), omega (arith, ints)), tt);

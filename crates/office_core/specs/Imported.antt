@@ -12,14 +12,14 @@ use Rattle.catalogue_core.specs.GoodCatalogues.{AreGoodUnits, AreGoodContainers}
 use Rattle.office_core.specs.Soundness.{ArePermitsOfUnits}
 
 -- the catalogue's own lines of soundness
-pub record IsSoundCatalogue (s : State) : Type 0 where
+pub record HasGoodCatalogue (s : State) : Type 0 where
   pub units : AreGoodUnits s.catalogue
   pub containers : AreGoodContainers s.catalogue
   pub permits : ArePermitsOfUnits s
 
 -- whatever file is imported from whatever source, taken or refused
 abbrev pub ImportsKeepTheCatalogue : State → Type 0
-ImportsKeepTheCatalogue s = (source file : Bytes) → IsSoundCatalogue (step s (command.Import source file)).0
+ImportsKeepTheCatalogue s = (source file : Bytes) → HasGoodCatalogue (step s (command.Import source file)).0
 
 -- An accepted import takes no unit away, and brings as many as its reply counts as new: each unit number that was there is
 -- there, so many more units are there, and so many unit numbers are given.

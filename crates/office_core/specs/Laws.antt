@@ -3,7 +3,7 @@ use Rattle.std.specs.Prelude.{◌≡◌, ◌≢◌, ℕ, zero, suc, ◌-◌, ◌
 use Rattle.office_core.specs.Words.{numbered, stands}
 use Rattle.office_core.specs.State.{Order, End, Done, Cancelled, State, container_of, order_out, is_by}
 use Rattle.catalogue_core.specs.Finding.{has_unit}
-use Rattle.office_core.specs.Sound.{is_out_for, IsGoodHolder}
+use Rattle.office_core.specs.SoundDesk.{is_out_for, IsGoodHolder}
 use Rattle.office_core.specs.declared.command.Command.{Command}
 use Rattle.office_core.specs.declared.command.Command.TheVariants as command
 use Rattle.office_core.specs.declared.done.Done.TheVariants as done

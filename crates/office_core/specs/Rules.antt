@@ -22,7 +22,7 @@ use Rattle.office_core.specs.State.{Reader, State, is_ticket, is_expired, is_sea
 use Rattle.catalogue_core.specs.Finding.{has_unit}
 use Rattle.office_core.specs.State as state
 use Rattle.catalogue_core.specs.Intake.{Taken, take}
-use Rattle.office_core.specs.Intake.{bad_file, too_much, told_of}
+use Rattle.office_core.specs.ImportReply.{bad_file, too_much, told_of}
 use Rattle.catalogue_core.specs.Sources.{is_source}
 
 -- ---- names

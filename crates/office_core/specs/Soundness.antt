@@ -10,7 +10,7 @@ use Rattle.office_core.specs.declared.command.Command.TheVariants as command
 use Rattle.office_core.specs.State.{Settings, State}
 use Rattle.catalogue_core.specs.Finding.{has_unit}
 use Rattle.catalogue_core.specs.Sources.{is_between}
-use Rattle.office_core.specs.Sound.{IsSoundDesk}
+use Rattle.office_core.specs.SoundDesk.{IsSoundDesk}
 use Rattle.catalogue_core.specs.GoodCatalogues.{IsSomeDay, AreGoodUnits, AreGoodContainers}
 
 -- ---- settings
@@ -29,7 +29,7 @@ pub record AreGoodSettings (settings : Settings) : Type 0 where
   pub seats : is_between 1 200 settings.seats ≡ true
   pub daily : is_between 1 50 settings.daily ≡ true
   pub hands : is_between 1 10 settings.hands ≡ true
-  pub run : is_between 1 100 settings.run ≡ true
+  pub run_size : is_between 1 100 settings.run_size ≡ true
 
 pub record AreGoodDays (s : State) : Type 0 where
   pub today : IsDayNumber s.day

@@ -15,7 +15,7 @@ pub record Settings : Type 0 where
   pub seats : ℕ  -- how many seats there are
   pub daily : ℕ  -- how many orders a ticket may place in a day
   pub hands : ℕ  -- how many containers may be out with a ticket
-  pub run : ℕ  -- how many containers a run takes
+  pub run_size : ℕ  -- how many containers a run takes
 
 pub record Reader : Type 0 where
   pub name : Bytes
@@ -41,10 +41,9 @@ pub data End : Type 0 where
   Done : End
   Cancelled : End
 
--- a permit for a unit, to a day inclusive
 pub record Permit : Type 0 where
   pub unit : ℕ
-  pub until : ℤ
+  pub until : ℤ  -- its last day
 
 pub record State : Type 0 where
   pub settings : Settings
@@ -180,7 +179,7 @@ is_due s o =
 
 -- the least orders that are due, as many as a run takes
 abbrev pub picked : State → List ℕ
-picked s = take s.settings.run (filter (is_due s) (numbers_to (length s.orders)))
+picked s = take s.settings.run_size (filter (is_due s) (numbers_to (length s.orders)))
 
 abbrev pub line_for : State → ℕ → Option Line
 line_for s o =

@@ -38,7 +38,7 @@ year_2030 = pos 21915
 -- ---- the office, on 1 March 2024
 
 abbrev pub office : State
-office = start (record { country = codes "GB"; repo = codes "0999"; seats = 2; daily = 3; hands = 1; run = 2 }) march_1
+office = start (record { country = codes "GB"; repo = codes "0999"; seats = 2; daily = 3; hands = 1; run_size = 2 }) march_1
 
 -- the replies to these commands, from the new office on
 abbrev pub Answers : List Command → List Reply → Type 0

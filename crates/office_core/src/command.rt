@@ -21,7 +21,7 @@ pub enum Command {
         draft: bool,
         branch: bool,
     },
-    /// A unit is closed until a day, or no more.
+    /// A unit is closed until a day, on which it is open again, or no more.
     SetClosure {
         unit: u64,
         until: Option<Day>,
@@ -35,7 +35,7 @@ pub enum Command {
     Remove {
         unit: u64,
     },
-    /// A reader gets a ticket.
+    /// A reader gets a ticket, with its last day.
     Register {
         name: Text,
         until: Day,
@@ -73,7 +73,7 @@ pub enum Command {
     Return {
         container: u64,
     },
-    /// A ticket gets a permit for a closed unit.
+    /// A ticket gets a permit for a closed unit, with its last day.
     Permit {
         ticket: u64,
         unit: u64,

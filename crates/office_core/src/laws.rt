@@ -6,7 +6,7 @@ ghost use Rattle.std.specs.List.{AllByRecursion};
 ghost use Rattle.office_core.specs.declared.command.Command.{Command};
 ghost use Rattle.office_core.specs.State.{State, Settings, start};
 ghost use Rattle.office_core.specs.Rules.{step, state_after};
-ghost use Rattle.office_core.specs.Sound.{IsSoundDesk, IsAscending};
+ghost use Rattle.office_core.specs.SoundDesk.{IsSoundDesk, IsAscending};
 ghost use Rattle.isad_core.specs.Days.{IsDayNumber};
 ghost use Rattle.tree_core.specs.Spans.{number};
 ghost use Rattle.office_core.specs.Soundness.{AreGoodDays, AreGoodSettings, IsSound, NamesDays};

@@ -1,7 +1,7 @@
 //! The rules at work in small offices, worked by hand.
 
-ghost use Rattle.office_core.specs.Rows as row;
-ghost use Rattle.office_core.specs.AnswerRows as answers;
+ghost use Rattle.office_core.specs.WorkedReplies as row;
+ghost use Rattle.office_core.specs.WorkedAnswers as answers;
 ghost use Rattle.office_core.specs.DeskRows as desk;
 ghost use Rattle.office_core.specs.CatalogueRows as catalogue;
 ghost use Rattle.office_core.specs.ShownRows as shown;

@@ -9,8 +9,8 @@ use Rattle.desk_core.specs.declared.reader.Place.TheVariants.{Shelf, Desk, Out}
 use Rattle.office_core.specs.Words.{numbers_to}
 use Rattle.office_core.specs.State.{State, Line, Run, Permit, is_seat_of, containers}
 use Rattle.catalogue_core.specs.Members.{StandsIn}
-use Rattle.office_core.specs.Sound.{IsAscending, SitOnce, AreApart, ByUnit, IsSoundDesk}
-use Rattle.office_rows.specs.Tables.{ReaderRow, reader_row, SeatRow, seat_rows_from, OrderRow, order_row, HoldingRow, holding_row, RunRow, run_row, RunLineRow, run_line_row, lines_from, PermitRow, permit_row}
+use Rattle.office_core.specs.SoundDesk.{IsAscending, SitOnce, AreApart, ByUnit, IsSoundDesk}
+use Rattle.office_rows.specs.DeskRows.{ReaderRow, reader_row, SeatRow, seat_rows_from, OrderRow, order_row, HoldingRow, holding_row, RunRow, run_row, RunLineRow, run_line_row, lines_from, PermitRow, permit_row}
 use Rattle.tree_core.specs.Versions.{Version}
 use Rattle.office_rows.specs.Reading.{tables}
 use Rattle.office_rows.specs.DeskCauses.{AreInOrder, MeetsDeskKeys}

@@ -14,10 +14,10 @@ use Rattle.office_core.specs.Words.{numbered, some_and, stands}
 use Rattle.office_core.specs.State.{State, Order, End, Done, Cancelled, container_of, containers, is_container, order_out}
 use Rattle.catalogue_core.specs.Members.{StandsIn}
 use Rattle.office_core.specs.Laws.{Standing, Waiting, WithItsReader, Ended, stands_as, standing}
-use Rattle.office_core.specs.Sound.{ExactlyOne, IsFiled, is_out_for}
+use Rattle.office_core.specs.SoundDesk.{ExactlyOne, IsFiled, is_out_for}
 use Rattle.office_core.specs.Soundness.{IsSound}
 use Rattle.catalogue_core.specs.Sources.{is_between}
-use Rattle.office_rows.specs.Tables.{rows_from, OrderRow, order_row, order_rows, state_number, HoldingRow, holding_row, holding_rows}
+use Rattle.office_rows.specs.DeskRows.{rows_from, OrderRow, order_row, order_rows, state_number, HoldingRow, holding_row, holding_rows}
 use Rattle.tree_core.specs.Versions.{Version}
 use Rattle.office_rows.specs.Reading.{tables}
 use Rattle.office_rows.specs.DeskCauses.{are_numbered_from, is_registered, is_container_there, is_live, are_twice, is_of_the_day, is_good_order, are_good_orders, is_out_order, is_good_holding, is_holding_of, has_its_holding, are_good_holdings}

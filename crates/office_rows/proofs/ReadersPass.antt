@@ -15,7 +15,7 @@ use Rattle.office_core.specs.Soundness.{IsSound}
 use Rattle.office_core.specs.Rules.{is_name}
 use Rattle.catalogue_core.specs.Sources.{is_between}
 use Rattle.isad_core.specs.Limits.{most_tickets, most_permits}
-use Rattle.office_rows.specs.Tables.{ReaderRow, reader_row, reader_rows, SeatRow, seat_rows_from, seat_rows, PermitRow, permit_row, permit_rows}
+use Rattle.office_rows.specs.DeskRows.{ReaderRow, reader_row, reader_rows, SeatRow, seat_rows_from, seat_rows, PermitRow, permit_row, permit_rows}
 use Rattle.tree_core.specs.Versions.{Version}
 use Rattle.office_rows.specs.Reading.{tables}
 use Rattle.office_rows.specs.DeskCauses.{are_numbered_from, is_good_reader, is_good_seat, is_good_permit, are_good_readers, is_registered, is_unit_there}

@@ -10,10 +10,10 @@ use Rattle.isad_core.proofs.DayLemmas.{is_day_number-true}
 use Rattle.office_core.specs.Words.{numbered, some_and}
 use Rattle.office_core.specs.State.{State, Order, Line, Run, containers, is_seated, held, opens, order_out}
 use Rattle.catalogue_core.specs.Members.{StandsIn}
-use Rattle.office_core.specs.Sound.{IsGoodLine}
+use Rattle.office_core.specs.SoundDesk.{IsGoodLine}
 use Rattle.office_core.specs.Soundness.{IsSound}
 use Rattle.isad_core.specs.Limits.{most_runs}
-use Rattle.office_rows.specs.Tables.{RunRow, run_row, run_rows, RunLineRow, run_line_row, lines_from, run_line_rows, OrderRow}
+use Rattle.office_rows.specs.DeskRows.{RunRow, run_row, run_rows, RunLineRow, run_line_row, lines_from, run_line_rows, OrderRow}
 use Rattle.tree_core.specs.Versions.{Version}
 use Rattle.office_rows.specs.Reading.{line_from, run_from, tables}
 use Rattle.office_rows.specs.DeskCauses.{are_numbered_from, is_good_run, is_order_of_line, is_good_line, are_good_runs, holds_well, is_held_against_rules, day_is_broken}
@@ -73,7 +73,7 @@ module _ (version : Version) (s : State) (g : IsSound s) where
       let count = lines_count n run e in
       and_from (is_day_number run.day) _ (is_day_number-true run.day (all_in (λ run. IsDayNumber run.day) s.runs run g.days.runs (numbered_in s.runs n run e)))
       (and_from (int_le run.day s.day) _ (not_later run.day s.day it.day)
-      (between 1 s.settings.run (count_by (λ (line : RunLineRow). nat_eq line.run n) t.run_lines) (omega (arith, some, count)) (omega (arith, few, count))))
+      (between 1 s.settings.run_size (count_by (λ (line : RunLineRow). nat_eq line.run n) t.run_lines) (omega (arith, some, count)) (omega (arith, few, count))))
 
   good_run : (r : RunRow) → StandsIn r (run_rows s) → is_good_run (tables version s) r ≡ true
   good_run r k =

@@ -9,8 +9,8 @@ use Rattle.office_core.specs.Words.{numbered, some_and, stands}
 use Rattle.office_core.specs.State.{End, Done, Cancelled, container_of}
 use Rattle.catalogue_core.specs.Members.{StandsIn}
 use Rattle.office_core.specs.Laws.{standing}
-use Rattle.office_core.specs.Sound.{IsAscending, IsFiled, AreFiled, is_out_for}
-use Rattle.office_rows.specs.Tables.{OrderRow, order_row, order_rows, order_from, state_number, waiting_for, end_of, past_in, HoldingRow, place_from, place_in}
+use Rattle.office_core.specs.SoundDesk.{IsAscending, IsFiled, AreFiled, is_out_for}
+use Rattle.office_rows.specs.DeskRows.{OrderRow, order_row, order_rows, order_from, state_number, waiting_for, end_of, past_in, HoldingRow, place_from, place_in}
 use Rattle.office_rows.specs.Reading.{Rows, state_of}
 use Rattle.office_rows.specs.DeskCauses.{AreInOrder, MeetsDeskKeys, is_container_there, is_out_order, is_at_desk, is_out_well, is_good_holding, is_holding_of, has_its_holding, are_good_holdings}
 use Rattle.office_core.proofs.Words.{same_number, other_number}

@@ -13,9 +13,9 @@ use Rattle.desk_core.specs.declared.reader.Place.TheVariants.{Shelf}
 use Rattle.office_core.specs.Words.{numbered, numbers_to, some_and}
 use Rattle.office_core.specs.State.{Order, State, containers, is_container, order_out, is_seated, held, opens}
 use Rattle.catalogue_core.specs.Members.{StandsIn}
-use Rattle.office_core.specs.Sound.{IsGoodOrder, AreGoodOrders, AreGoodPlaces}
+use Rattle.office_core.specs.SoundDesk.{IsGoodOrder, AreGoodOrders, AreGoodPlaces}
 use Rattle.catalogue_core.specs.Sources.{is_between}
-use Rattle.office_rows.specs.Tables.{OrderRow, order_from, end_of, HoldingRow, holding_row, holding_rows, place_from, place_in}
+use Rattle.office_rows.specs.DeskRows.{OrderRow, order_from, end_of, HoldingRow, holding_row, holding_rows, place_from, place_in}
 use Rattle.office_rows.specs.Reading.{Rows, state_of}
 use Rattle.office_rows.specs.DeskCauses.{MeetsDeskKeys, is_live, are_twice, holds_well, holder_of, is_held_against_rules, day_is_broken}
 use Rattle.office_rows.specs.DeskJudged.{HasGoodCatalogue}

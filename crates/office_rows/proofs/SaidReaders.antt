@@ -12,11 +12,11 @@ use Rattle.office_core.specs.State.{Reader, Permit, is_seat_of}
 use Rattle.catalogue_core.specs.Finding.{has_unit}
 use Rattle.catalogue_core.specs.Members.{StandsIn}
 use Rattle.office_core.specs.Laws.{numbers_from}
-use Rattle.office_core.specs.Sound.{SitOnce, AreGoodSeats, AreGoodReaders, ByUnit, AreGoodPermits}
+use Rattle.office_core.specs.SoundDesk.{SitOnce, AreGoodSeats, AreGoodReaders, ByUnit, AreGoodPermits}
 use Rattle.office_core.specs.Soundness.{ArePermitsOfUnits}
 use Rattle.office_core.specs.Rules.{is_name}
 use Rattle.isad_core.specs.Limits.{most_permits}
-use Rattle.office_rows.specs.Tables.{ReaderRow, reader_row, reader_rows, reader_from, SeatRow, seat_rows_from, seat_rows, PermitRow, permit_row, permit_rows}
+use Rattle.office_rows.specs.DeskRows.{ReaderRow, reader_row, reader_rows, reader_from, SeatRow, seat_rows_from, seat_rows, PermitRow, permit_row, permit_rows}
 use Rattle.office_rows.specs.Reading.{Rows, state_of, seats_said, permits_said}
 use Rattle.office_rows.specs.DeskCauses.{AreInOrder, MeetsDeskKeys, is_registered, is_unit_there}
 use Rattle.office_core.proofs.Words.{numbered_within}

@@ -11,10 +11,10 @@ use Rattle.office_core.specs.Words.{numbered, some_and}
 use Rattle.office_core.specs.State.{Order, Line, Run, State, container_of, is_by}
 use Rattle.catalogue_core.specs.Members.{StandsIn}
 use Rattle.office_core.specs.Laws.{numbers_from}
-use Rattle.office_core.specs.Sound.{IsGoodLine, AreApart, IsGoodRun, AreGoodRuns}
+use Rattle.office_core.specs.SoundDesk.{IsGoodLine, AreApart, IsGoodRun, AreGoodRuns}
 use Rattle.catalogue_core.specs.Sources.{is_between}
 use Rattle.isad_core.specs.Limits.{most_runs}
-use Rattle.office_rows.specs.Tables.{OrderRow, order_from, RunRow, run_row, run_rows, RunLineRow, run_line_row, lines_from, run_line_rows}
+use Rattle.office_rows.specs.DeskRows.{OrderRow, order_from, RunRow, run_row, run_rows, RunLineRow, run_line_row, lines_from, run_line_rows}
 use Rattle.office_rows.specs.Reading.{Rows, state_of, line_from, run_from}
 use Rattle.office_rows.specs.DeskCauses.{AreInOrder, MeetsDeskKeys, are_numbered_from, is_good_run, is_order_of_line, is_good_line, are_good_runs}
 use Rattle.office_rows.proofs.Members.{all_of_in, in_map, in_filter, test_in}

@@ -50,7 +50,7 @@ office_shown version s g =
     (and_from (is_between 1 200 row.seats) _ g.settings.seats
     (and_from (is_between 1 50 row.daily) _ g.settings.daily
     (and_from (is_between 1 10 row.hands) _ g.settings.hands
-    (and_from (is_between 1 100 row.run_size) _ g.settings.run
+    (and_from (is_between 1 100 row.run_size) _ g.settings.run_size
     (and_from (is_day_number row.day) (is_between 1 (most_unit_numbers + 1) row.next_unit) (is_day_number-true row.day g.today)
     (between 1 (most_unit_numbers + 1) row.next_unit g.units.next.0 g.units.next.1))))))))
 

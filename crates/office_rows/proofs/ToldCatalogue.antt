@@ -77,7 +77,7 @@ within low high n h = let p = and_parts (nat_le low n) (nat_le n high) h in (leb
 
 pub record IsGoodOffice (version : Version) (row : OfficeRow) : Type 0 where
   pub of_version : version_number version ≡ row.version
-  pub settings : AreGoodSettings (record { country = row.country; repo = row.repo; seats = row.seats; daily = row.daily; hands = row.hands; run = row.run_size })
+  pub settings : AreGoodSettings (record { country = row.country; repo = row.repo; seats = row.seats; daily = row.daily; hands = row.hands; run_size = row.run_size })
   pub day : IsDayNumber row.day
   pub next : (1 ≤ row.next_unit) × (row.next_unit ≤ most_unit_numbers + 1)
 
@@ -93,7 +93,7 @@ good_office version row h =
     let i = and_parts (is_day_number row.day) (is_between 1 (most_unit_numbers + 1) row.next_unit) g.1 in
     record {
       of_version = sym (eqb-true row.version (version_number version) a.0);
-      settings = record { country = b.0; repo = c.0; seats = d.0; daily = e.0; hands = f.0; run = g.0 };
+      settings = record { country = b.0; repo = c.0; seats = d.0; daily = e.0; hands = f.0; run_size = g.0 };
       day = day_number row.day i.0;
       next = within 1 (most_unit_numbers + 1) row.next_unit i.1;
     }

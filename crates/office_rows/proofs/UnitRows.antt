@@ -20,7 +20,7 @@ use Rattle.office_core.specs.State.{State}
 use Rattle.catalogue_core.specs.GoodCatalogues.{IsGoodUnit}
 use Rattle.office_core.specs.Words.{numbered}
 use Rattle.office_core.specs.Laws.{numbers_from}
-use Rattle.office_rows.specs.Tables.{rows_from}
+use Rattle.office_rows.specs.DeskRows.{rows_from}
 use Rattle.tree_core.specs.Versions.{Version, Links, Spans}
 use Rattle.office_rows.specs.Reading.{UnitRow, unit_row, number_of, ElementRow, after_level, element_rows_from, HousingRow, housing_row, box_at, boxes_from, boxes_said, text_said, Rows, tables, container_row, box_from, values_said, unit_from, unit_said, places_said, place_rows, SaysUnits}
 use Rattle.office_rows.proofs.TableLaws.{rows_back}

@@ -9,7 +9,7 @@ use Rattle.office_core.specs.Words.{numbered, some_and}
 use Rattle.office_core.specs.State.{State, containers, is_seated, held, opens, order_out}
 use Rattle.office_core.specs.Rules.{is_name}
 use Rattle.catalogue_core.specs.Sources.{is_between}
-use Rattle.office_rows.specs.Tables.{ReaderRow, SeatRow, OrderRow, HoldingRow, RunRow, RunLineRow, PermitRow}
+use Rattle.office_rows.specs.DeskRows.{ReaderRow, SeatRow, OrderRow, HoldingRow, RunRow, RunLineRow, PermitRow}
 use Rattle.office_rows.specs.Reading.{UnitRow, ContainerRow, Rows, state_of}
 
 -- ---- keys

@@ -1,7 +1,7 @@
 -- Rows of a small office that are sound, and what each of the causes 6 to 10 says where one row is changed.
 use Rattle.std.specs.Prelude.{◌≡◌, ℕ, ℤ, pos, neg_ℤ, true, false, Bool, List, [], ◌∷◌, map, Some, None, codes}
 use Rattle.tree_core.specs.Worked.{link}
-use Rattle.office_rows.specs.Tables.{ReaderRow, SeatRow, OrderRow, HoldingRow, RunLineRow, PermitRow}
+use Rattle.office_rows.specs.DeskRows.{ReaderRow, SeatRow, OrderRow, HoldingRow, RunLineRow, PermitRow}
 use Rattle.office_rows.specs.Reading.{Rows, LinkRows, UnitRow}
 use Rattle.office_core.specs.Laws.{numbers_from}
 use Rattle.office_core.specs.Worked.{february_1, march_1, march_2, year_end}

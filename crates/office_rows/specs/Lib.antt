@@ -1,5 +1,5 @@
 pub mod Causes
-pub mod Tables
+pub mod DeskRows
 pub mod Reading
 pub mod DeskCauses
 pub mod DeskCausesRows

@@ -16,7 +16,7 @@ use Rattle.catalogue_core.specs.Merging.{box_number}
 use Rattle.office_core.specs.Words.{numbered}
 use Rattle.office_core.specs.Laws.{numbers_from}
 use Rattle.office_core.specs.State.{Line, Run, Permit, State}
-use Rattle.office_rows.specs.Tables.{rows_from, ReaderRow, reader_rows, reader_from, SeatRow, seat_rows, OrderRow, order_rows, order_from, waiting_for, past_in, HoldingRow, holding_rows, place_in, RunRow, run_rows, RunLineRow, run_line_rows, PermitRow, permit_rows}
+use Rattle.office_rows.specs.DeskRows.{rows_from, ReaderRow, reader_rows, reader_from, SeatRow, seat_rows, OrderRow, order_rows, order_from, waiting_for, past_in, HoldingRow, holding_rows, place_in, RunRow, run_rows, RunLineRow, run_line_rows, PermitRow, permit_rows}
 
 -- ---- office
 
@@ -39,7 +39,7 @@ pub record UnitRow : Type 0 where
   pub legacy : Bytes
   pub level : Bytes
   pub draft : Bool
-  pub until : Option ℤ
+  pub until : Option ℤ  -- the first day on which its closure holds no more
 
 abbrev pub unit_row : Unit → UnitRow
 unit_row unit =
@@ -120,7 +120,7 @@ tables version s =
         seats = s.settings.seats;
         daily = s.settings.daily;
         hands = s.settings.hands;
-        run_size = s.settings.run;
+        run_size = s.settings.run_size;
         day = s.day;
         next_unit = s.catalogue.next;
       };
@@ -243,7 +243,7 @@ state_of t =
         seats = t.office.seats;
         daily = t.office.daily;
         hands = t.office.hands;
-        run = t.office.run_size;
+        run_size = t.office.run_size;
       };
       day = t.office.day;
       catalogue = record {

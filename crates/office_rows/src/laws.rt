@@ -2,8 +2,8 @@
 
 ghost use Rattle.std.specs.Prelude.{◌≡◌, ℕ, List};
 ghost use Rattle.office_core.specs.State.{State};
-ghost use Rattle.office_core.specs.Sound.{IsSoundDesk};
-ghost use Rattle.office_rows.specs.Tables.{OneRowChanges};
+ghost use Rattle.office_core.specs.SoundDesk.{IsSoundDesk};
+ghost use Rattle.office_rows.specs.DeskRows.{OneRowChanges};
 ghost use Rattle.tree_core.specs.Forest.{Forest};
 ghost use Rattle.tree_core.specs.Spans.{number};
 ghost use Rattle.tree_core.specs.Links.{HoldsLinks};

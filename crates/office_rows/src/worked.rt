@@ -3,7 +3,7 @@
 ghost use Rattle.office_rows.specs.CatalogueCausesRows as causes;
 ghost use Rattle.office_rows.specs.DeskCausesRows as desk_causes;
 ghost use Rattle.office_rows.specs.ReadingRows as tables;
-ghost use Rattle.office_core.specs.Rows as row;
+ghost use Rattle.office_core.specs.WorkedReplies as row;
 
 /// The rows of small offices say the states that they show, in both versions.
 pub fn worked_tables()

@@ -4,7 +4,8 @@ ghost use Rattle.std.specs.Prelude.{IfOk, OnOk, List, map, option_copied, unwrap
 ghost use Rattle.isad_core.specs.Limits.{most_deep};
 ghost use Rattle.isad_core.specs.Printed.{aid, unit_lines};
 ghost use Rattle.finding_aids.specs.Planting.{grove, height_of_all};
-ghost use Rattle.finding_aids.specs.Printing.{number_by, shown_by, shown_told};
+ghost use Rattle.finding_aids.specs.Numbers.{number_by};
+ghost use Rattle.catalogue_core.specs.Aids.{shown_by, shown_told};
 
 use crate::previews::numbers::{Numbers, number_of};
 use crate::previews::planting::Tree;

@@ -4,7 +4,7 @@ use Rattle.catalogue_core.specs.Merging.{empty_catalogue, merge}
 use Rattle.catalogue_core.specs.Aids.{Repository}
 use Rattle.finding_aids.specs.Places.{faults}
 use Rattle.finding_aids.specs.Preview.{after_merging}
-use Rattle.finding_aids.specs.Printing.{number_by}
+use Rattle.finding_aids.specs.Numbers.{number_by}
 use Rattle.finding_aids.proofs.PreviewLemmas.{bad_after, preview_refused, previewed, printed_whole}
 use Rattle.finding_aids.proofs.previews.preview_rows.Goals as goal
 

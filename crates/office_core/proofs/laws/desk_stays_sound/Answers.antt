@@ -1,4 +1,4 @@
-use Rattle.office_core.proofs.Soundness.{desk_start, always_sound_desk}
+use Rattle.office_core.proofs.SoundDesk.{desk_start, always_sound_desk}
 use Rattle.office_core.proofs.laws.desk_stays_sound.Goals as goal
 
 pub returns-clause-start : goal.returns-clause-start

@@ -1,4 +1,4 @@
-use Rattle.office_core.proofs.Stays.{always_sound}
+use Rattle.office_core.proofs.StaysSound.{always_sound}
 use Rattle.office_core.proofs.laws.stays_sound.Goals as goal
 
 pub returns : goal.returns

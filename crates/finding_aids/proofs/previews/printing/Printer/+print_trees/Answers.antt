@@ -1,7 +1,7 @@
 use Rattle.std.proofs.Common.{◌≡◌, ◌≤◌, ◌<◌, ◌+◌, ◌++◌, ◌∷◌, [], List, arith, subst, sym, ap, ◌∙◌}
 use Rattle.std.specs.Prelude.{unwrap_or}
 use Rattle.isad_core.specs.Values.{identifier}
-use Rattle.finding_aids.specs.Printing.{number_by}
+use Rattle.finding_aids.specs.Numbers.{number_by}
 use Rattle.finding_aids.specs.Planting.{height_of_all}
 use Rattle.finding_aids.specs.declared.previews.planting.Tree.{Tree}
 use Rattle.finding_aids.specs.declared.previews.planting.Tree.TheViews.{out-Tree}

@@ -1,6 +1,6 @@
 use Rattle.std.proofs.Common.{◌≡◌, map, take}
 use Rattle.isad_core.specs.declared.values.BoxKey.{BoxKey}
-use Rattle.finding_aids.specs.Printing.{number_by}
+use Rattle.finding_aids.specs.Numbers.{number_by}
 use Rattle.finding_aids.proofs.previews.printing.Printer.numbered.Given as goal
 
 abbrev pub invariant-loop-container : goal.invariant-loop-container

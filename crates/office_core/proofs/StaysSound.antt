@@ -19,7 +19,7 @@ use Rattle.catalogue_core.specs.Moves.{depth_after, is_into_itself}
 use Rattle.office_core.specs.Rules.{checks, after, removed, cancelled, issued, returned, state_after}
 use Rattle.office_core.specs.Soundness.{AreGoodSettings, ArePermitsOfUnits, IsSound, NamesDays}
 use Rattle.catalogue_core.specs.GoodCatalogues.{AreGoodUnits, AreGoodContainers}
-use Rattle.office_core.specs.Imported.{IsSoundCatalogue}
+use Rattle.office_core.specs.Imported.{HasGoodCatalogue}
 use Rattle.office_core.proofs.Steps.{Passes, held_so, held_not, run_keeps_if}
 use Rattle.office_core.proofs.Extends.{extends_after}
 use Rattle.catalogue_core.proofs.EachOf.{all_filtered}
@@ -28,7 +28,7 @@ use Rattle.catalogue_core.proofs.DistinctLists.{all_so}
 use Rattle.office_core.proofs.Days.{days_after}
 use Rattle.office_core.proofs.Readers.{all_granted, all_passing}
 use Rattle.office_core.proofs.Words.{put_each}
-use Rattle.office_core.proofs.Soundness.{desk_after}
+use Rattle.office_core.proofs.SoundDesk.{desk_after}
 use Rattle.office_core.proofs.ImportedUnits.{import_keeps_units}
 use Rattle.catalogue_core.proofs.GoodChanges.{KeepsUnits, each_good, cut_good, CanMove, move_same, move_good}
 use Rattle.catalogue_core.proofs.KeptUnits.{same_containers, status_keeps, closure_keeps}
@@ -38,7 +38,7 @@ permits_there s t e f g n =
     all_so (λ permit. has_unit s.catalogue.forest permit.unit ≡ true) (λ permit. has_unit t.catalogue.forest permit.unit ≡ true) (λ permit. f permit.unit) (t.permits n)
     (subst (λ permits. AllByRecursion (λ permit. has_unit s.catalogue.forest permit.unit ≡ true) (permits n)) (sym e) (g n))
 
-good_same : (s t : State) → t.catalogue ≡ s.catalogue → t.permits ≡ s.permits → IsSoundCatalogue s → IsSoundCatalogue t
+good_same : (s t : State) → t.catalogue ≡ s.catalogue → t.permits ≡ s.permits → HasGoodCatalogue s → HasGoodCatalogue t
 good_same s t e p g =
     record {
       units = subst AreGoodUnits (sym e) g.units;
@@ -46,20 +46,20 @@ good_same s t e p g =
       permits = permits_there s t p (λ v. subst (λ f. has_unit s.catalogue.forest v ≡ true → has_unit f v ≡ true) (sym (ap (λ c. c.forest) e)) (λ h. h)) g.permits;
     }
 
-cancelled_good : (s : State) (o : ℕ) (k : Option ℕ) → IsSoundCatalogue s → IsSoundCatalogue (cancelled s o k)
+cancelled_good : (s : State) (o : ℕ) (k : Option ℕ) → HasGoodCatalogue s → HasGoodCatalogue (cancelled s o k)
 cancelled_good s o None g = g
 cancelled_good s o (Some c) g = good_same s (cancelled s o (Some c)) refl refl g
 
-issued_good : (s : State) (c : ℕ) (q : List ℕ) → IsSoundCatalogue s → IsSoundCatalogue (issued s c q)
+issued_good : (s : State) (c : ℕ) (q : List ℕ) → HasGoodCatalogue s → HasGoodCatalogue (issued s c q)
 issued_good s c [] g = g
 issued_good s c (o ∷ os) g = good_same s (issued s c (o ∷ os)) refl refl g
 
-returned_good : (s : State) (c : ℕ) (p : Place) → IsSoundCatalogue s → IsSoundCatalogue (returned s c p)
+returned_good : (s : State) (c : ℕ) (p : Place) → HasGoodCatalogue s → HasGoodCatalogue (returned s c p)
 returned_good s c Shelf g = g
 returned_good s c Desk g = g
 returned_good s c (Out o) g = good_same s (returned s c (Out o)) refl refl g
 
-changed_good : (s : State) (g : Unit → Unit) → KeepsUnits g → IsSoundCatalogue s → IsSoundCatalogue (record s { catalogue = record s.catalogue { forest = each g s.catalogue.forest } })
+changed_good : (s : State) (g : Unit → Unit) → KeepsUnits g → HasGoodCatalogue s → HasGoodCatalogue (record s { catalogue = record s.catalogue { forest = each g s.catalogue.forest } })
 changed_good s g k h =
     record {
       units = each_good s.catalogue g k h.units;
@@ -67,7 +67,7 @@ changed_good s g k h =
       permits = permits_there s (record s { catalogue = record s.catalogue { forest = each g s.catalogue.forest } }) refl (λ v e. each_units g s.catalogue.forest v k.id ∙ e) h.permits;
     }
 
-removed_good : (s : State) (u : ℕ) → IsSoundCatalogue s → IsSoundCatalogue (removed s u)
+removed_good : (s : State) (u : ℕ) → HasGoodCatalogue s → HasGoodCatalogue (removed s u)
 removed_good s u h =
     record {
       units = cut_good s.catalogue (has_id u) h.units;
@@ -84,7 +84,7 @@ can_move s u p ok =
       deep = ltb-false most_deep (depth_after u p s.catalogue.forest) (held_not (nat_lt most_deep (depth_after u p s.catalogue.forest)) _ ok.1.1.1.0);
     }
 
-moved_good : (s : State) (u : ℕ) (p : Option ℕ) → CanMove s.catalogue u p → IsSoundCatalogue s → IsSoundCatalogue (after s (command.Move u p))
+moved_good : (s : State) (u : ℕ) (p : Option ℕ) → CanMove s.catalogue u p → HasGoodCatalogue s → HasGoodCatalogue (after s (command.Move u p))
 moved_good s u p m h =
     let f = move_last has_id u p s.catalogue.forest in
     record {
@@ -95,7 +95,7 @@ moved_good s u p m h =
 
 -- ---- permits
 
-permits_good : (s : State) (permits : ℕ → List Permit) → ArePermitsOfUnits (record s { permits = permits }) → IsSoundCatalogue s → IsSoundCatalogue (record s { permits = permits })
+permits_good : (s : State) (permits : ℕ → List Permit) → ArePermitsOfUnits (record s { permits = permits }) → HasGoodCatalogue s → HasGoodCatalogue (record s { permits = permits })
 permits_good s permits p g =
     record {
       units = g.units;
@@ -103,22 +103,22 @@ permits_good s permits p g =
       permits = p;
     }
 
-granted_good : (s : State) (t u : ℕ) (until : ℤ) → has_unit s.catalogue.forest u ≡ true → IsSoundCatalogue s → IsSoundCatalogue (after s (command.Permit t u until))
+granted_good : (s : State) (t u : ℕ) (until : ℤ) → has_unit s.catalogue.forest u ≡ true → HasGoodCatalogue s → HasGoodCatalogue (after s (command.Permit t u until))
 granted_good s t u until there g =
     permits_good s (put s.permits t (granted u until (s.permits t)))
     (put_each (λ v ps. AllByRecursion (λ permit. has_unit s.catalogue.forest permit.unit ≡ true) ps) s.permits t (granted u until (s.permits t)) (all_granted (λ v. has_unit s.catalogue.forest v ≡ true) u until (s.permits t) there (g.permits t)) (λ v ne. g.permits v)) g
 
-revoked_good : (s : State) (t u : ℕ) → IsSoundCatalogue s → IsSoundCatalogue (after s (command.Revoke t u))
+revoked_good : (s : State) (t u : ℕ) → HasGoodCatalogue s → HasGoodCatalogue (after s (command.Revoke t u))
 revoked_good s t u g =
     permits_good s (put s.permits t (revoked u (s.permits t)))
     (put_each (λ v ps. AllByRecursion (λ permit. has_unit s.catalogue.forest permit.unit ≡ true) ps) s.permits t (revoked u (s.permits t)) (all_filtered (λ permit. has_unit s.catalogue.forest permit.unit ≡ true) (λ permit. not (nat_eq permit.unit u)) (s.permits t) (g.permits t)) (λ v ne. g.permits v)) g
 
 -- ---- each command
 
-its_catalogue : (s : State) → IsSound s → IsSoundCatalogue s
+its_catalogue : (s : State) → IsSound s → HasGoodCatalogue s
 its_catalogue s g = record { units = g.units; containers = g.containers; permits = g.permits }
 
-catalogue_after : (s : State) (asked : Command) → IsSound s → Passes (checks s asked) → IsSoundCatalogue (after s asked)
+catalogue_after : (s : State) (asked : Command) → IsSound s → Passes (checks s asked) → HasGoodCatalogue (after s asked)
 catalogue_after s (command.OpenDay day) g ok = good_same s (after s (command.OpenDay day)) refl refl (its_catalogue s g)
 catalogue_after s (command.Register name until) g ok = good_same s (after s (command.Register name until)) refl refl (its_catalogue s g)
 catalogue_after s (command.Renew t until) g ok = good_same s (after s (command.Renew t until)) refl refl (its_catalogue s g)

@@ -1,4 +1,4 @@
--- When a state is sound.
+-- When a desk is sound.
 use Rattle.std.specs.Prelude.{◌≡◌, ◌≢◌, ℕ, ℤ, ◌<◌, ◌≤◌, ◌≤ℤ◌, Bool, true, false, List, [], ◌∷◌, length, Option, Some, None, is_some, nat_eq}
 use Rattle.std.specs.List.{list_any, AllByRecursion}
 use Rattle.isad_core.specs.Limits.{most_orders, most_tickets, most_runs, most_permits}
@@ -94,7 +94,7 @@ AreApart (line ∷ lines) = AllByRecursion (λ other. line.container ≢ other.c
 pub record IsGoodRun (s : State) (run : Run) : Type 0 where
   pub day : run.day ≤ℤ s.day
   pub some : 1 ≤ length run.lines
-  pub few : length run.lines ≤ s.settings.run
+  pub few : length run.lines ≤ s.settings.run_size
   pub apart : AreApart run.lines
   pub lines : AllByRecursion (IsGoodLine s) run.lines
 

@@ -9,7 +9,7 @@ use Rattle.atom_csv.specs.Columns.{columns}
 use Rattle.atom_csv.specs.Values.{described}
 use Rattle.catalogue_core.specs.Housing.{is_open}
 use Rattle.catalogue_core.specs.Intake.{take}
-use Rattle.office_core.specs.Rows.{Depths, NamesOfReaders, AtTheCounter, QueueOfTwo, GateAndDay, RunOfTwoAndOne, OrdersOfADay, Seats, ExpiryAndRenewal, HandsAndReshelving, LeastOrders, LockGates, Permits, PermitsAndDrafts, ImportAgain, FaultyFiles, Remarks, Moves, Unknown, ExpiredAtTheDesk, ClosureEnds, SeatsOvernight, LowestContainer, HeadCancelled, TwoAtOnce, WithReaderAgain, PermitsAbove, MostPermits, Placed}
+use Rattle.office_core.specs.WorkedReplies.{Depths, NamesOfReaders, AtTheCounter, QueueOfTwo, GateAndDay, RunOfTwoAndOne, OrdersOfADay, Seats, ExpiryAndRenewal, HandsAndReshelving, LeastOrders, LockGates, Permits, PermitsAndDrafts, ImportAgain, FaultyFiles, Remarks, Moves, Unknown, ExpiredAtTheDesk, ClosureEnds, SeatsOvernight, LowestContainer, HeadCancelled, TwoAtOnce, WithReaderAgain, PermitsAbove, MostPermits, Placed}
 use Rattle.office_core.proofs.WorkedSound.{hundred_sound}
 
 pub queue_of_two : QueueOfTwo

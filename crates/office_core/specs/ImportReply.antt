@@ -1,4 +1,4 @@
--- What an import makes of the catalogue, and what is told of it.
+-- What is told of an import, and why it is refused.
 use Rattle.std.specs.Prelude.{None, ℕ, Bool, true, false, not, ◌||◌, List, [], ◌∷◌, Option, Some, Ok, Err, is_some, nat_lt, count_by}
 use Rattle.std.specs.List.{list_all, flat_map}
 use Rattle.isad_core.specs.Texts.{Bytes, is_blank_text}

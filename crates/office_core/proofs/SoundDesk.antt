@@ -7,7 +7,7 @@ use Rattle.office_core.specs.declared.command.Command.{Command}
 use Rattle.office_core.specs.Words.{numbered}
 use Rattle.office_core.specs.State.{Settings, State, Order, start}
 use Rattle.office_core.specs.Rules.{checks, after, state_after}
-use Rattle.office_core.specs.Sound.{IsFiled, AreFiled, IsSoundDesk}
+use Rattle.office_core.specs.SoundDesk.{IsFiled, AreFiled, IsSoundDesk}
 use Rattle.office_core.specs.Laws.{OpenToHolders}
 use Rattle.office_core.proofs.Steps.{Passes, run_keeps}
 use Rattle.office_core.proofs.Boxes.{apart_after}

@@ -11,7 +11,7 @@ use Rattle.atom_csv.specs.Columns.{columns}
 use Rattle.atom_csv.specs.Values.{described}
 use Rattle.catalogue_core.specs.Housing.{is_open}
 use Rattle.catalogue_core.specs.Intake.{take}
-use Rattle.office_core.specs.AnswerRows.{Aids, Pages, Statuses, AtTheDesk, Replies}
+use Rattle.office_core.specs.WorkedAnswers.{Aids, Pages, Statuses, AtTheDesk, Replies}
 
 pub aids : Aids
 unfolding is_open take is_utf8 chars encode records_from strip_bom next_record columns described digits day_text
