@@ -205,7 +205,7 @@ E=[
 ('IssuedNow tells one alone',O+'Queries.antt','filter_map (issued_json s) (containers s)','Rattle.std.specs.Prelude.take 1 (filter_map (issued_json s) (containers s))'),
 ('expired permits are not told',O+'Queries.antt','map permit_json (s.permits t)','map permit_json (filter (λ (permit : Permit). Rattle.std.specs.Prelude.int_le s.day permit.until) (s.permits t))'),
 ]
-ROWS=['office_core::worked::worked_desk','office_core::worked::worked_catalogue','office_core::worked::worked_lists','office_core::worked::worked_rows','office_core::worked::worked_answers','office_rows::worked::worked_catalogue_causes','office_rows::worked::worked_desk_causes']  # the functions whose rows are looked at first
+ROWS=['office_core::worked::worked_desk_rows','office_core::worked::worked_catalogue_rows','office_core::worked::worked_shown_rows','office_core::worked::worked_rows','office_core::worked::worked_answers','office_rows::worked::worked_catalogue_causes','office_rows::worked::worked_desk_causes']  # the functions whose rows are looked at first
 def run(cmd,cwd):
     p=subprocess.run(cmd,cwd=cwd,capture_output=True,text=True); return p.stdout+p.stderr
 def errors(out):

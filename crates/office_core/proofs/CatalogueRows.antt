@@ -10,7 +10,6 @@ use Rattle.atom_csv.specs.Values.{described}
 use Rattle.catalogue_core.specs.Housing.{is_open}
 use Rattle.office_core.specs.Intake.{take}
 use Rattle.office_core.specs.CatalogueRows.{SourcesApart, KnownRowsStay, BoxesTurned, LevelsOfParents, TooMuchBeforeTheGate, BranchCounted, LastPlaces, BoxesInOrder}
-use Rattle.office_core.proofs.LastNumberSound.{one_left_sound}
 
 pub sources_apart : SourcesApart
 unfolding is_open take is_utf8 chars encode records_from strip_bom next_record columns described
@@ -30,7 +29,7 @@ levels_of_parents = refl
 
 pub too_much_before_the_gate : TooMuchBeforeTheGate
 unfolding is_open take is_utf8 chars encode records_from strip_bom next_record columns described
-too_much_before_the_gate = record { office_sound = one_left_sound; told = refl }
+too_much_before_the_gate = refl
 
 pub branch_counted : BranchCounted
 unfolding is_open take is_utf8 chars encode records_from strip_bom next_record columns described

@@ -8,7 +8,6 @@ use Rattle.office_core.specs.declared.query.Answer.TheVariants.{Text}
 use Rattle.office_core.specs.declared.done.Done.TheVariants as done
 use Rattle.office_core.specs.declared.done.Remark.TheVariants.{LevelTooHigh, LacksEssential}
 use Rattle.office_core.specs.Rules.{replies}
-use Rattle.office_core.specs.Soundness.{IsSound}
 use Rattle.office_core.specs.AnswerRows.{Says}
 use Rattle.office_core.specs.Worked.{Answers, import, draft, refused, rows, docks, docks_renamed, docks_and_mersey, docks_strayed, docks_strayed_with_another, two_boxes, two_boxes_turned, file_in_an_item, subfonds_in_an_odd_place, boxes_and_5, boxes_with_9_and_5, boxes_with_9_and_two, one_number_left}
 
@@ -44,10 +43,10 @@ LevelsOfParents =
 
 -- where one unit number is left, a file with two new rows is too much, which is told before the box that it would take from
 -- its reader; a file with one is not, and gets the last number
-pub record TooMuchBeforeTheGate : Type 0 where
-  pub office_sound : IsSound one_number_left
-  pub told : replies one_number_left (import boxes_with_9_and_two ∷ import boxes_with_9_and_5 ∷ import boxes_and_5 ∷ import boxes_with_9_and_5 ∷ [])
-      ≡ refused Full ∷ refused (WithReader 2) ∷ rows 0 1 4 0 (LacksEssential 2 ∷ LacksEssential 3 ∷ LacksEssential 4 ∷ LacksEssential 5 ∷ LacksEssential 6 ∷ []) ∷ refused (WithReader 2) ∷ []
+abbrev pub TooMuchBeforeTheGate : Type 0
+TooMuchBeforeTheGate =
+    replies one_number_left (import boxes_with_9_and_two ∷ import boxes_with_9_and_5 ∷ import boxes_and_5 ∷ import boxes_with_9_and_5 ∷ [])
+    ≡ refused Full ∷ refused (WithReader 2) ∷ rows 0 1 4 0 (LacksEssential 2 ∷ LacksEssential 3 ∷ LacksEssential 4 ∷ LacksEssential 5 ∷ LacksEssential 6 ∷ []) ∷ refused (WithReader 2) ∷ []
 
 -- ---- statuses
 

@@ -5,6 +5,8 @@ ghost use Rattle.office_core.specs.WorkedAnswers as answers;
 ghost use Rattle.office_core.specs.DeskRows as desk;
 ghost use Rattle.office_core.specs.CatalogueRows as catalogue;
 ghost use Rattle.office_core.specs.ShownRows as shown;
+ghost use Rattle.office_core.specs.Soundness.{IsSound};
+ghost use Rattle.office_core.specs.Worked.{one_number_left};
 
 /// The commands of each row get the replies of the row.
 pub fn worked_rows()
@@ -49,7 +51,7 @@ pub fn worked_answers()
 {}
 
 /// The replies at the desk are those of the rows, where two rules are easily mistaken for one another.
-pub fn worked_desk()
+pub fn worked_desk_rows()
     ensures renewed_alone { desk.RenewedAlone }
     ensures registered_too_late { desk.RegisteredTooLate }
     ensures run_for_an_expired_ticket { desk.RunForAnExpiredTicket }
@@ -61,7 +63,7 @@ pub fn worked_desk()
 {}
 
 /// What imports, moves and statuses tell, and what is then shown, is that of the rows.
-pub fn worked_catalogue()
+pub fn worked_catalogue_rows()
     ensures sources_apart { catalogue.SourcesApart }
     ensures known_rows_stay { catalogue.KnownRowsStay }
     ensures boxes_turned { catalogue.BoxesTurned }
@@ -73,8 +75,13 @@ pub fn worked_catalogue()
 {}
 
 /// Lists, and what is closed, expired or of an earlier day, are shown as in the rows.
-pub fn worked_lists()
+pub fn worked_shown_rows()
     ensures closed_shown { shown.ClosedShown }
     ensures old_slips { shown.OldSlips }
     ensures lists { shown.Lists }
+{}
+
+/// The office that has one unit number left, of which a row of the catalogue tells, is sound.
+pub fn worked_office()
+    ensures { IsSound one_number_left }
 {}

@@ -1,5 +1,5 @@
 use Rattle.office_core.proofs.ShownRows as row
-use Rattle.office_core.proofs.worked.worked_lists.Goals as goal
+use Rattle.office_core.proofs.worked.worked_shown_rows.Goals as goal
 
 pub returns-clause-closed_shown : goal.returns-clause-closed_shown
 returns-clause-closed_shown c = row.closed_shown

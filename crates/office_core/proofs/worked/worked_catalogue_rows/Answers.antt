@@ -1,5 +1,5 @@
 use Rattle.office_core.proofs.CatalogueRows as row
-use Rattle.office_core.proofs.worked.worked_catalogue.Goals as goal
+use Rattle.office_core.proofs.worked.worked_catalogue_rows.Goals as goal
 
 pub returns-clause-sources_apart : goal.returns-clause-sources_apart
 returns-clause-sources_apart c = row.sources_apart

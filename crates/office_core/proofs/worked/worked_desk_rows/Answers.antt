@@ -1,5 +1,5 @@
 use Rattle.office_core.proofs.DeskRows as row
-use Rattle.office_core.proofs.worked.worked_desk.Goals as goal
+use Rattle.office_core.proofs.worked.worked_desk_rows.Goals as goal
 
 pub returns-clause-renewed_alone : goal.returns-clause-renewed_alone
 returns-clause-renewed_alone c = row.renewed_alone
