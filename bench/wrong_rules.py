@@ -175,7 +175,7 @@ E=[
 ('something in no container',R+'CatalogueCauses.antt','is_between 1 (length t.containers) row.container','true'),
 ('containers of a unit with a gap',R+'CatalogueCauses.antt','is_between 1 (length (housings_of row.unit t.housings)) row.ord','nat_le 1 row.ord'),
 ('the second cause before the first',R+'CatalogueCauses.antt','office_is_bad version t ∷ places_are_bad version t ∷','places_are_bad version t ∷ office_is_bad version t ∷'),
-# what a rule nearly says: the rows of DeskRows, CatalogueRows and ShownRows
+# what a rule nearly says: the rows of WorkedDesk, WorkedCatalogue and WorkedShown
 ('Renew renews ticket 1',O+'Rules.antt','renewed until s.readers t','renewed until s.readers 1'),
 ('Register refuses a day that is past',O+'Rules.antt','unless (is_name name) BadName\n','unless (is_name name) BadName\n    ∷ when (int_lt until s.day) BadName\n'),
 ('Run looks at the last day of the ticket',O+'State.antt','opens s order.ticket order.container))','opens s order.ticket order.container && not (is_expired s order.ticket)))'),

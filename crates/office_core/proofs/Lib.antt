@@ -26,6 +26,6 @@ pub mod WorkedSound
 pub mod ImportedUnits
 pub mod ImportedCounts
 pub mod LastNumberSound
-pub mod DeskRows
-pub mod CatalogueRows
-pub mod ShownRows
+pub mod WorkedDesk
+pub mod WorkedCatalogue
+pub mod WorkedShown

@@ -12,6 +12,6 @@ pub mod WorkedAnswers
 pub mod Secrecy
 pub mod Soundness
 pub mod Imported
-pub mod DeskRows
-pub mod CatalogueRows
-pub mod ShownRows
+pub mod WorkedDesk
+pub mod WorkedCatalogue
+pub mod WorkedShown

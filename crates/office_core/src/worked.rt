@@ -2,9 +2,9 @@
 
 ghost use Rattle.office_core.specs.WorkedReplies as row;
 ghost use Rattle.office_core.specs.WorkedAnswers as answers;
-ghost use Rattle.office_core.specs.DeskRows as desk;
-ghost use Rattle.office_core.specs.CatalogueRows as catalogue;
-ghost use Rattle.office_core.specs.ShownRows as shown;
+ghost use Rattle.office_core.specs.WorkedDesk as desk;
+ghost use Rattle.office_core.specs.WorkedCatalogue as catalogue;
+ghost use Rattle.office_core.specs.WorkedShown as shown;
 ghost use Rattle.office_core.specs.Soundness.{IsSound};
 ghost use Rattle.office_core.specs.Worked.{one_number_left};
 

@@ -9,7 +9,7 @@ use Rattle.atom_csv.specs.Columns.{columns}
 use Rattle.atom_csv.specs.Values.{described}
 use Rattle.catalogue_core.specs.Housing.{is_open}
 use Rattle.office_core.specs.Intake.{take}
-use Rattle.office_core.specs.CatalogueRows.{SourcesApart, KnownRowsStay, BoxesTurned, LevelsOfParents, TooMuchBeforeTheGate, BranchCounted, LastPlaces, BoxesInOrder}
+use Rattle.office_core.specs.WorkedCatalogue.{SourcesApart, KnownRowsStay, BoxesTurned, LevelsOfParents, TooMuchBeforeTheGate, BranchCounted, LastPlaces, BoxesInOrder}
 
 pub sources_apart : SourcesApart
 unfolding is_open take is_utf8 chars encode records_from strip_bom next_record columns described

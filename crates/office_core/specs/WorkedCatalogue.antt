@@ -8,7 +8,7 @@ use Rattle.office_core.specs.declared.query.Answer.TheVariants.{Text}
 use Rattle.office_core.specs.declared.done.Done.TheVariants as done
 use Rattle.office_core.specs.declared.done.Remark.TheVariants.{LevelTooHigh, LacksEssential}
 use Rattle.office_core.specs.Rules.{replies}
-use Rattle.office_core.specs.AnswerRows.{Says}
+use Rattle.office_core.specs.WorkedAnswers.{Says}
 use Rattle.office_core.specs.Worked.{Answers, import, draft, refused, rows, docks, docks_renamed, docks_and_mersey, docks_strayed, docks_strayed_with_another, two_boxes, two_boxes_turned, file_in_an_item, subfonds_in_an_odd_place, boxes_and_5, boxes_with_9_and_5, boxes_with_9_and_two, one_number_left}
 
 -- ---- whose units a file changes

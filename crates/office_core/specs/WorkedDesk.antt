@@ -4,7 +4,7 @@ use Rattle.std.specs.Prelude.{[], ◌∷◌, Ok, codes}
 use Rattle.desk_core.specs.declared.refusal.Refusal.TheVariants.{UnknownTicket, TicketExpired, NotAvailable, NotFirst, HandsFull}
 use Rattle.office_core.specs.declared.command.Command.TheVariants.{OpenDay, Register, Renew, TakeSeat, Order, Cancel, Run, Reshelve, Issue, Return, Permit, Revoke}
 use Rattle.office_core.specs.declared.done.Done.TheVariants as done
-use Rattle.office_core.specs.Rows.{four_new}
+use Rattle.office_core.specs.WorkedReplies.{four_new}
 use Rattle.office_core.specs.Worked.{Answers, import, close, ann, bob, order, issued, refused, february_1, march_1, march_2, april_1, year_end, boxes}
 
 -- ---- tickets

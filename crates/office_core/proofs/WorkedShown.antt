@@ -11,7 +11,7 @@ use Rattle.atom_csv.specs.Columns.{columns}
 use Rattle.atom_csv.specs.Values.{described}
 use Rattle.catalogue_core.specs.Housing.{is_open}
 use Rattle.office_core.specs.Intake.{take}
-use Rattle.office_core.specs.ShownRows.{ClosedShown, OldSlips, Lists}
+use Rattle.office_core.specs.WorkedShown.{ClosedShown, OldSlips, Lists}
 
 pub closed_shown : ClosedShown
 unfolding is_open take is_utf8 chars encode records_from strip_bom next_record columns described digits day_text

@@ -5,7 +5,7 @@ use Rattle.desk_core.specs.declared.refusal.Refusal.TheVariants.{UnknownUnit}
 use Rattle.office_core.specs.declared.command.Command.TheVariants.{OpenDay, TakeSeat, Order, Run, Issue, Permit}
 use Rattle.office_core.specs.declared.query.Query.TheVariants.{Fonds, Aid, Page, ReaderOrders, Queue, RunSlip, IssuedNow, ReaderPermits}
 use Rattle.office_core.specs.declared.query.Answer.TheVariants.{Text, Json, Unknown}
-use Rattle.office_core.specs.AnswerRows.{Says}
+use Rattle.office_core.specs.WorkedAnswers.{Says}
 use Rattle.office_core.specs.Worked.{import, close, ann, bob, march_1, march_2, march_31, year_2030, docks, boxes, lock_gates}
 
 -- a closed unit is shown, by its head line alone: among the tops, on its parent's page, and by an aid of its own

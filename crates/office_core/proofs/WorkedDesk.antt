@@ -8,7 +8,7 @@ use Rattle.atom_csv.specs.Columns.{columns}
 use Rattle.atom_csv.specs.Values.{described}
 use Rattle.catalogue_core.specs.Housing.{is_open}
 use Rattle.office_core.specs.Intake.{take}
-use Rattle.office_core.specs.DeskRows.{RenewedAlone, RegisteredTooLate, RunForAnExpiredTicket, ReshelvedInOrder, NotFirstAndExpired, HandsFullAndClosed, OrderedAndClosed, UnknownTicketAndUnit}
+use Rattle.office_core.specs.WorkedDesk.{RenewedAlone, RegisteredTooLate, RunForAnExpiredTicket, ReshelvedInOrder, NotFirstAndExpired, HandsFullAndClosed, OrderedAndClosed, UnknownTicketAndUnit}
 
 pub renewed_alone : RenewedAlone
 unfolding is_open take is_utf8 chars encode records_from strip_bom next_record columns described
