@@ -13,13 +13,14 @@ use Rattle.catalogue_core.specs.Units.{Unit}
 use Rattle.catalogue_core.proofs.DistinctLists.{all_so}
 use Rattle.office_core.specs.declared.command.Command.TheVariants as command
 use Rattle.office_core.specs.State.{State}
-use Rattle.office_core.specs.Intake.{most_unit_numbers, take}
+use Rattle.isad_core.specs.Limits.{most_unit_numbers}
+use Rattle.catalogue_core.specs.Intake.{take}
 use Rattle.office_core.specs.Rules.{state_after}
-use Rattle.office_core.specs.Sound.{IsGoodLine, IsSoundDesk}
+use Rattle.office_core.specs.SoundDesk.{IsGoodLine, IsSoundDesk}
 use Rattle.office_core.specs.Soundness.{IsSound}
-use Rattle.office_core.specs.Worked.{office, import, ann, boxes, march_1, one_number_left}
+use Rattle.office_core.specs.Worked.{office, import, ann, boxes, march_1, with_next, one_number_left}
 use Rattle.office_core.proofs.Starts.{starts_sound}
-use Rattle.office_core.proofs.Stays.{always_sound}
+use Rattle.office_core.proofs.StaysSound.{always_sound}
 
 -- the same office, before so many numbers were given
 before : State
@@ -30,14 +31,14 @@ unfolding before
 before_sound =
     always_sound office (import boxes ∷ ann ∷ command.Order 1 2 ∷ command.Run ∷ command.TakeSeat 1 ∷ command.Issue 2 1 ∷ [])
     (tt, ((omega (arith, ints), omega (arith, ints)), (tt, (tt, (tt, (tt, tt))))))
-    (starts_sound office.settings march_1 (record { country = refl; repo = refl; seats = refl; daily = refl; hands = refl; run = refl }) (omega (arith, ints), omega (arith, ints)))
+    (starts_sound office.settings march_1 (record { country = refl; repo = refl; seats = refl; daily = refl; hands = refl; run_size = refl }) (omega (arith, ints), omega (arith, ints)))
 
-next_now : before.next_unit ≡ 5
+next_now : before.catalogue.next ≡ 5
 unfolding before is_open take is_utf8 chars encode records_from strip_bom next_record columns described
 next_now = refl
 
 -- the numbers that are given do not matter at the desk
-desk_with : (s : State) (n : ℕ) → IsSoundDesk s → IsSoundDesk (record s { next_unit = n })
+desk_with : (s : State) (n : ℕ) → IsSoundDesk s → IsSoundDesk (with_next n s)
 desk_with s n d =
     record {
       boxes = d.boxes;
@@ -54,7 +55,7 @@ desk_with s n d =
         known = d.places.known;
       };
       runs = record {
-        each = λ k run e. (let g = d.runs.each k run e in record { day = g.day; some = g.some; few = g.few; apart = g.apart; lines = all_so (IsGoodLine s) (IsGoodLine (record s { next_unit = n })) (λ line l. record { order = l.order; ticket = l.ticket }) run.lines g.lines });
+        each = λ k run e. (let g = d.runs.each k run e in record { day = g.day; some = g.some; few = g.few; apart = g.apart; lines = all_so (IsGoodLine s) (IsGoodLine (with_next n s)) (λ line l. record { order = l.order; ticket = l.ticket }) run.lines g.lines });
         few = d.runs.few;
       };
       readers = record { names = d.readers.names; few = d.readers.few };
@@ -62,7 +63,7 @@ desk_with s n d =
     }
 
 -- a sound office stays so, where more numbers were given
-with_more : (s : State) (n : ℕ) → s.next_unit ≤ n → n ≤ most_unit_numbers + 1 → IsSound s → IsSound (record s { next_unit = n })
+with_more : (s : State) (n : ℕ) → s.catalogue.next ≤ n → n ≤ most_unit_numbers + 1 → IsSound s → IsSound (with_next n s)
 with_more s n l h g =
     record {
       settings = g.settings;
@@ -78,7 +79,7 @@ with_more s n l h g =
         each = g.units.each;
         ids = g.units.ids;
         pairs = g.units.pairs;
-        given = all_so (λ (unit : Unit). (1 ≤ unit.id) × (unit.id < s.next_unit)) (λ (unit : Unit). (1 ≤ unit.id) × (unit.id < n)) (λ unit r. (r.0, (let low = r.1 in omega (arith, low, l)))) (nodes s.forest) g.units.given;
+        given = all_so (λ (unit : Unit). (1 ≤ unit.id) × (unit.id < s.catalogue.next)) (λ (unit : Unit). (1 ≤ unit.id) × (unit.id < n)) (λ unit r. (r.0, (let low = r.1 in omega (arith, low, l)))) (nodes s.catalogue.forest) g.units.given;
         next = ((let low = g.units.next.0 in omega (arith, low, l)), h);
         few = g.units.few;
         depth = g.units.depth;

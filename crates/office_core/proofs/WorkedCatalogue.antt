@@ -8,7 +8,7 @@ use Rattle.csv.specs.Machine.{next_record}
 use Rattle.atom_csv.specs.Columns.{columns}
 use Rattle.atom_csv.specs.Values.{described}
 use Rattle.catalogue_core.specs.Housing.{is_open}
-use Rattle.office_core.specs.Intake.{take}
+use Rattle.catalogue_core.specs.Intake.{take}
 use Rattle.office_core.specs.WorkedCatalogue.{SourcesApart, KnownRowsStay, BoxesTurned, LevelsOfParents, TooMuchBeforeTheGate, BranchCounted, LastPlaces, BoxesInOrder}
 
 pub sources_apart : SourcesApart

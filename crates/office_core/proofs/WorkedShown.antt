@@ -10,7 +10,7 @@ use Rattle.isad_core.specs.Days.{day_text}
 use Rattle.atom_csv.specs.Columns.{columns}
 use Rattle.atom_csv.specs.Values.{described}
 use Rattle.catalogue_core.specs.Housing.{is_open}
-use Rattle.office_core.specs.Intake.{take}
+use Rattle.catalogue_core.specs.Intake.{take}
 use Rattle.office_core.specs.WorkedShown.{ClosedShown, OldSlips, Lists}
 
 pub closed_shown : ClosedShown

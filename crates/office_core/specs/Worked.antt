@@ -198,11 +198,14 @@ boxes_with_9_and_two = boxes_with_9_and_5 ++ codes "6,F,Log books,Published,Box 
 
 -- ---- an office that has one unit number left, where Ann has container 2
 
+-- more unit numbers were given
+abbrev pub with_next : ℕ → State → State
+with_next n s = record s { catalogue = record s.catalogue { next = n } }
+
 abbrev pub one_number_left : State
 one_number_left =
-    record (state_after office (import boxes ∷ ann ∷ command.Order 1 2 ∷ command.Run ∷ command.TakeSeat 1 ∷ command.Issue 2 1 ∷ [])) {
-      next_unit = 100000000;
-    }
+    with_next 100000000
+    (state_after office (import boxes ∷ ann ∷ command.Order 1 2 ∷ command.Run ∷ command.TakeSeat 1 ∷ command.Issue 2 1 ∷ []))
 
 -- ---- an office with 101 units, where Ann has permits for the first hundred
 
