@@ -10,6 +10,7 @@ use Rattle.isad_core.specs.declared.shown.Page.{Page}
 use Rattle.isad_core.specs.declared.shown.Body.TheVariants.{Full}
 use Rattle.isad_core.specs.declared.values.BoxKey.{BoxKey}
 use Rattle.tree_core.specs.Forest.{Forest, Empty, Node, nodes, has, path, tree}
+use Rattle.catalogue_core.proofs.EachOf.{all_append, all_split}
 use Rattle.catalogue_core.specs.Merging.{box_number}
 use Rattle.catalogue_core.specs.Publishing.{PublicUnit, Told, Stub}
 use Rattle.catalogue_core.specs.Aids.{Repository, identifier_of, numbered_boxes, shown_unit, shown_below}
@@ -21,10 +22,6 @@ use Rattle.catalogue_core.specs.Published.{boxes_told}
 abbrev Alike : List BoxKey → List BoxKey → List BoxKey → Type 0
 Alike xs ys boxes = AllByRecursion (λ box. box_number xs box ≡ box_number ys box) boxes
 
-pub all_parts : {X : Type 0} (P : X → Type 0) (xs ys : List X) → AllByRecursion P (xs ++ ys) → AllByRecursion P xs × AllByRecursion P ys
-all_parts P [] ys h = (tt, h)
-all_parts P (x ∷ xs) ys h = let r = all_parts P xs ys h.1 in ((h.0, r.0), r.1)
-
 -- the containers of each of these units do
 
 abbrev pub AllAlike : List BoxKey → List BoxKey → List PublicUnit → Type 0
@@ -33,17 +30,13 @@ AllAlike xs ys units = AllByRecursion (λ unit. Alike xs ys (boxes_told unit)) u
 pub each_alike : (xs ys : List BoxKey) (units : List PublicUnit) → Alike xs ys (flat_map boxes_told units) → AllAlike xs ys units
 each_alike xs ys [] h = tt
 each_alike xs ys (unit ∷ units) h =
-    let r = all_parts (λ box. box_number xs box ≡ box_number ys box) (boxes_told unit) (flat_map boxes_told units) h in
+    let r = all_split (λ box. box_number xs box ≡ box_number ys box) (boxes_told unit) (flat_map boxes_told units) h in
     (r.0, each_alike xs ys units r.1)
-
-pub all_both : {X : Type 0} (P : X → Type 0) (xs ys : List X) → AllByRecursion P xs → AllByRecursion P ys → AllByRecursion P (xs ++ ys)
-all_both P [] ys h k = k
-all_both P (x ∷ xs) ys h k = (h.0, all_both P xs ys h.1 k)
 
 pub path_alike : (P : PublicUnit → Type 0) (is : PublicUnit → Bool) (f : Forest PublicUnit) → AllByRecursion P (nodes f) → AllByRecursion P (path is f)
 path_alike P is Empty h = tt
 path_alike P is (Node a c o) h =
-    let r = all_parts P (nodes c) (nodes o) h.1 in
+    let r = all_split P (nodes c) (nodes o) h.1 in
     at (is a) (has is c) (path_alike P is c r.0) (path_alike P is o r.1)
   where
     at : (b d : Bool) → AllByRecursion P (path is c) → AllByRecursion P (path is o) → AllByRecursion P (cond b (a ∷ []) (cond d (a ∷ path is c) (path is o)))
@@ -54,11 +47,11 @@ path_alike P is (Node a c o) h =
 pub tree_alike : (P : PublicUnit → Type 0) (is : PublicUnit → Bool) (f : Forest PublicUnit) → AllByRecursion P (nodes f) → AllByRecursion P (nodes (tree is f))
 tree_alike P is Empty h = tt
 tree_alike P is (Node a c o) h =
-    let r = all_parts P (nodes c) (nodes o) h.1 in
+    let r = all_split P (nodes c) (nodes o) h.1 in
     at (is a) (has is c) r.0 (tree_alike P is c r.0) (tree_alike P is o r.1)
   where
     at : (b d : Bool) → AllByRecursion P (nodes c) → AllByRecursion P (nodes (tree is c)) → AllByRecursion P (nodes (tree is o)) → AllByRecursion P (nodes (cond b (Node a c Empty) (cond d (tree is c) (tree is o))))
-    at true d w p q = (h.0, all_both P (nodes c) [] w tt)
+    at true d w p q = (h.0, all_append P (nodes c) [] w tt)
     at false true w p q = p
     at false false w p q = q
 
@@ -78,7 +71,7 @@ unit_alike at xs ys ids depth (Stub id identifier level until) h = refl
 pub shown_alike : (at : Repository) (xs ys : List BoxKey) (above : List Bytes) (depth : ℕ) (f : Forest PublicUnit) → AllAlike xs ys (nodes f) → shown_below at xs above depth f ≡ shown_below at ys above depth f
 shown_alike at xs ys above depth Empty h = refl
 shown_alike at xs ys above depth (Node a c o) h =
-    let r = all_parts (λ unit. Alike xs ys (boxes_told unit)) (nodes c) (nodes o) h.1 in
+    let r = all_split (λ unit. Alike xs ys (boxes_told unit)) (nodes c) (nodes o) h.1 in
     ap (λ u. u ∷ (shown_below at xs (above ++ identifier_of a ∷ []) (depth + 1) c ++ shown_below at xs above depth o)) (unit_alike at xs ys (above ++ identifier_of a ∷ []) depth a h.0)
     ∙ (ap (λ l. shown_unit at ys (above ++ identifier_of a ∷ []) depth a ∷ (l ++ shown_below at xs above depth o)) (shown_alike at xs ys (above ++ identifier_of a ∷ []) (depth + 1) c r.0)
     ∙ ap (λ l. shown_unit at ys (above ++ identifier_of a ∷ []) depth a ∷ (shown_below at ys (above ++ identifier_of a ∷ []) (depth + 1) c ++ l)) (shown_alike at xs ys above depth o r.1))
@@ -89,7 +82,7 @@ with_boxes at xs = record { at = at; containers = xs }
 pub beside_alike : (at : Repository) (xs ys : List BoxKey) (above : List Bytes) (f : Forest PublicUnit) → AllAlike xs ys (nodes f) → side_by_side (with_boxes at xs) above f ≡ side_by_side (with_boxes at ys) above f
 beside_alike at xs ys above Empty h = refl
 beside_alike at xs ys above (Node a c o) h =
-    let r = all_parts (λ unit. Alike xs ys (boxes_told unit)) (nodes c) (nodes o) h.1 in
+    let r = all_split (λ unit. Alike xs ys (boxes_told unit)) (nodes c) (nodes o) h.1 in
     ap (λ u. (number_of a, u) ∷ side_by_side (with_boxes at xs) above o) (unit_alike at xs ys (above ++ identifier_of a ∷ []) 0 a h.0)
     ∙ ap (λ l. (number_of a, shown_unit at ys (above ++ identifier_of a ∷ []) 0 a) ∷ l) (beside_alike at xs ys above o r.1)
 
@@ -135,7 +128,7 @@ pub page_at_alike : (at : Repository) (xs ys : List BoxKey) (way : List PublicUn
 page_at_alike at xs ys way Empty h k = refl
 page_at_alike at xs ys way (Node (Stub id identifier level until) c o) h k = refl
 page_at_alike at xs ys way (Node (Told id values) c o) h k =
-    let r = all_parts (λ unit. Alike xs ys (boxes_told unit)) (nodes c) (nodes o) k.1 in
+    let r = all_split (λ unit. Alike xs ys (boxes_told unit)) (nodes c) (nodes o) k.1 in
     let e = coded_same at xs ys [] [] way in
     let made : Shown → List Coded → List PageBox → List (ℕ × Shown) → Option Page = λ head units boxes below. Some (record { head = head; lines = filter_map (page_line units) line_elements; boxes = boxes; below = below }) in
     ap (λ head. made head (coded (with_boxes at xs) way) (boxes_on_page (with_boxes at xs) (coded (with_boxes at xs) way)) (side_by_side (with_boxes at xs) (map identifier_of way) c)) (unit_alike at xs ys (map identifier_of way) 0 (Told id values) k.0)

@@ -6,17 +6,14 @@ use Rattle.std.proofs.lemmas.List.Folds.{list_any-append}
 use Rattle.isad_core.specs.declared.shown.Page.{Page}
 use Rattle.tree_core.specs.Forest.{Forest, Empty, Node, nodes, each}
 use Rattle.tree_core.specs.Withheld.{public}
+use Rattle.catalogue_core.proofs.DistinctLists.{all_so}
+use Rattle.catalogue_core.proofs.EachOf.{all_append}
 use Rattle.catalogue_core.specs.Units.{Unit, is_closed}
 use Rattle.catalogue_core.specs.Housing.{paths_below}
 use Rattle.catalogue_core.specs.Publishing.{PublicUnit, Told, public_unit, public_of, stub_of}
 use Rattle.catalogue_core.specs.Pages.{before_last}
 use Rattle.catalogue_core.specs.Members.{StandsIn}
 use Rattle.catalogue_core.specs.Published.{last_of, TellsOf, IsPublished}
-use Rattle.catalogue_core.proofs.PagesAlike.{all_both}
-
-all_weaker : {X : Type 0} (P Q : X → Type 0) → ((x : X) → P x → Q x) → (xs : List X) → AllByRecursion P xs → AllByRecursion Q xs
-all_weaker P Q f [] h = tt
-all_weaker P Q f (x ∷ xs) h = (f x h.0, all_weaker P Q f xs h.1)
 
 stands_left : {X : Type 0} (x : X) (xs ys : List X) → StandsIn x xs → StandsIn x (xs ++ ys)
 stands_left x [] ys h = absurd h
@@ -73,14 +70,14 @@ published_below day w (Node unit c o) h k =
     (λ d e. published_below day (w ++ unit ∷ []) c (none_pushed (λ (u : Unit). u.draft) w unit h d) (none_pushed (is_closed day) w unit k e))
   where
     beside : AllByRecursion (IsPublished day (paths_below w o)) (nodes (public_of day o)) → AllByRecursion (IsPublished day (paths_below w (Node unit c o))) (nodes (public_of day o))
-    beside = all_weaker (IsPublished day (paths_below w o)) (IsPublished day (paths_below w (Node unit c o))) (wider day (paths_below w o) (paths_below w (Node unit c o)) (λ way s. inr (stands_right way (paths_below (w ++ unit ∷ []) c) (paths_below w o) s))) (nodes (public_of day o))
+    beside = all_so (IsPublished day (paths_below w o)) (IsPublished day (paths_below w (Node unit c o))) (wider day (paths_below w o) (paths_below w (Node unit c o)) (λ way s. inr (stands_right way (paths_below (w ++ unit ∷ []) c) (paths_below w o) s))) (nodes (public_of day o))
 
     at : (b : Bool) → unit.draft ≡ b → AllByRecursion (IsPublished day (paths_below w o)) (nodes (public_of day o)) → (unit.draft ≡ false → is_closed day unit ≡ false → AllByRecursion (IsPublished day (paths_below (w ++ unit ∷ []) c)) (nodes (public_of day c))) → AllByRecursion (IsPublished day (paths_below w (Node unit c o))) (nodes (each public_unit (cond b (public (λ (u : Unit). u.draft) (is_closed day) o) (Node (unit, is_closed day unit) (cond (is_closed day unit) Empty (public (λ (u : Unit). u.draft) (is_closed day) c)) (public (λ (u : Unit). u.draft) (is_closed day) o)))))
     at true d p q = beside p
     at false d p q = (
       here day w unit (paths_below (w ++ unit ∷ []) c ++ paths_below w o) d h k,
-      all_both (IsPublished day (paths_below w (Node unit c o))) (nodes (each public_unit (cond (is_closed day unit) Empty (public (λ (u : Unit). u.draft) (is_closed day) c)))) (nodes (public_of day o))
-          (all_weaker (IsPublished day (paths_below (w ++ unit ∷ []) c)) (IsPublished day (paths_below w (Node unit c o))) (wider day (paths_below (w ++ unit ∷ []) c) (paths_below w (Node unit c o)) (λ way s. inr (stands_left way (paths_below (w ++ unit ∷ []) c) (paths_below w o) s))) (nodes (each public_unit (cond (is_closed day unit) Empty (public (λ (u : Unit). u.draft) (is_closed day) c))))
+      all_append (IsPublished day (paths_below w (Node unit c o))) (nodes (each public_unit (cond (is_closed day unit) Empty (public (λ (u : Unit). u.draft) (is_closed day) c)))) (nodes (public_of day o))
+          (all_so (IsPublished day (paths_below (w ++ unit ∷ []) c)) (IsPublished day (paths_below w (Node unit c o))) (wider day (paths_below (w ++ unit ∷ []) c) (paths_below w (Node unit c o)) (λ way s. inr (stands_left way (paths_below (w ++ unit ∷ []) c) (paths_below w o) s))) (nodes (each public_unit (cond (is_closed day unit) Empty (public (λ (u : Unit). u.draft) (is_closed day) c))))
           (below_at day w unit c (is_closed day unit) refl (q d)))
           (beside p),
     )

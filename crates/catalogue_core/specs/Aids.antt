@@ -25,8 +25,8 @@ identifier_of (Stub id name level until) = name
 abbrev pub numbered_boxes : (BoxKey → ℕ) → List BoxKey → List (ℕ × Bytes)
 numbered_boxes number boxes = map (λ b. (number b, b.name)) boxes
 
--- what is shown of a unit whose values are told: `ids` are the identifiers from the top down to it, and `number` says the
--- numbers of containers
+-- what is shown of a unit whose values are told: `ids` are the identifiers from the top down to it, and
+-- `number` says the numbers of containers
 abbrev pub shown_told : Repository → (BoxKey → ℕ) → List Bytes → ℕ → Values → Shown
 shown_told at number ids depth values = record {
   depth = depth;

@@ -48,7 +48,8 @@ take catalogue source file = take_rows catalogue source (file_of file)
 
 abbrev pub same_values : Values → Values → Bool
 same_values a b =
-    bytes_eq a.level b.level && (pointwise (option_eq bytes_eq) a.texts b.texts && pointwise is_same_box a.boxes b.boxes)
+    bytes_eq a.level b.level
+    && (pointwise (option_eq bytes_eq) a.texts b.texts && pointwise is_same_box a.boxes b.boxes)
 
 -- the unit of a row, where it is catalogued
 abbrev pub unit_of : Forest Unit → Bytes → Row → Option Unit

@@ -12,6 +12,7 @@ use Rattle.office_core.specs.declared.command.Command.TheVariants as command
 use Rattle.isad_core.specs.Limits.{most_runs}
 use Rattle.office_core.specs.Rules.{checks, after, fetched, cancelled, issued, returned, imported, taken}
 use Rattle.isad_core.specs.Boxes.{distinct}
+use Rattle.catalogue_core.proofs.DistinctLists.{all_so}
 use Rattle.catalogue_core.specs.Intake.{Taken}
 use Rattle.office_core.specs.SoundDesk.{IsAscending, IsGoodLine, AreApart, IsGoodRun, AreGoodRuns}
 use Rattle.office_core.proofs.Words.{same_number, all-push, ascending-push, numbered-push, numbered-push_last}
@@ -19,15 +20,11 @@ use Rattle.office_core.proofs.Steps.{held_not, Passes}
 use Rattle.office_core.proofs.Filed.{all_taken, picked_due}
 use Rattle.office_core.proofs.Extends.{Extends, extends_after, same_day, no_later_than}
 
-all_weaker : {X : Type 0} (P Q : X → Type 0) → ((x : X) → P x → Q x) → (xs : List X) → AllByRecursion P xs → AllByRecursion Q xs
-all_weaker P Q f [] h = tt
-all_weaker P Q f (x ∷ xs) h = (f x h.0, all_weaker P Q f xs h.1)
-
 -- the numbers of a run ascend
 
 all_to : (n : ℕ) → AllByRecursion (λ m. m < suc n) (numbers_to n)
 all_to zero = tt
-all_to (suc n) = all-push (λ m. m < suc (suc n)) (numbers_to n) (suc n) (all_weaker (λ m. m < suc n) (λ m. m < suc (suc n)) (λ m h. omega (arith, h)) (numbers_to n) (all_to n)) (omega arith)
+all_to (suc n) = all-push (λ m. m < suc (suc n)) (numbers_to n) (suc n) (all_so (λ m. m < suc n) (λ m. m < suc (suc n)) (λ m h. omega (arith, h)) (numbers_to n) (all_to n)) (omega arith)
 
 ascending_to : (n : ℕ) → IsAscending (numbers_to n)
 ascending_to zero = tt
@@ -133,7 +130,7 @@ good_run s t run e g =
       some = g.some;
       few = subst (λ settings. length run.lines ≤ settings.run_size) (sym e.settings) g.few;
       apart = g.apart;
-      lines = all_weaker (IsGoodLine s) (IsGoodLine t) (λ l h. good_line s t l e h) run.lines g.lines;
+      lines = all_so (IsGoodLine s) (IsGoodLine t) (λ l h. good_line s t l e h) run.lines g.lines;
     }
 
 runs_same : (s t : State) → Extends s t → t.runs ≡ s.runs → AreGoodRuns s → AreGoodRuns t
@@ -154,7 +151,7 @@ run_good s some =
       some = omega (arith, n, one);
       few = omega (arith, n, most);
       apart = apart_lines s (picked s) all (ascending_picked s);
-      lines = all_weaker (IsGoodLine s) (IsGoodLine (fetched s)) (λ l h. record { order = h.order; ticket = h.ticket }) (next_run s).lines (good_lines s (picked s) all);
+      lines = all_so (IsGoodLine s) (IsGoodLine (fetched s)) (λ l h. record { order = h.order; ticket = h.ticket }) (next_run s).lines (good_lines s (picked s) all);
     }
 
 fetched_runs : (s : State) → Extends s (fetched s) → is_empty (picked s) ≡ false → length s.runs < most_runs → AreGoodRuns s → AreGoodRuns (fetched s)

@@ -21,12 +21,16 @@ pub record HasGoodCatalogue (s : State) : Type 0 where
 abbrev pub ImportsKeepTheCatalogue : State → Type 0
 ImportsKeepTheCatalogue s = (source file : Bytes) → HasGoodCatalogue (step s (command.Import source file)).0
 
+-- each unit that was there is there
+abbrev pub KeepsEachUnit : State → State → Type 0
+KeepsEachUnit s t = (u : ℕ) → has_unit s.catalogue.forest u ≡ true → has_unit t.catalogue.forest u ≡ true
+
 -- An accepted import takes no unit away, and brings as many as its reply counts as new: each unit number that was there is
 -- there, so many more units are there, and so many unit numbers are given.
 abbrev pub ImportsBringTheNew : State → Type 0
 ImportsBringTheNew s =
     (source file : Bytes) (changed new : ℕ) (remarks : List Remark) (same translations : ℕ)
     → (step s (command.Import source file)).1 ≡ Ok (done.Import changed new remarks same translations)
-    → ((u : ℕ) → has_unit s.catalogue.forest u ≡ true → has_unit (step s (command.Import source file)).0.catalogue.forest u ≡ true)
+    → KeepsEachUnit s (step s (command.Import source file)).0
     × (size (step s (command.Import source file)).0.catalogue.forest ≡ size s.catalogue.forest + new)
     × ((step s (command.Import source file)).0.catalogue.next ≡ s.catalogue.next + new)

@@ -92,7 +92,10 @@ abbrev pub given : Kind → State → Command → List ℕ
 given Tickets s asked = option_to_list (ticket_given asked (step s asked).1)
 given Orders s asked = option_to_list (order_given asked (step s asked).1)
 given Runs s asked = option_to_list (run_given asked (step s asked).1)
-given Containers s asked = numbers_from (suc (length s.catalogue.containers)) (length (step s asked).0.catalogue.containers - length s.catalogue.containers)
+given Containers s asked =
+    numbers_from
+    (suc (length s.catalogue.containers))
+    (length (step s asked).0.catalogue.containers - length s.catalogue.containers)
 given Units s asked = numbers_from s.catalogue.next ((step s asked).0.catalogue.next - s.catalogue.next)
 
 -- the numbers of a kind that a run of commands gives, one command after another
@@ -106,7 +109,10 @@ AreNumbered s = (u : ℕ) → has_unit s.catalogue.forest u ≡ true → u < s.c
 
 -- a unit that comes has one of the numbers that the command gives
 abbrev pub ComesNew : State → State → Type 0
-ComesNew s t = (u : ℕ) → has_unit t.catalogue.forest u ≡ true → (has_unit s.catalogue.forest u ≡ true) ⊎ ((s.catalogue.next ≤ u) × (u < t.catalogue.next))
+ComesNew s t =
+    (u : ℕ)
+    → has_unit t.catalogue.forest u ≡ true
+    → (has_unit s.catalogue.forest u ≡ true) ⊎ ((s.catalogue.next ≤ u) × (u < t.catalogue.next))
 
 -- ---- an import that is done again
 

@@ -27,7 +27,11 @@ use Rattle.catalogue_core.specs.Pages.{Press, is_numbered, fonds_text, aid_of, p
 
 -- how units are printed in this office
 abbrev pub press : State → Press
-press s = record { at = record { country = s.settings.country; repo = s.settings.repo }; containers = s.catalogue.containers }
+press s =
+    record {
+      at = record { country = s.settings.country; repo = s.settings.repo };
+      containers = s.catalogue.containers;
+    }
 
 abbrev pub public_forest : State → Forest PublicUnit
 public_forest s = public_of s.day s.catalogue.forest

@@ -111,7 +111,8 @@ imported s (Err fault) = s
 abbrev pub after : State → Command → State
 after s (command.OpenDay day) = opened s day
 after s (command.Import source file) = imported s (taken s source file)
-after s (command.SetStatus u draft whole) = record s { catalogue = with_status (chosen whole u s.catalogue) draft s.catalogue }
+after s (command.SetStatus u draft whole) =
+    record s { catalogue = with_status (chosen whole u s.catalogue) draft s.catalogue }
 after s (command.SetClosure u until) = record s { catalogue = with_closure u until s.catalogue }
 after s (command.Move u parent) = record s { catalogue = with_moved u parent s.catalogue }
 after s (command.Remove u) = removed s u

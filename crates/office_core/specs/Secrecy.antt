@@ -22,7 +22,9 @@ pub record SamePublic (s t : State) : Type 0 where
   pub repo : s.settings.repo ≡ t.settings.repo
   pub day : s.day ≡ t.day
   pub forest : public_forest s ≡ public_forest t
-  pub numbers : AllByRecursion (λ box. box_number s.catalogue.containers box ≡ box_number t.catalogue.containers box) (flat_map boxes_told (nodes (public_forest s)))
+  pub numbers : AllByRecursion
+      (λ box. box_number s.catalogue.containers box ≡ box_number t.catalogue.containers box)
+      (flat_map boxes_told (nodes (public_forest s)))
 
 -- Equal public parts give equal answers to the public's questions: nothing else that an office keeps shows in
 -- them.

@@ -122,7 +122,10 @@ is_permitted day permits u = list_any (λ permit. nat_eq permit.unit u && int_le
 
 -- the container is known, and open today to the reader with this ticket
 abbrev pub opens : State → ℕ → ℕ → Bool
-opens s t c = some_and (λ box. is_open s.catalogue.forest box (is_permitted s.day (s.permits t)) s.day) (numbered s.catalogue.containers c)
+opens s t c =
+    some_and
+    (λ box. is_open s.catalogue.forest box (is_permitted s.day (s.permits t)) s.day)
+    (numbered s.catalogue.containers c)
 
 abbrev pub container_of : State → ℕ → Option ℕ
 container_of s o = option_map (λ order. order.container) (numbered s.orders o)

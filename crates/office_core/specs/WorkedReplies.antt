@@ -1,10 +1,11 @@
 -- What the rules make of small offices. Each expected reply was found by the rules as they are told, by hand.
-use Rattle.std.specs.Prelude.{◌≡◌, true, false, [], ◌∷◌, Some, None, Ok, codes, replicate}
-use Rattle.tree_core.specs.Forest.{each}
+use Rattle.std.specs.Prelude.{◌≡◌, ℕ, List, true, false, [], ◌∷◌, Some, None, Ok, codes, replicate}
+use Rattle.tree_core.specs.Forest.{Forest, each}
 use Rattle.tree_core.specs.Spans.{number}
 use Rattle.tree_core.specs.Links.{siblings}
 use Rattle.tree_core.specs.Worked.{span, link}
 use Rattle.desk_core.specs.declared.refusal.Refusal.TheVariants.{UnknownUnit, UnknownTicket, UnknownContainer, TicketExpired, NotAvailable, AlreadyOrdered, DailyLimit, NoSeatFree, AlreadySeated, NotSeated, HoldsContainers, UnknownOrder, OrderNotWaiting, NotAtDesk, NotFirst, HandsFull, NotIssued, DayNotLater, StillIssued, IntoItself, WithReader, BadFile, Full, NothingToMove, TooDeep, BadName, NoPermit}
+use Rattle.office_core.specs.declared.command.Command.{Command}
 use Rattle.office_core.specs.declared.command.Command.TheVariants.{OpenDay, Import, SetStatus, SetClosure, Move, Remove, Register, Renew, TakeSeat, LeaveSeat, Order, Cancel, Run, Reshelve, Issue, Return, Permit, Revoke}
 use Rattle.office_core.specs.declared.done.Done.TheVariants as done
 use Rattle.office_core.specs.declared.done.Remark.TheVariants.{LevelTooHigh, LacksEssential}
@@ -212,11 +213,16 @@ pub record MostPermits : Type 0 where
   pub told : replies hundred_permits (Permit 1 101 april_1 ∷ Permit 1 100 april_1 ∷ Permit 1 1 april_1 ∷ Permit 1 1 march_31 ∷ Revoke 1 50 ∷ Permit 1 101 april_1 ∷ Permit 1 50 april_1 ∷ [])
       ≡ refused Full ∷ Ok (done.Permit 1 100 april_1) ∷ Ok (done.Permit 1 1 april_1) ∷ Ok (done.Permit 1 1 april_1) ∷ Ok (done.Revoke 50) ∷ Ok (done.Permit 1 101 april_1) ∷ refused Full ∷ []
 
+-- the unit numbers in their places
+abbrev pub numbers_after : List Command → Forest ℕ
+numbers_after asked = each (λ (unit : Unit). unit.id) (state_after office asked).catalogue.forest
+
 -- the rows of the places: moves renumber, and what is removed leaves no gap
 pub record Placed : Type 0 where
-  pub first : number 1 (each (λ (unit : Unit). unit.id) (state_after office (import docks ∷ [])).catalogue.forest) ≡ span 1 1 4 ∷ span 2 2 3 ∷ []
-  pub moved : number 1 (each (λ (unit : Unit). unit.id) (state_after office (import docks ∷ Move 2 None ∷ [])).catalogue.forest) ≡ span 1 1 2 ∷ span 2 3 4 ∷ []
-  pub moved_back : siblings (each (λ (unit : Unit). unit.id) (state_after office (import docks ∷ Move 2 None ∷ Move 2 (Some 1) ∷ [])).catalogue.forest) ≡ link 1 None 1 ∷ link 2 (Some 1) 1 ∷ []
-  pub removed : number 1 (each (λ (unit : Unit). unit.id) (state_after office (import docks ∷ Remove 1 ∷ [])).catalogue.forest) ≡ []
-  pub again : number 1 (each (λ (unit : Unit). unit.id) (state_after office (import docks ∷ Remove 1 ∷ import docks ∷ [])).catalogue.forest) ≡ span 3 1 4 ∷ span 4 2 3 ∷ []
+  pub first : number 1 (numbers_after (import docks ∷ [])) ≡ span 1 1 4 ∷ span 2 2 3 ∷ []
+  pub moved : number 1 (numbers_after (import docks ∷ Move 2 None ∷ [])) ≡ span 1 1 2 ∷ span 2 3 4 ∷ []
+  pub moved_back : siblings (numbers_after (import docks ∷ Move 2 None ∷ Move 2 (Some 1) ∷ []))
+      ≡ link 1 None 1 ∷ link 2 (Some 1) 1 ∷ []
+  pub removed : number 1 (numbers_after (import docks ∷ Remove 1 ∷ [])) ≡ []
+  pub again : number 1 (numbers_after (import docks ∷ Remove 1 ∷ import docks ∷ [])) ≡ span 3 1 4 ∷ span 4 2 3 ∷ []
   pub refused : (state_after office (import parent_later ∷ [])).catalogue.next ≡ 1

@@ -7,6 +7,7 @@ use Rattle.std.proofs.lemmas.List.Concat.{flat_map-cons}
 use Rattle.isad_core.specs.declared.values.BoxKey.{BoxKey}
 use Rattle.isad_core.specs.Boxes.{distinct, is_same as is_same_box}
 use Rattle.tree_core.proofs.Lists.{In, In-append, In-map, head_apart, any_from_In}
+use Rattle.catalogue_core.proofs.EachOf.{all_append}
 use Rattle.catalogue_core.specs.Units.{Unit}
 use Rattle.office_rows.specs.Reading.{number_of}
 use Rattle.office_core.proofs.Words.{other_number}
@@ -28,15 +29,11 @@ in_flat_map rows (u ∷ us) r i = elim (In-append (rows u) (flat_map rows us) r 
   | inr b ↦ let o = in_flat_map rows us r b in record { unit = o.unit; there = inr o.there; own = o.own }
 ]
 
-all_beside : {X : Type 0} (P : X → Type 0) (xs ys : List X) → AllByRecursion P xs → AllByRecursion P ys → AllByRecursion P (xs ++ ys)
-all_beside P [] ys h k = k
-all_beside P (x ∷ xs) ys h k = (h.0, all_beside P xs ys h.1 k)
-
 distinct_beside : {R : Type 0} (e : R → R → Bool) (xs ys : List R) → IsDistinct e xs → IsDistinct e ys → ((x y : R) → In x xs → In y ys → e x y ≡ false) → IsDistinct e (xs ++ ys)
 unfolding IsDistinct
 distinct_beside e [] ys d f h = f
 distinct_beside e (x ∷ xs) ys d f h =
-    (all_beside (λ y. e x y ≡ false) xs ys d.0 (in_each (λ y. e x y ≡ false) ys (λ y i. h x y (inl refl) i)), distinct_beside e xs ys d.1 f (λ z y i j. h z y (inr i) j))
+    (all_append (λ y. e x y ≡ false) xs ys d.0 (in_each (λ y. e x y ≡ false) ys (λ y i. h x y (inl refl) i)), distinct_beside e xs ys d.1 f (λ z y i j. h z y (inr i) j))
 
 -- ---- rows of units
 

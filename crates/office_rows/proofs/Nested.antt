@@ -1,13 +1,15 @@
 -- A forest is what its span rows say.
-use Rattle.std.proofs.Common.{◌≡◌, ℕ, zero, suc, ◌+◌, ◌*◌, ◌<◌, ◌≤◌, Bool, true, false, not, cond, List, [], ◌∷◌, ◌++◌, length, refl, sym, ap, ◌∙◌, subst, arith}
+use Rattle.std.proofs.Common.{◌≡◌, ℕ, zero, suc, ◌+◌, ◌*◌, ◌<◌, ◌≤◌, Bool, true, false, not, cond, List, [], ◌∷◌, ◌++◌, length, refl, ap, ◌∙◌, arith}
 use Rattle.std.specs.Prelude.{filter, nat_lt}
 use Rattle.std.specs.List.{AllByRecursion}
 use Rattle.std.proofs.lemmas.Bool.{lt-ltb, le-ltb}
 use Rattle.tree_core.specs.Forest.{Forest, Empty, Node, size}
 use Rattle.tree_core.specs.Spans.{number}
 use Rattle.tree_core.specs.declared.rows.Span.{Span}
+use Rattle.catalogue_core.proofs.DistinctLists.{all_so}
+use Rattle.catalogue_core.proofs.EachOf.{all_append}
 use Rattle.office_rows.specs.Reading.{nested, places_said, SpanRows}
-use Rattle.office_rows.proofs.ReadBack.{filter_parts, all_beside}
+use Rattle.office_rows.proofs.ReadBack.{filter_parts}
 
 -- the first numbers of a forest that is numbered from k
 abbrev Within : ℕ → ℕ → Span → Type 0
@@ -24,7 +26,7 @@ numbers_within : (k : ℕ) (f : Forest ℕ) → AllByRecursion (Within k (k + 2 
 numbers_within k Empty = tt
 numbers_within k (Node u c o) = (
   (omega arith, omega arith),
-  all_beside (Within k (k + 2 * (1 + (size c + size o)))) (number (k + 1) c) (number (k + 2 * size c + 2) o)
+  all_append (Within k (k + 2 * (1 + (size c + size o)))) (number (k + 1) c) (number (k + 2 * size c + 2) o)
       (all_within (k + 1) (k + 1 + 2 * size c) k (k + 2 * (1 + (size c + size o))) (omega arith) (omega arith) (number (k + 1) c) (numbers_within (k + 1) c))
       (all_within (k + 2 * size c + 2) (k + 2 * size c + 2 + 2 * size o) k (k + 2 * (1 + (size c + size o))) (omega arith) (omega arith) (number (k + 2 * size c + 2) o) (numbers_within (k + 2 * size c + 2) o)),
 )
@@ -36,10 +38,6 @@ keeps p (row ∷ rows) h = ap (λ b. cond b (row ∷ filter p rows) (filter p ro
 drops : (p : Span → Bool) (rows : List Span) → AllByRecursion (λ row. p row ≡ false) rows → filter p rows ≡ []
 drops p [] h = refl
 drops p (row ∷ rows) h = ap (λ b. cond b (row ∷ filter p rows) (filter p rows)) h.0 ∙ drops p rows h.1
-
-all_so : (P Q : Span → Type 0) → ((row : Span) → P row → Q row) → (rows : List Span) → AllByRecursion P rows → AllByRecursion Q rows
-all_so P Q f [] h = tt
-all_so P Q f (row ∷ rows) h = (f row h.0, all_so P Q f rows h.1)
 
 no_more : {X : Type 0} (xs : List X) → xs ++ [] ≡ xs
 no_more [] = refl

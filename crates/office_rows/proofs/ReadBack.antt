@@ -7,6 +7,7 @@ use Rattle.std.proofs.lemmas.List.{map-append}
 use Rattle.std.proofs.lemmas.List.Concat.{flat_map-cons}
 use Rattle.std.proofs.lemmas.Grind.{flat_map-append}
 use Rattle.std.proofs.lemmas.Bool.{cases_eq, cases_Bool, false≢true, eq-eqb}
+use Rattle.catalogue_core.proofs.EachOf.{all_append}
 use Rattle.office_core.specs.Words.{numbered, numbers_to, stands}
 use Rattle.office_core.specs.State.{Line, Run, Permit, State}
 use Rattle.office_rows.specs.DeskRows.{rows_from, SeatRow, seat_rows_from, run_row, RunLineRow, run_line_row, lines_from, PermitRow, permit_row, permit_rows}
@@ -83,13 +84,9 @@ all_of_run : (n m : ℕ) (ls : List Line) → nat_eq n m ≡ false → AllByRecu
 all_of_run n m [] h = tt
 all_of_run n m (l ∷ ls) h = (h, all_of_run n m ls h)
 
-pub all_beside : {X : Type 0} (P : X → Type 0) (xs ys : List X) → AllByRecursion P xs → AllByRecursion P ys → AllByRecursion P (xs ++ ys)
-all_beside P [] ys h k = k
-all_beside P (x ∷ xs) ys h k = (h.0, all_beside P xs ys h.1 k)
-
 later_lines : (n m : ℕ) (runs : List Run) → m < n → AllByRecursion (λ row. nat_eq row.run m ≡ false) (lines_from n runs)
 later_lines n m [] h = tt
-later_lines n m (run ∷ runs) h = all_beside (λ row. nat_eq row.run m ≡ false) (map (run_line_row n) run.lines) (lines_from (suc n) runs) (all_of_run n m run.lines (other_number n m (λ e. omega (arith, h, e)))) (later_lines (suc n) m runs (omega (arith, h)))
+later_lines n m (run ∷ runs) h = all_append (λ row. nat_eq row.run m ≡ false) (map (run_line_row n) run.lines) (lines_from (suc n) runs) (all_of_run n m run.lines (other_number n m (λ e. omega (arith, h, e)))) (later_lines (suc n) m runs (omega (arith, h)))
 
 -- the lines before those of run n are of lesser runs
 Before : ℕ → List RunLineRow → Type 0
@@ -105,7 +102,7 @@ runs_from front n (run ∷ runs) h =
     let a : filter (of_run n) all ≡ filter (of_run n) mine = filter_parts (of_run n) front (mine ++ rest) ∙ (ap (λ l. l ++ filter (of_run n) (mine ++ rest)) (no_lines n front (h n (omega arith))) ∙ (filter_parts (of_run n) mine rest ∙ (ap (λ l. filter (of_run n) mine ++ l) (no_lines n rest (later_lines (suc n) n runs (omega arith))) ∙ nothing_more (filter (of_run n) mine)))) in
     ap (λ ls. record { day = run.day; lines = map line_from ls } ∷ map (run_from all) (rows_from run_row (suc n) runs)) a
     ∙ (ap (λ ls. record { day = run.day; lines = ls } ∷ map (run_from all) (rows_from run_row (suc n) runs)) (own_lines n run.lines)
-    ∙ ap (λ l. run ∷ l) (ap (λ l. map (run_from l) (rows_from run_row (suc n) runs)) (sym (append_assoc front mine rest)) ∙ runs_from (front ++ mine) (suc n) runs (λ m k. all_beside (λ row. nat_eq row.run m ≡ false) front mine (h m (omega (arith, k))) (all_of_run n m run.lines (other_number n m (λ e. omega (arith, k, e)))))))
+    ∙ ap (λ l. run ∷ l) (ap (λ l. map (run_from l) (rows_from run_row (suc n) runs)) (sym (append_assoc front mine rest)) ∙ runs_from (front ++ mine) (suc n) runs (λ m k. all_append (λ row. nat_eq row.run m ≡ false) front mine (h m (omega (arith, k))) (all_of_run n m run.lines (other_number n m (λ e. omega (arith, k, e)))))))
   where
     nothing_more : {X : Type 0} (xs : List X) → xs ++ [] ≡ xs
     nothing_more [] = refl
