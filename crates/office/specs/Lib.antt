@@ -26,6 +26,9 @@ pub use Rattle.office_core.specs.Json
 pub use Rattle.catalogue_core.specs.Pages
 pub use Rattle.office_core.specs.Queries
 pub use Rattle.office_core.specs.WorkedAnswers
+pub use Rattle.office_core.specs.WorkedDesk
+pub use Rattle.office_core.specs.WorkedCatalogue
+pub use Rattle.office_core.specs.WorkedShown
 pub use Rattle.office_core.specs.Secrecy
 pub use Rattle.office_core.specs.Soundness
 pub use Rattle.office_core.specs.Imported
