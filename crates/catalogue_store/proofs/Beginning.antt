@@ -37,4 +37,4 @@ pub desk_kept : (v : Version) (start mid new : Database) (o : OfficeRow) → Has
 desk_kept v start mid new o made puts =
     let kept = made.kept in
     let only = puts.only in
-    (only.0 refl ∙ kept.0, (only.1.0 refl ∙ kept.1.0, (only.1.1.0 refl ∙ kept.1.1.0, (only.1.1.1.0 refl ∙ kept.1.1.1.0, (only.1.1.1.1.0 refl ∙ kept.1.1.1.1.0, (only.1.1.1.1.1.0 refl ∙ kept.1.1.1.1.1.0, (only tables.permit.tree refl refl ∙ kept.1.1.1.1.1.1.0, tt)))))))
+    (only tables.reader.tree refl refl ∙ kept.0, (only tables.seat.tree refl refl ∙ kept.1.0, (only tables.orders.tree refl refl ∙ kept.1.1.0, (only tables.holding.tree refl refl ∙ kept.1.1.1.0, (only tables.run.tree refl refl ∙ kept.1.1.1.1.0, (only tables.run_line.tree refl refl ∙ kept.1.1.1.1.1.0, (only tables.permit.tree refl refl ∙ kept.1.1.1.1.1.1.0, tt)))))))
