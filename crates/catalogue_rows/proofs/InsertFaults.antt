@@ -1,5 +1,5 @@
 -- Why the INSERTs of the catalogue's rows fail.
-use Rattle.std.proofs.Common.{◌≡◌, ℕ, ℤ, pos, List, [], ◌∷◌, map, length, true, false, not, ◌&&◌, nat_eq, Err, Option, Some, None, option_map, refl, ap, ap₂, ◌∙◌}
+use Rattle.std.proofs.Common.{◌≡◌, ℕ, pos, List, [], ◌∷◌, map, length, true, false, not, ◌&&◌, nat_eq, Err, refl, ap, ap₂, ◌∙◌}
 use Rattle.std.proofs.Math.Nat.{le_refl}
 use Rattle.std.proofs.lemmas.Bool.{or_right}
 use Rattle.std.specs.List.{list_any, list_all}
@@ -12,67 +12,28 @@ use Rattle.sqlite.specs.declared.error.Error.{Error}
 use Rattle.sqlite.specs.Order.{Row, column}
 use Rattle.sqlite.specs.Edit.{edit_of, is_taken, next_rowid}
 use Rattle.sqlite.specs.Rowids.TheVariants.{Chosen}
-use Rattle.sqlite.specs.Effect.{Database, RefusesSource, value_rows}
-use Rattle.sqlite.specs.Source.TheVariants.{Values}
+use Rattle.sqlite.specs.Effect.{value_rows}
 use Rattle.sqlite.specs.Listing.{understood}
 use Rattle.sqlite.specs.State.{State, IsLive, Executes}
 use Rattle.sqlite.specs.Tree.{Trees}
-use Rattle.sqlite.specs.Values.{or_null}
-use Rattle.sqlite.specs.Kind.TheVariants as kind
 use Rattle.sqlite_schema.specs.Names.{same_name}
-use Rattle.sqlite_schema.specs.Rules.{is_of, agree, guards, has_null, has_parent, is_key_of}
+use Rattle.sqlite_schema.specs.Rules.{agree, guards, has_null, has_parent, is_key_of}
 use Rattle.sqlite_tied.specs.Compute.{everything}
 use Rattle.sqlite_value.specs.Keys.{joined, first_key, plain}
-use Rattle.tree_core.specs.declared.rows.Link.{Link}
 use Rattle.catalogue_rows.specs.Adding.{AreElements}
 use Rattle.office_tables.specs.Faults.{fault_of, IsUnlimited, HasCause}
 use Rattle.office_tables.specs.Order.{Rises}
 use Rattle.tree_core.specs.Versions.{version_number, Version, Links, Spans}
-use Rattle.catalogue_rows.specs.Rows.{office_cells, office_row, unit_row, ElementRow, element_row, container_row, HousingRow, housing_row, link_row}
-use Rattle.office_tables.specs.Schema.{schema, to_unit, office, unit, element, container, housing, link}
+use Rattle.catalogue_rows.specs.Rows.{office_cells, office_row, unit_row, ElementRow, element_row, container_row, HousingRow, housing_row}
+use Rattle.office_tables.specs.Schema.{schema, to_unit, office, unit, element, container, housing}
 use Rattle.catalogue_core.specs.Units.{Unit, has_id}
 use Rattle.catalogue_rows.specs.declared.office.OfficeRow.{OfficeRow}
-use Rattle.office_tables.proofs.Casts.{cast_int, cast_null, cast_maybe}
+use Rattle.office_tables.proofs.Casts.{cast_int, cast_null}
 use Rattle.office_tables.proofs.Fresh.{any_mapped, next_free, not_there}
 use Rattle.office_tables.proofs.Failures.{IsWhole}
 use Rattle.office_tables.proofs.InsertCauses.{IsWelcome, values_typed, insert_cause}
 use Rattle.catalogue_rows.proofs.Inserts.{insert_office_text, insert_office_terms, insert_office_is, insert_office_plain, insert_container_text, insert_container_terms, insert_container_is, insert_container_plain, insert_element_text, insert_element_terms, insert_element_is, insert_element_plain, insert_housing_text, insert_housing_terms, insert_housing_is, insert_housing_plain}
-use Rattle.catalogue_rows.proofs.LinkChanges.{insert_link_text, insert_link_terms, insert_link_is, insert_link_plain}
 use Rattle.office_tables.proofs.Tests.{only, both, same_number, same_bytes}
-
--- ---- links
-
-insert_link_whole : IsWhole (length insert_link_text) 3 (understood (schema Links) insert_link_text)
-unfolding understood everything
-insert_link_whole = (le_refl _, refl, refl)
-
-maybe_typed : (p : Option ℤ) → is_of kind.Integer (or_null Int p) ≡ true
-maybe_typed None = refl
-maybe_typed (Some n) = refl
-
-link_typed : (id ord : ℤ) (parent : Option ℤ) (db : Database) (e : Error) → RefusesSource None db (Int id ∷ or_null Int parent ∷ Int ord ∷ []) (Values insert_link_terms 4) e → ⊥
-link_typed id ord None db e r = values_typed r (λ t. let clash : true ≡ false = t in cc)
-link_typed id ord (Some p) db e r = values_typed r (λ t. let clash : true ≡ false = t in cc)
-
-link_welcome : (l : Link) (xs : List Link) (db : Trees) → db 24 ≡ map link_row xs → list_any (λ (k : Link). nat_eq l.id k.id) xs ≡ false → IsWelcome (schema Links) db link (link_row l)
-link_welcome l xs db stored none = record {
-  keyed = refl;
-  free = ap (λ rows. is_taken rows (link_row l)) stored ∙ not_there link_row (λ k. k.id) (λ _. refl) l.id (link_row l) refl xs none;
-  typed = rw (maybe_typed (option_map pos l.parent)) refl;
-  present = refl;
-  checked = refl;
-  alone = refl;
-  referred = refl;
-  parents = refl;
-}
-
-pub insert_link_cause : (old new : State) (l : Link) (xs : List Link) → old.now.schema ≡ schema Links → IsLive old → IsUnlimited old → old.now.trees 24 ≡ map link_row xs → list_any (λ (k : Link). nat_eq l.id k.id) xs ≡ false
-    → (e : Error) → Executes insert_link_text (Int (pos l.id) ∷ or_null Int (option_map pos l.parent) ∷ Int (pos l.ord) ∷ []) old new (Err e) → HasCause old new (fault_of e)
-insert_link_cause old new l xs has live free stored none =
-    let params = Int (pos l.id) ∷ or_null Int (option_map pos l.parent) ∷ Int (pos l.ord) ∷ [] in
-    let news : (edit_of old.now.trees link [] Chosen 0 (value_rows params 4 1 insert_link_terms)).news ≡ link_row l ∷ [] = rw (cast_int (pos l.id), cast_null, cast_maybe (option_map pos l.parent), cast_int (pos l.ord)) refl in
-    insert_cause Links 12 link refl insert_link_text params old new has insert_link_terms 4 insert_link_is insert_link_plain insert_link_whole live free
-    (link_typed (pos l.id) (pos l.ord) (option_map pos l.parent) (record { schema = schema Links; trees = old.now.trees })) (link_row l) news (link_welcome l xs old.now.trees stored none)
 
 -- ---- rows that go with a unit
 

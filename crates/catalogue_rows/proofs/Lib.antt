@@ -9,7 +9,7 @@ pub mod UnitQueries
 pub mod Inserts
 pub mod Selects
 pub mod Changes
-pub mod LinkChanges
+pub mod LinkWrites
 pub mod UnitReads
 pub mod OfficeChanges
 pub mod BoxNumbers
@@ -27,12 +27,10 @@ pub mod Moves
 pub mod UnitDeletes
 pub mod Removals
 pub mod ReadCauses
-pub mod PlaceReads
+pub mod LinkQueries
 pub mod InsertFaults
 pub mod ChangeCauses
-pub mod LinkUpdates
 pub mod DeleteFaults
 pub mod UnitFaults
-pub mod LinkReadCauses
 pub mod Untold
 pub mod BoxCauses

@@ -12,7 +12,7 @@ use Rattle.tree_core.specs.Versions.{Version, Links, Spans}
 use Rattle.office_tables.specs.Schema.{schema}
 use Rattle.office_tables.proofs.Causes.{read_cause, none_refuse, sums_nothing, counts_always}
 use Rattle.office_tables.proofs.Failures.{IsWhole}
-use Rattle.catalogue_rows.proofs.Selects.{elements_text, elements_is, elements_plain, elements_unlisted, housings_text, housings_is, housings_plain, housings_unlisted, housed_text, housed_is, housed_plain, housed_unlisted, find_container_text, find_container_is, find_container_plain, find_container_unlisted, container_number_text, container_number_is, container_number_plain, container_number_unlisted, office_is_text, office_is_is, office_is_plain, office_is_unlisted, count_units_text, count_units_is, count_units_plain, count_units_unlisted, count_containers_text, count_containers_is, count_containers_plain, count_containers_unlisted, all_links_text, all_links_is, all_links_plain, all_links_unlisted}
+use Rattle.catalogue_rows.proofs.Selects.{elements_text, elements_is, elements_plain, elements_unlisted, housings_text, housings_is, housings_plain, housings_unlisted, housed_text, housed_is, housed_plain, housed_unlisted, find_container_text, find_container_is, find_container_plain, find_container_unlisted, container_number_text, container_number_is, container_number_plain, container_number_unlisted, office_is_text, office_is_is, office_is_plain, office_is_unlisted, count_units_text, count_units_is, count_units_plain, count_units_unlisted, count_containers_text, count_containers_is, count_containers_plain, count_containers_unlisted}
 
 elements_whole : (v : Version) → IsWhole (length elements_text) 1 (understood (schema v) elements_text)
 unfolding understood everything
@@ -117,12 +117,3 @@ count_containers_cause old new Links has free e h =
 count_containers_cause old new Spans has free e h =
     read_cause count_containers_text [] old new (schema Spans) has _ _ (count_containers_is Spans) (count_containers_plain Spans) (count_containers_whole Spans) (count_containers_unlisted Spans)
     (λ db e r. none_refuse r (λ t. let clash : true ≡ false = t in cc) (counts_always _ _)) free e h
-
-all_links_whole : IsWhole (length all_links_text) 0 (understood (schema Links) all_links_text)
-unfolding understood everything
-all_links_whole = (le_refl _, refl, refl)
-
-pub all_links_cause : (old new : State) → old.now.schema ≡ schema Links → IsUnlimited old → (e : Error) → FailsToQuery all_links_text [] old new e → HasCause old new (fault_of e)
-all_links_cause old new has free e h =
-    read_cause all_links_text [] old new (schema Links) has _ _ all_links_is all_links_plain all_links_whole all_links_unlisted
-    (λ db e r. none_refuse r (λ t. let clash : true ≡ false = t in cc) (sums_nothing _)) free e h

@@ -1,12 +1,10 @@
 -- What the queries answer.
-use Rattle.std.proofs.Common.{◌≡◌, ℕ, pos, List, [], ◌∷◌, map, filter, length, codes, true, false, ◌&&◌, option_map, refl, ap, ap₂, ◌∙◌, nat_eq}
+use Rattle.std.proofs.Common.{◌≡◌, ℕ, pos, List, [], ◌∷◌, map, filter, length, codes, true, false, ◌&&◌, refl, ap, ap₂, ◌∙◌, nat_eq}
 use Rattle.std.specs.declared.cmp.Ordering.TheVariants.{Equal}
 use Rattle.std.specs.List.Sorted.{IsPermutation, IsSorted}
 use Rattle.isad_core.specs.declared.values.BoxKey.{BoxKey}
-use Rattle.tree_core.specs.declared.rows.Link.{Link}
 use Rattle.sqlite.specs.declared.types.Value.TheVariants.{Null, Int, Text}
 use Rattle.sqlite.specs.Order.{Row}
-use Rattle.sqlite.specs.Values.{or_null}
 use Rattle.sqlite.specs.Term.{col, op2}
 use Rattle.sqlite.specs.Query.{inner, end}
 use Rattle.sqlite.specs.Command.{Command}
@@ -23,7 +21,7 @@ use Rattle.tree_core.specs.Versions.{Version, Links, Spans}
 use Rattle.office_tables.specs.Schema.{schema, unit, container}
 use Rattle.catalogue_core.specs.Units.{Unit}
 use Rattle.isad_core.specs.Boxes.{is_same as is_same_box}
-use Rattle.catalogue_rows.specs.Rows.{office_row, settings_cells, unit_row, ElementRow, element_row, container_row, HousingRow, housing_row, link_row, by_id, by_element, by_housing, by_container}
+use Rattle.catalogue_rows.specs.Rows.{office_row, settings_cells, unit_row, ElementRow, element_row, container_row, HousingRow, housing_row, by_element, by_housing, by_container}
 use Rattle.catalogue_rows.specs.declared.office.OfficeRow.{OfficeRow}
 use Rattle.office_tables.proofs.Tests.{only, both, same_number, same_bytes, by_one_int, by_two_ints}
 use Rattle.office_tables.specs.Counting.{capped}
@@ -33,9 +31,6 @@ use Rattle.office_tables.proofs.Queries.{plain_query, answers}
 
 abbrev pub office_of : Version × OfficeRow → Row
 office_of o = office_row o.0 o.1
-
-abbrev pub link_cells : Link → Row
-link_cells l = Int (pos l.id) ∷ or_null Int (option_map pos l.parent) ∷ Int (pos l.ord) ∷ []
 
 -- ---- elements
 
@@ -268,31 +263,3 @@ pub count_containers_rows : (old new : State) (xs : List (ℕ × BoxKey)) (rows 
 count_containers_rows old new xs rows v has stored shown =
     let read = reads_as count_containers_text [] old new (schema v) has count_containers_command (count_containers_is v) (count_containers_plain v) (count_containers_unlisted v) rows shown in
     counts 18 [] old.now.trees [] container_row xs (λ _. true) stored (λ _. refl) rows (read.answer Null) ∙ ap (λ l. (Int (pos (capped (length l))) ∷ []) ∷ []) (kept_all xs)
-
--- ---- the links
-
-abbrev pub all_links_text : List ℕ
-all_links_text = codes "SELECT id, parent, ord FROM link ORDER BY id"
-
-abbrev pub all_links_command : Command
-all_links_command = Select (record { lets = []; body = plain_query (inner 24 end) ([]) (col 1 0 ∷ col 1 2 ∷ col 1 3 ∷ []) ((col 1 0, ascending Binary) ∷ []) }) (codes "id" ∷ codes "parent" ∷ codes "ord" ∷ [])
-
-pub all_links_is : command_of (understood (schema Links) all_links_text) ≡ all_links_command
-unfolding understood everything
-all_links_is = refl
-
-pub all_links_plain : IsPlain (understood (schema Links) all_links_text)
-unfolding understood everything
-all_links_plain = (refl, refl)
-
-pub all_links_unlisted : reads_listing (schema Links) all_links_text ≡ false
-unfolding understood everything
-all_links_unlisted = refl
-
-pub all_links_rows : (old new : State) (xs : List Link) (rows : List Row) → old.now.schema ≡ schema Links → old.now.trees 24 ≡ map link_row xs → Shown all_links_text ([]) old new rows
-    → (ys : List Link) × IsPermutation (filter (λ _. true) xs) ys × IsSorted by_id ys × (rows ≡ map (link_cells) ys)
-all_links_rows old new xs rows has stored shown =
-    let read = reads_as all_links_text ([]) old new (schema Links) has all_links_command all_links_is all_links_plain all_links_unlisted rows shown in
-    answers 24 ([]) (col 1 0 ∷ col 1 2 ∷ col 1 3 ∷ []) ((col 1 0, ascending Binary) ∷ []) old.now.trees ([])
-    link_row xs (λ _. true) (link_cells) (λ (l : Link). Int (pos l.id) ∷ []) by_id
-    stored (λ _. refl) (λ _. refl) (λ _. refl) (λ a b. by_one_int (pos a.id) (pos b.id)) rows (read.answer Null)
