@@ -329,23 +329,22 @@ fn set<S: Alter>(
     Ok(())
 }
 
-/// Which unit has number 2 in this source, or 0.
+/// Which unit has number 2 in this source.
 #[tactic(auto, using(crate::proofs::Going::in_some, crate::proofs::Going::looked_on))]
 fn known_as_two<S: Alter>(
     alloc: Global,
     conn: &mut Connection<S>,
     source: &str,
-) -> Result<u64, StoreFault>
+) -> Result<Option<u64>, StoreFault>
     requires inside { InTransaction Links (state S.Store conn.old) }
     ensures inside { OnOk result (InTransaction Links (state S.Store conn.new)) }
 {
     let source = Text::new(alloc, source)?;
     let legacy = Text::new(alloc, "2")?;
-    let unit = known(alloc, conn, &source, &legacy)?;
-    Ok(unit.unwrap_or(0))
+    known(alloc, conn, &source, &legacy)
 }
 
-/// Which unit number 2 of source `a` and of source `b` is, and how much is catalogued.
+/// Which unit number 2 of source `a` is, whether source `b` has none, and how much is catalogued.
 #[tactic(auto, using(crate::proofs::Going::in_some))]
 fn looked_up<S: Alter>(
     alloc: Global,
@@ -355,11 +354,11 @@ fn looked_up<S: Alter>(
     requires inside { InTransaction Links (state S.Store conn.old) }
 {
     four_units(alloc, conn)?;
-    let here = known_as_two(alloc, conn, "a")?;
-    let there = known_as_two(alloc, conn, "b")?;
+    let here = known_as_two(alloc, conn, "a")?.unwrap_or(0);
+    let is_new = known_as_two(alloc, conn, "b")?.is_none();
     let office = office_row::<LinkPlaces, S>(alloc, conn)?;
     let (units, containers, next) = (office.units, office.containers, office.row.next_unit);
-    write!(text, "{here} {there} {units} {containers} {next}\n")?;
+    write!(text, "{here} {is_new} {units} {containers} {next}\n")?;
     Ok(())
 }
 
@@ -545,7 +544,7 @@ fn units_are_described_and_marked(rt: HostRuntime) -> Result<(), Fail> {
              \u{20}1 true false 0 2 false false 21915\n",
         ),
         (Act::Set, &[DRAFTS], "3 1\n 1 1\n 2 0\n 3 1\n 4 0\n"),
-        (Act::LookUp, &[], "2 0 4 2 5\n"),
+        (Act::LookUp, &[], "2 true 4 2 5\n"),
         (
             Act::MakeAgain,
             &[OFFICE, LINKS],
