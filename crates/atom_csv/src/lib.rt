@@ -18,6 +18,3 @@ mod values;
 
 pub use file::{File, FileFault, Row};
 pub use read::read_file;
-
-#[cfg(test)]
-mod tests;

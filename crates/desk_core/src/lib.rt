@@ -17,6 +17,3 @@ pub use refusal::Refusal;
 pub use run::{Candidate, pick_reshelve, pick_run};
 pub use seat::{may_leave, may_sit};
 pub use slip::slip_text;
-
-#[cfg(test)]
-mod tests;

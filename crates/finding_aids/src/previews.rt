@@ -58,6 +58,3 @@ fn preview_rows(
     printer.print_trees(&mut out, &mut ids, 0, trees.as_slice())?;
     Ok(out)
 }
-
-#[cfg(test)]
-mod tests;

@@ -8,7 +8,7 @@ ghost use Rattle.tree_core.specs.Versions.{Links};
 ghost use Rattle.office_tables.specs.Step.{InTransaction};
 
 use catalogue_store::{
-    LinkPlaces, NewUnit, OfficeRow, StoreFault, UnitValues, add_unit, begin, branch_marks, commit,
+    LinkPlaces, NewUnit, OfficeRow, StoreFault, add_unit, begin, branch_marks, commit,
     contents_marks, create, known, move_unit, office_row, path_marks, remove_branch,
     replace_values, set_closure, set_status, values,
 };
@@ -16,8 +16,9 @@ use desk_store::{create_desk, is_blank};
 use isad_core::{BoxKey, Day, List, Text, Values};
 use sqlite::{Alter, Connection, Row};
 use std::alloc::{AllocError, Global};
-use std::fs;
+use std::process::Abort;
 use std::test::Fail;
+use std::{array, fs};
 use tree_core::Mark;
 
 /// An office with two seats, on the first of March 2024.
@@ -50,18 +51,55 @@ fn open_office<S: Alter>(alloc: Global, conn: &mut Connection<S>) -> Result<(), 
     create::<LinkPlaces, S>(conn, &row)
 }
 
-/// A description with a level, a title, and what else is given.
-fn described(
+/// An office in a store that has nothing else.
+fn new_office<S: Alter>(alloc: Global, conn: &mut Connection<S>) -> Result<(), StoreFault>
+    ensures inside { OnOk result (InTransaction Links (state S.Store conn.new)) }
+{
+    if !is_blank(conn) {
+        return Err(StoreFault::Schema);
+    }
+    open_office(alloc, conn)
+}
+
+/// A description by its level and title, a creator and a container.
+type Described = (
+    &'static str,
+    &'static str,
+    Option<&'static str>,
+    Option<&'static str>,
+);
+
+const DOCKS: Described = ("Fonds", "Hull Dock Company", Some("Smith"), Some("Box 1"));
+
+const MINUTES: Described = ("Series", "Minutes", None, None);
+
+const PLANS: Described = ("Series", "Plans", None, Some("Box 2"));
+
+const MAPS: Described = ("Fonds", "Maps", None, Some("Box 1"));
+
+const LATER: Described = ("Collection", "Docks", None, Some("Box 2"));
+
+fn optional(alloc: Global, text: Option<&str>) -> Result<Option<Text>, AllocError> {
+    match text {
+        Some(text) => Ok(Some(Text::new(alloc, text)?)),
+        None => Ok(None),
+    }
+}
+
+/// The texts by their places: a title, and the creator.
+fn texts(
     alloc: Global,
-    level: &str,
     title: &str,
     creator: Option<&str>,
-    container: Option<&str>,
-) -> Result<Values, AllocError> {
-    let creator = match creator {
-        Some(creator) => Some(Text::new(alloc, creator)?),
-        None => None,
-    };
+) -> Result<[Option<Text>; 25], AllocError> {
+    let mut texts = array::from_fn(|_| None);
+    texts[1] = Some(Text::new(alloc, title)?);
+    texts[4] = optional(alloc, creator)?;
+    Ok(texts)
+}
+
+/// A container of the first strongroom, or none.
+fn boxes(alloc: Global, container: Option<&str>) -> Result<List<BoxKey>, AllocError> {
     let mut boxes = List::new(alloc);
     if let Some(name) = container {
         boxes.push(BoxKey {
@@ -70,36 +108,15 @@ fn described(
             kind: Text::new(alloc, "")?,
         })?;
     }
+    Ok(boxes)
+}
+
+fn described(alloc: Global, unit: Described) -> Result<Values, AllocError> {
+    let (level, title, creator, container) = unit;
     Ok(Values {
         level: Text::new(alloc, level)?,
-        texts: [
-            None,
-            Some(Text::new(alloc, title)?),
-            None,
-            None,
-            creator,
-            None,
-            None,
-            None,
-            None,
-            None,
-            None,
-            None,
-            None,
-            None,
-            None,
-            None,
-            None,
-            None,
-            None,
-            None,
-            None,
-            None,
-            None,
-            None,
-            None,
-        ],
-        boxes,
+        texts: texts(alloc, title, creator)?,
+        boxes: boxes(alloc, container)?,
     })
 }
 
@@ -110,20 +127,21 @@ fn add<S: Alter>(
     conn: &mut Connection<S>,
     id: u64,
     parent: Option<u64>,
-    values: &Values,
+    unit: Described,
 ) -> Result<(), StoreFault>
     requires inside { InTransaction Links (state S.Store conn.old) }
     requires small { id < 2 ^ 62 }
     requires low { IfSome parent (λ p. p < 2 ^ 63) }
     ensures inside { OnOk result (InTransaction Links (state S.Store conn.new)) }
 {
+    let values = described(alloc, unit)?;
     let source = Text::new(alloc, "a")?;
     let legacy = Text(format!(in alloc; "{id}")?);
     let unit = NewUnit {
         id,
         source: &source,
         legacy: &legacy,
-        values,
+        values: &values,
         draft: false,
     };
     add_unit::<LinkPlaces, S>(alloc, conn, parent, &unit)
@@ -134,81 +152,18 @@ fn two_units<S: Alter>(alloc: Global, conn: &mut Connection<S>) -> Result<(), St
     requires inside { InTransaction Links (state S.Store conn.old) }
     ensures inside { OnOk result (InTransaction Links (state S.Store conn.new)) }
 {
-    let fonds = described(
-        alloc,
-        "Fonds",
-        "Hull Dock Company",
-        Some("Smith"),
-        Some("Box 1"),
-    )?;
-    add(alloc, conn, 1, None, &fonds)?;
-    let series = described(alloc, "Series", "Minutes", None, None)?;
-    add(alloc, conn, 2, Some(1), &series)
+    add(alloc, conn, 1, None, DOCKS)?;
+    add(alloc, conn, 2, Some(1), MINUTES)
 }
 
-/// These with unit 3, in Box 2 and Box 1, below unit 1 too, and unit 4 at the top.
+/// These with unit 3, in Box 2, below unit 1 too, and unit 4, in Box 1, at the top.
 fn four_units<S: Alter>(alloc: Global, conn: &mut Connection<S>) -> Result<(), StoreFault>
     requires inside { InTransaction Links (state S.Store conn.old) }
     ensures inside { OnOk result (InTransaction Links (state S.Store conn.new)) }
 {
     two_units(alloc, conn)?;
-    let plans = described(alloc, "Series", "Plans", None, Some("Box 2"))?;
-    add(alloc, conn, 3, Some(1), &plans)?;
-    let maps = described(alloc, "Fonds", "Maps", None, Some("Box 1"))?;
-    add(alloc, conn, 4, None, &maps)
-}
-
-/// The rows of a query, a line for each, with `-` for NULL.
-fn rows<S: Alter>(
-    alloc: Global,
-    conn: &mut Connection<S>,
-    sql: &str,
-    width: usize,
-) -> Result<String, Fail> {
-    let mut text = String::new(alloc);
-    for row in &conn.query_all(sql, &[])? {
-        show_row(&mut text, row, width)?;
-    }
-    Ok(text)
-}
-
-fn show_row(text: &mut String, row: &Row, width: usize) -> Result<(), Fail> {
-    for place in 0..width {
-        let number: Option<i64> = row.get(place)?;
-        match number {
-            Some(number) => write!(text, " {number}")?,
-            None => text.push_str(" -")?,
-        }
-    }
-    text.push_str("\n")?;
-    Ok(())
-}
-
-const LINKS: &str = "SELECT id, parent, ord FROM link ORDER BY id";
-
-#[test]
-fn units_have_their_places(rt: HostRuntime) -> Result<(), Fail> {
-    let alloc = rt.alloc();
-    let mut conn = Connection::open_in_memory(alloc)?;
-    open_office(alloc, &mut conn)?;
-    four_units(alloc, &mut conn)?;
-    let links = rows(alloc, &mut conn, LINKS, 3)?;
-    assert_eq!(rt; links.as_str(), " 1 - 1\n 2 1 1\n 3 1 2\n 4 - 2\n");
-    let texts = rows(
-        alloc,
-        &mut conn,
-        "SELECT unit, k FROM element ORDER BY unit, k",
-        2,
-    )?;
-    assert_eq!(rt; texts.as_str(), " 1 2\n 1 6\n 2 2\n 3 2\n 4 2\n");
-    let housing = rows(
-        alloc,
-        &mut conn,
-        "SELECT unit, ord, container FROM housing ORDER BY unit, ord",
-        3,
-    )?;
-    assert_eq!(rt; housing.as_str(), " 1 1 1\n 3 1 2\n 4 1 1\n");
-    Ok(())
+    add(alloc, conn, 3, Some(1), PLANS)?;
+    add(alloc, conn, 4, None, MAPS)
 }
 
 /// Unit 2 goes elsewhere.
@@ -225,143 +180,81 @@ fn moved<S: Alter>(
     move_unit::<LinkPlaces, S>(alloc, conn, 2, parent)
 }
 
-#[test]
-fn a_unit_moves_to_the_top_and_back(rt: HostRuntime) -> Result<(), Fail> {
-    let alloc = rt.alloc();
-    let mut conn = Connection::open_in_memory(alloc)?;
-    open_office(alloc, &mut conn)?;
-    two_units(alloc, &mut conn)?;
-    moved(alloc, &mut conn, None)?;
-    let top = rows(alloc, &mut conn, LINKS, 3)?;
-    assert_eq!(rt; top.as_str(), " 1 - 1\n 2 - 2\n");
-    Ok(())
-}
-
-#[test]
-fn a_unit_moves_back(rt: HostRuntime) -> Result<(), Fail> {
-    let alloc = rt.alloc();
-    let mut conn = Connection::open_in_memory(alloc)?;
-    open_office(alloc, &mut conn)?;
-    two_units(alloc, &mut conn)?;
-    moved(alloc, &mut conn, None)?;
-    moved(alloc, &mut conn, Some(1))?;
-    let back = rows(alloc, &mut conn, LINKS, 3)?;
-    assert_eq!(rt; back.as_str(), " 1 - 1\n 2 1 1\n");
-    Ok(())
-}
-
-#[test]
-fn a_unit_moves_below_another(rt: HostRuntime) -> Result<(), Fail> {
-    let alloc = rt.alloc();
-    let mut conn = Connection::open_in_memory(alloc)?;
-    open_office(alloc, &mut conn)?;
-    four_units(alloc, &mut conn)?;
-    moved(alloc, &mut conn, Some(4))?;
-    let links = rows(alloc, &mut conn, LINKS, 3)?;
-    assert_eq!(rt; links.as_str(), " 1 - 1\n 2 4 1\n 3 1 1\n 4 - 2\n");
-    Ok(())
-}
-
-/// Unit 1 is removed with all below it.
-fn removed<S: Alter>(alloc: Global, conn: &mut Connection<S>) -> Result<u64, StoreFault>
-    requires inside { InTransaction Links (state S.Store conn.old) }
-{
-    four_units(alloc, conn)?;
-    remove_branch::<LinkPlaces, S>(alloc, conn, 1)
-}
-
-#[test]
-fn a_branch_is_removed(rt: HostRuntime) -> Result<(), Fail> {
-    let alloc = rt.alloc();
-    let mut conn = Connection::open_in_memory(alloc)?;
-    open_office(alloc, &mut conn)?;
-    assert_eq!(rt; removed(alloc, &mut conn)?, 3);
-    let left = rows(
-        alloc,
-        &mut conn,
-        "SELECT link.id, link.parent, link.ord, unit.draft, unit.until FROM link JOIN unit ON unit.id = link.id ORDER BY link.id",
-        5,
-    )?;
-    assert_eq!(rt; left.as_str(), " 4 - 1 0 -\n");
-    let texts = rows(alloc, &mut conn, "SELECT unit, k FROM element", 2)?;
-    assert_eq!(rt; texts.as_str(), " 4 2\n");
-    let housing = rows(alloc, &mut conn, "SELECT unit, container FROM housing", 2)?;
-    assert_eq!(rt; housing.as_str(), " 4 1\n");
-    let kept = rows(alloc, &mut conn, "SELECT id FROM container ORDER BY id", 1)?;
-    assert_eq!(rt; kept.as_str(), " 1\n 2\n");
-    Ok(())
-}
-
-/// What is said of the values of unit 1, before and after it takes others.
-#[tactic(auto, using(crate::proofs::Going::went_on, crate::proofs::Going::looked_on))]
-fn revised<S: Alter>(
-    alloc: Global,
-    conn: &mut Connection<S>,
-    later: &Values,
-) -> Result<(Option<UnitValues>, Option<UnitValues>), StoreFault>
+/// Unit 2 goes to the top and comes back.
+fn moved_back<S: Alter>(alloc: Global, conn: &mut Connection<S>) -> Result<(), StoreFault>
     requires inside { InTransaction Links (state S.Store conn.old) }
 {
     two_units(alloc, conn)?;
-    let before = values::<S>(alloc, conn, 1)?;
-    replace_values::<LinkPlaces, S>(alloc, conn, 1, later)?;
-    let after = values::<S>(alloc, conn, 1)?;
-    Ok((before, after))
+    moved(alloc, conn, None)?;
+    moved(alloc, conn, Some(1))
 }
 
-#[test]
-fn values_are_read_and_replaced(rt: HostRuntime) -> Result<(), Fail> {
-    let alloc = rt.alloc();
-    let mut conn = Connection::open_in_memory(alloc)?;
-    open_office(alloc, &mut conn)?;
-    let later = described(alloc, "Collection", "Docks", None, Some("Box 2"))?;
-    let (before, after) = revised(alloc, &mut conn, &later)?;
-    let mut first = List::new(alloc);
-    first.push(1)?;
-    let fonds = described(
-        alloc,
-        "Fonds",
-        "Hull Dock Company",
-        Some("Smith"),
-        Some("Box 1"),
-    )?;
-    assert_eq!(rt;
-        before,
-        Some(UnitValues {
-            values: fonds,
-            containers: first
-        })
-    );
-    let mut second = List::new(alloc);
-    second.push(2)?;
-    assert_eq!(rt;
-        after,
-        Some(UnitValues {
-            values: later,
-            containers: second
-        })
-    );
+/// Unit 2 goes to the top.
+fn moved_up<S: Alter>(alloc: Global, conn: &mut Connection<S>) -> Result<(), StoreFault>
+    requires inside { InTransaction Links (state S.Store conn.old) }
+{
+    two_units(alloc, conn)?;
+    moved(alloc, conn, None)
+}
+
+/// Unit 2 goes below unit 4.
+fn moved_below<S: Alter>(alloc: Global, conn: &mut Connection<S>) -> Result<(), StoreFault>
+    requires inside { InTransaction Links (state S.Store conn.old) }
+{
+    four_units(alloc, conn)?;
+    moved(alloc, conn, Some(4))
+}
+
+/// Unit 1 is removed with all below it: how many units that are.
+fn removed<S: Alter>(
+    alloc: Global,
+    conn: &mut Connection<S>,
+    text: &mut String,
+) -> Result<(), StoreFault>
+    requires inside { InTransaction Links (state S.Store conn.old) }
+{
+    four_units(alloc, conn)?;
+    let removed = remove_branch::<LinkPlaces, S>(alloc, conn, 1)?;
+    write!(text, "{removed}\n")?;
     Ok(())
 }
 
-/// Unit 2 is closed, and the marks of what Box 1 is attached to are read, then those of unit 2's path and of all
-/// units.
-#[tactic(auto, using(crate::proofs::Going::went_on, crate::proofs::Going::looked_on))]
-fn marked<S: Alter>(
+/// Whether unit 1 is described so, and lies in this container alone.
+#[tactic(auto, using(crate::proofs::Going::looked_on))]
+fn is_described<S: Alter>(
     alloc: Global,
     conn: &mut Connection<S>,
-    until: Day,
+    wanted: &Values,
+    container: u64,
+) -> Result<bool, StoreFault>
+    requires inside { InTransaction Links (state S.Store conn.old) }
+    ensures inside { OnOk result (InTransaction Links (state S.Store conn.new)) }
+{
+    let found = values::<S>(alloc, conn, 1)?;
+    Ok(match &found {
+        Some(unit) => unit.values == *wanted
+            && unit.containers.as_slice() == [container].as_slice(),
+        None => false,
+    })
+}
+
+/// Unit 1 takes other values: whether it has the first before and the others after.
+#[tactic(auto, using(crate::proofs::Going::went_on))]
+fn revised<S: Alter>(
+    alloc: Global,
+    conn: &mut Connection<S>,
     text: &mut String,
 ) -> Result<(), StoreFault>
     requires inside { InTransaction Links (state S.Store conn.old) }
 {
     two_units(alloc, conn)?;
-    set_closure::<LinkPlaces, S>(conn, 2, Some(until))?;
-    for attached in &contents_marks::<LinkPlaces, S>(alloc, conn, 1)? {
-        show_marks(text, &attached.path)?;
-        show_marks(text, &attached.branch)?;
-    }
-    show_marks(text, &path_marks::<LinkPlaces, S>(alloc, conn, 2)?)?;
-    show_marks(text, &branch_marks::<LinkPlaces, S>(alloc, conn, None)?)
+    let first = described(alloc, DOCKS)?;
+    let before = is_described(alloc, conn, &first, 1)?;
+    let later = described(alloc, LATER)?;
+    replace_values::<LinkPlaces, S>(alloc, conn, 1, &later)?;
+    let after = is_described(alloc, conn, &later, 2)?;
+    write!(text, "{before} {after}\n")?;
+    Ok(())
 }
 
 fn show_marks(text: &mut String, marks: &[Mark]) -> Result<(), StoreFault> {
@@ -374,112 +267,291 @@ fn show_marks(text: &mut String, marks: &[Mark]) -> Result<(), StoreFault> {
     Ok(())
 }
 
-#[test]
-fn a_container_has_what_lies_in_it(rt: HostRuntime) -> Result<(), Fail> {
-    let alloc = rt.alloc();
-    let mut conn = Connection::open_in_memory(alloc)?;
-    open_office(alloc, &mut conn)?;
-    let mut text = String::new(alloc);
-    if let Some(until) = Day::from_number(21915) {
-        marked(alloc, &mut conn, until, &mut text)?;
+/// The marks of what Box 1 is attached to.
+#[tactic(auto, using(crate::proofs::Going::looked_on))]
+fn show_contents<S: Alter>(
+    alloc: Global,
+    conn: &mut Connection<S>,
+    text: &mut String,
+) -> Result<(), StoreFault>
+    requires inside { InTransaction Links (state S.Store conn.old) }
+    ensures inside { OnOk result (InTransaction Links (state S.Store conn.new)) }
+{
+    for attached in &contents_marks::<LinkPlaces, S>(alloc, conn, 1)? {
+        show_marks(text, &attached.path)?;
+        show_marks(text, &attached.branch)?;
     }
-    let (fonds, series) = (" 1 true false 0", " 2 false false 21915");
-    let both = format!(in alloc; "{fonds}{series}\n")?;
-    let all = format!(in alloc; "{fonds}\n{both}{both}{both}")?;
-    assert_eq!(rt; text.as_str(), all.as_str());
     Ok(())
+}
+
+/// The marks of unit 2's path.
+#[tactic(auto, using(crate::proofs::Going::looked_on))]
+fn show_path<S: Alter>(
+    alloc: Global,
+    conn: &mut Connection<S>,
+    text: &mut String,
+) -> Result<(), StoreFault>
+    requires inside { InTransaction Links (state S.Store conn.old) }
+    ensures inside { OnOk result (InTransaction Links (state S.Store conn.new)) }
+{
+    show_marks(text, &path_marks::<LinkPlaces, S>(alloc, conn, 2)?)
+}
+
+/// Unit 2 is closed, and the marks of Box 1, of unit 2's path and of all units are read.
+#[tactic(auto, using(crate::proofs::Going::went_on))]
+fn marked<S: Alter>(
+    alloc: Global,
+    conn: &mut Connection<S>,
+    text: &mut String,
+) -> Result<(), StoreFault>
+    requires inside { InTransaction Links (state S.Store conn.old) }
+{
+    two_units(alloc, conn)?;
+    set_closure::<LinkPlaces, S>(conn, 2, Day::from_number(21915))?;
+    show_contents(alloc, conn, text)?;
+    show_path(alloc, conn, text)?;
+    show_marks(text, &branch_marks::<LinkPlaces, S>(alloc, conn, None)?)
 }
 
 /// Unit 1 and all below it are drafts, then unit 2 is published: how many were set each time.
 #[tactic(auto, using(crate::proofs::Going::went_on))]
-fn set<S: Alter>(alloc: Global, conn: &mut Connection<S>) -> Result<(u64, u64), StoreFault>
+fn set<S: Alter>(
+    alloc: Global,
+    conn: &mut Connection<S>,
+    text: &mut String,
+) -> Result<(), StoreFault>
     requires inside { InTransaction Links (state S.Store conn.old) }
 {
     four_units(alloc, conn)?;
     let branch = set_status::<LinkPlaces, S>(alloc, conn, 1, true, true)?;
     let one = set_status::<LinkPlaces, S>(alloc, conn, 2, false, false)?;
-    Ok((branch, one))
-}
-
-#[test]
-fn statuses_are_set(rt: HostRuntime) -> Result<(), Fail> {
-    let alloc = rt.alloc();
-    let mut conn = Connection::open_in_memory(alloc)?;
-    open_office(alloc, &mut conn)?;
-    assert_eq!(rt; set(alloc, &mut conn)?, (3, 1));
-    let drafts = rows(
-        alloc,
-        &mut conn,
-        "SELECT id, draft FROM unit ORDER BY id",
-        2,
-    )?;
-    assert_eq!(rt; drafts.as_str(), " 1 1\n 2 0\n 3 1\n 4 0\n");
+    write!(text, "{branch} {one}\n")?;
     Ok(())
 }
 
-/// How much is catalogued, and which unit number 2 of source `a` and of source `b` is.
+/// Which unit has number 2 in this source.
 #[tactic(auto, using(crate::proofs::Going::in_some, crate::proofs::Going::looked_on))]
+fn known_as_two<S: Alter>(
+    alloc: Global,
+    conn: &mut Connection<S>,
+    source: &str,
+) -> Result<Option<u64>, StoreFault>
+    requires inside { InTransaction Links (state S.Store conn.old) }
+    ensures inside { OnOk result (InTransaction Links (state S.Store conn.new)) }
+{
+    let source = Text::new(alloc, source)?;
+    let legacy = Text::new(alloc, "2")?;
+    known(alloc, conn, &source, &legacy)
+}
+
+/// Which unit number 2 of source `a` is, whether source `b` has none, and how much is catalogued.
+#[tactic(auto, using(crate::proofs::Going::in_some))]
 fn looked_up<S: Alter>(
     alloc: Global,
     conn: &mut Connection<S>,
-) -> Result<(u64, u64, u64, Option<u64>, Option<u64>), StoreFault>
+    text: &mut String,
+) -> Result<(), StoreFault>
     requires inside { InTransaction Links (state S.Store conn.old) }
 {
     four_units(alloc, conn)?;
-    let legacy = Text::new(alloc, "2")?;
-    let here = known(alloc, conn, &Text::new(alloc, "a")?, &legacy)?;
-    let there = known(alloc, conn, &Text::new(alloc, "b")?, &legacy)?;
+    let here = known_as_two(alloc, conn, "a")?.unwrap_or(0);
+    let is_new = known_as_two(alloc, conn, "b")?.is_none();
     let office = office_row::<LinkPlaces, S>(alloc, conn)?;
-    Ok((
-        office.units,
-        office.containers,
-        office.row.next_unit,
-        here,
-        there,
-    ))
-}
-
-#[test]
-fn the_office_knows_its_units(rt: HostRuntime) -> Result<(), Fail> {
-    let alloc = rt.alloc();
-    let mut conn = Connection::open_in_memory(alloc)?;
-    open_office(alloc, &mut conn)?;
-    assert_eq!(rt; looked_up(alloc, &mut conn)?, (4, 2, 5, Some(2), None));
+    let (units, containers, next) = (office.units, office.containers, office.row.next_unit);
+    write!(text, "{here} {is_new} {units} {containers} {next}\n")?;
     Ok(())
 }
 
-#[test]
-fn tables_are_made_once(rt: HostRuntime) -> Result<(), Fail> {
-    let alloc = rt.alloc();
-    let mut conn = Connection::open_in_memory(alloc)?;
-    open_office(alloc, &mut conn)?;
-    two_units(alloc, &mut conn)?;
-    let row = settings(alloc)?;
-    assert_eq!(rt; create_desk(&mut conn), Err(StoreFault::Schema));
-    assert_eq!(rt;
-        create::<LinkPlaces, _>(&mut conn, &row),
-        Err(StoreFault::Schema)
-    );
-    let office = rows(
-        alloc,
-        &mut conn,
-        "SELECT one, version, seats, daily, hands, run_size, day, next_unit FROM office",
-        8,
-    )?;
-    assert_eq!(rt; office.as_str(), " 1 1 2 3 1 2 19783 3\n");
-    let links = rows(alloc, &mut conn, LINKS, 3)?;
-    assert_eq!(rt; links.as_str(), " 1 - 1\n 2 1 1\n");
-    Ok(())
-}
-
-/// An office in a store that has nothing else.
-fn new_office<S: Alter>(alloc: Global, conn: &mut Connection<S>) -> Result<(), StoreFault>
-    ensures inside { OnOk result (InTransaction Links (state S.Store conn.new)) }
+/// Both kinds of tables are there and are made again: whether either call blames the schema.
+fn made_again<S: Alter>(
+    alloc: Global,
+    conn: &mut Connection<S>,
+    text: &mut String,
+) -> Result<(), StoreFault>
+    requires inside { InTransaction Links (state S.Store conn.old) }
 {
-    if !is_blank(conn) {
-        return Err(StoreFault::Schema);
+    two_units(alloc, conn)?;
+    let row = settings(alloc)?;
+    let desk = create_desk(conn) == Err(StoreFault::Schema);
+    let catalogue = create::<LinkPlaces, S>(conn, &row) == Err(StoreFault::Schema);
+    write!(text, "{desk} {catalogue}\n")?;
+    Ok(())
+}
+
+/// What is done in a new office.
+#[derive(Clone, Copy)]
+enum Act {
+    Add,
+    MoveUp,
+    MoveBack,
+    MoveBelow,
+    Remove,
+    Revise,
+    Mark,
+    Set,
+    LookUp,
+    MakeAgain,
+}
+
+/// Does it, and writes what the calls say.
+fn carry_out<S: Alter>(
+    alloc: Global,
+    conn: &mut Connection<S>,
+    done: Act,
+    text: &mut String,
+) -> Result<(), StoreFault>
+    requires inside { InTransaction Links (state S.Store conn.old) }
+{
+    match done {
+        Act::Add => four_units(alloc, conn),
+        Act::MoveUp => moved_up(alloc, conn),
+        Act::MoveBack => moved_back(alloc, conn),
+        Act::MoveBelow => moved_below(alloc, conn),
+        Act::Remove => removed(alloc, conn, text),
+        Act::Revise => revised(alloc, conn, text),
+        Act::Mark => marked(alloc, conn, text),
+        Act::Set => set(alloc, conn, text),
+        Act::LookUp => looked_up(alloc, conn, text),
+        Act::MakeAgain => made_again(alloc, conn, text),
     }
-    open_office(alloc, conn)
+}
+
+/// A query, and how many columns its rows have.
+type Query = (&'static str, usize);
+
+/// The rows of a query, a line for each, with `-` for NULL.
+fn show_rows<S: Alter>(
+    text: &mut String,
+    conn: &mut Connection<S>,
+    query: Query,
+) -> Result<(), Fail> {
+    let (sql, width) = query;
+    for row in &conn.query_all(sql, &[])? {
+        show_row(text, row, width)?;
+    }
+    Ok(())
+}
+
+fn show_row(text: &mut String, row: &Row, width: usize) -> Result<(), Fail> {
+    for place in 0..width {
+        let number: Option<i64> = row.get(place)?;
+        match number {
+            Some(number) => write!(text, " {number}")?,
+            None => text.push_str(" -")?,
+        }
+    }
+    text.push_str("\n")?;
+    Ok(())
+}
+
+/// What the calls say and then the rows of these queries.
+fn told<S: Alter>(
+    alloc: Global,
+    conn: &mut Connection<S>,
+    done: Act,
+    queries: &[Query],
+) -> Result<String, Fail> {
+    let mut text = String::new(alloc);
+    new_office(alloc, conn)?;
+    carry_out(alloc, conn, done, &mut text)?;
+    for query in queries {
+        show_rows(&mut text, conn, *query)?;
+    }
+    Ok(text)
+}
+
+fn told_in_memory(alloc: Global, done: Act, queries: &[Query]) -> Result<String, Fail> {
+    let mut conn = Connection::open_in_memory(alloc)?;
+    told(alloc, &mut conn, done, queries)
+}
+
+/// What is done, which queries are asked then, and what is told.
+type Case = (Act, &'static [Query], &'static str);
+
+fn see(rt: &impl Abort, alloc: Global, cases: &[Case]) -> Result<(), Fail> {
+    for &(done, queries, wanted) in cases {
+        let text = told_in_memory(alloc, done, queries)?;
+        assert_eq!(rt; text.as_str(), wanted);
+    }
+    Ok(())
+}
+
+const LINKS: Query = ("SELECT id, parent, ord FROM link ORDER BY id", 3);
+
+const ELEMENTS: Query = ("SELECT unit, k FROM element ORDER BY unit, k", 2);
+
+const HOUSING: Query = (
+    "SELECT unit, ord, container FROM housing ORDER BY unit, ord",
+    3,
+);
+
+#[test]
+fn units_have_their_places(rt: HostRuntime) -> Result<(), Fail> {
+    let cases: [Case; 4] = [
+        (
+            Act::Add,
+            &[LINKS, ELEMENTS, HOUSING],
+            " 1 - 1\n 2 1 1\n 3 1 2\n 4 - 2\n\
+             \u{20}1 2\n 1 6\n 2 2\n 3 2\n 4 2\n\
+             \u{20}1 1 1\n 3 1 2\n 4 1 1\n",
+        ),
+        (Act::MoveUp, &[LINKS], " 1 - 1\n 2 - 2\n"),
+        (Act::MoveBack, &[LINKS], " 1 - 1\n 2 1 1\n"),
+        (Act::MoveBelow, &[LINKS], " 1 - 1\n 2 4 1\n 3 1 1\n 4 - 2\n"),
+    ];
+    see(&rt, rt.alloc(), &cases)
+}
+
+const UNITS: Query = (
+    "SELECT link.id, link.parent, link.ord, unit.draft, unit.until FROM link JOIN unit ON unit.id = link.id ORDER BY link.id",
+    5,
+);
+
+const CONTAINERS: Query = ("SELECT id FROM container ORDER BY id", 1);
+
+#[test]
+fn a_branch_is_removed(rt: HostRuntime) -> Result<(), Fail> {
+    let case: Case = (
+        Act::Remove,
+        &[
+            UNITS,
+            ("SELECT unit, k FROM element", 2),
+            ("SELECT unit, container FROM housing", 2),
+            CONTAINERS,
+        ],
+        "3\n 4 - 1 0 -\n 4 2\n 4 1\n 1\n 2\n",
+    );
+    see(&rt, rt.alloc(), &[case])
+}
+
+const DRAFTS: Query = ("SELECT id, draft FROM unit ORDER BY id", 2);
+
+const OFFICE: Query = (
+    "SELECT one, version, seats, daily, hands, run_size, day, next_unit FROM office",
+    8,
+);
+
+#[test]
+fn units_are_described_and_marked(rt: HostRuntime) -> Result<(), Fail> {
+    let cases: [Case; 5] = [
+        (Act::Revise, &[], "true true\n"),
+        (
+            Act::Mark,
+            &[],
+            " 1 true false 0\n\
+             \u{20}1 true false 0 2 false false 21915\n\
+             \u{20}1 true false 0 2 false false 21915\n\
+             \u{20}1 true false 0 2 false false 21915\n",
+        ),
+        (Act::Set, &[DRAFTS], "3 1\n 1 1\n 2 0\n 3 1\n 4 0\n"),
+        (Act::LookUp, &[], "2 true 4 2 5\n"),
+        (
+            Act::MakeAgain,
+            &[OFFICE, LINKS],
+            "true true\n 1 1 2 3 1 2 19783 3\n 1 - 1\n 2 1 1\n",
+        ),
+    ];
+    see(&rt, rt.alloc(), &cases)
 }
 
 /// An office with four units, of which unit 3 moves below unit 2 and unit 4 goes.
@@ -496,23 +568,41 @@ const FILE: &str = "office-of-the-tests.db";
 /// What is written before it goes into the file stands here.
 const LOG: &str = "office-of-the-tests.db-wal";
 
+fn write_office(rt: &HostRuntime) -> Result<(), Fail> {
+    let mut conn = Connection::open(rt, FILE)?;
+    changed_office(rt.alloc(), &mut conn)?;
+    conn.close()?;
+    Ok(())
+}
+
+/// The rows of what was written, and whether a new office is refused there.
+fn reopened<S: Alter>(alloc: Global, conn: &mut Connection<S>) -> Result<String, Fail> {
+    let mut text = String::new(alloc);
+    show_rows(&mut text, conn, LINKS)?;
+    show_rows(&mut text, conn, HOUSING)?;
+    let refused = new_office(alloc, conn) == Err(StoreFault::Schema);
+    write!(text, "{refused}\n")?;
+    Ok(text)
+}
+
+fn read_office(rt: &HostRuntime) -> Result<String, Fail> {
+    let mut conn = Connection::open(rt, FILE)?;
+    let text = reopened(rt.alloc(), &mut conn)?;
+    conn.close()?;
+    Ok(text)
+}
+
 /// The file is closed and opened again before it is read; it is no new office then.
 #[test]
 fn an_office_stands_in_its_file(rt: HostRuntime) -> Result<(), Fail> {
-    let alloc = rt.alloc();
     let _ = fs::remove_file(&rt, FILE);
     let _ = fs::remove_file(&rt, LOG);
-    let mut conn = Connection::open(&rt, FILE)?;
-    changed_office(alloc, &mut conn)?;
-    conn.close()?;
-    let mut again = Connection::open(&rt, FILE)?;
-    let links = rows(alloc, &mut again, LINKS, 3)?;
-    assert_eq!(rt; links.as_str(), " 1 - 1\n 2 1 1\n 3 2 1\n");
-    let boxes = "SELECT unit, ord, container FROM housing ORDER BY unit, ord";
-    let housing = rows(alloc, &mut again, boxes, 3)?;
-    assert_eq!(rt; housing.as_str(), " 1 1 1\n 3 1 2\n");
-    assert_eq!(rt; new_office(alloc, &mut again), Err(StoreFault::Schema));
-    again.close()?;
+    write_office(&rt)?;
+    let text = read_office(&rt)?;
+    assert_eq!(rt;
+        text.as_str(),
+        " 1 - 1\n 2 1 1\n 3 2 1\n 1 1 1\n 3 1 2\ntrue\n"
+    );
     fs::remove_file(&rt, FILE)?;
     let _ = fs::remove_file(&rt, LOG);
     Ok(())

@@ -11,8 +11,6 @@ mod list;
 mod page;
 mod print;
 mod shown;
-#[cfg(test)]
-mod tests;
 mod text;
 mod values;
 

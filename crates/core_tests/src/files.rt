@@ -1,7 +1,6 @@
 //! Files whose answers are known from the rules of the format.
 
-use crate::{File, FileFault, Row, read_file};
-use isad_core::Text;
+use atom_csv::{File, FileFault, Row, read_file};
 use std::alloc::{AllocError, Global};
 use std::test::Fail;
 
@@ -234,34 +233,30 @@ fn with_rows(alloc: Global, rows: u32) -> Result<String, AllocError> {
     Ok(text)
 }
 
+/// The title may have 65,535 bytes. Neither a column that is not read nor a translation can be too long.
 #[test]
-fn limits_are_kept(rt: HostRuntime) -> Result<(), Fail> {
+fn texts_have_a_limit(rt: HostRuntime) -> Result<(), Fail> {
     let alloc = rt.alloc();
-    let title = "legacyId,title\n1,";
-    assert_eq!(rt;
-        fault(alloc, with_last(alloc, title, 65_535)?.as_bytes()),
-        None
-    );
-    assert_eq!(rt;
-        fault(alloc, with_last(alloc, title, 65_536)?.as_bytes()),
-        bad(2, 10)
-    );
-    // Neither a column that is not read nor a translation can be too long.
-    let unread = "legacyId,other\n1,";
-    assert_eq!(rt;
-        fault(alloc, with_last(alloc, unread, 65_536)?.as_bytes()),
-        None
-    );
-    let again = "legacyId,culture,title\n1,en,a\n1,fr,";
-    assert_eq!(rt;
-        fault(alloc, with_last(alloc, again, 65_536)?.as_bytes()),
-        None
-    );
-    let most = read_file(alloc, with_rows(alloc, 20_000)?.as_bytes());
-    assert_eq!(rt; most.ok().ok_or("refused")?.rows.len(), 20_000);
-    assert_eq!(rt;
-        fault(alloc, with_rows(alloc, 20_001)?.as_bytes()),
-        bad(20_002, 9)
-    );
+    let cases = [
+        ("legacyId,title\n1,", 65_535, None),
+        ("legacyId,title\n1,", 65_536, bad(2, 10)),
+        ("legacyId,other\n1,", 65_536, None),
+        ("legacyId,culture,title\n1,en,a\n1,fr,", 65_536, None),
+    ];
+    for (rows, length, wanted) in cases {
+        let text = with_last(alloc, rows, length)?;
+        assert_eq!(rt; fault(alloc, text.as_bytes()), wanted);
+    }
+    Ok(())
+}
+
+#[test]
+fn rows_have_a_limit(rt: HostRuntime) -> Result<(), Fail> {
+    let alloc = rt.alloc();
+    for (rows, wanted) in [(20_000, Ok(20_000)), (20_001, Err(bad(20_002, 9)))] {
+        let text = with_rows(alloc, rows)?;
+        let told = read_file(alloc, text.as_bytes());
+        assert_eq!(rt; told.map(|file| file.rows.len()).map_err(Some), wanted);
+    }
     Ok(())
 }

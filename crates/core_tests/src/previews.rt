@@ -1,7 +1,7 @@
 //! Files whose finding aids are known from the rules.
 
-use crate::preview;
 use atom_csv::FileFault;
+use finding_aids::preview;
 use std::alloc::{AllocError, Global};
 use std::test::Fail;
 
@@ -193,19 +193,36 @@ fn chain(alloc: Global, units: u32) -> Result<String, AllocError> {
     Ok(text)
 }
 
+// The finding aid of such a chain: each unit stands two places further in than the one above.
+fn ladder(alloc: Global, units: u32) -> Result<String, AllocError> {
+    let mut text = String::new(alloc);
+    let mut indent = String::new(alloc);
+    for _ in 0..units {
+        text.push_str(indent.as_str())?;
+        text.push_str("GB 0999 [-] -\n")?;
+        indent.push_str("  ")?;
+    }
+    Ok(text)
+}
+
+// What is told of such a chain.
+fn told_of_chain(alloc: Global, units: u32) -> Result<Vec<u8>, AllocError> {
+    let file = chain(alloc, units)?;
+    told(alloc, file.as_bytes())
+}
+
 #[test]
 fn units_lie_at_most_64_deep(rt: HostRuntime) -> Result<(), Fail> {
     let alloc = rt.alloc();
-    let mut expected = String::new(alloc);
-    let mut indent = String::new(alloc);
-    for _ in 0..64u32 {
-        expected.push_str(indent.as_str())?;
-        expected.push_str("GB 0999 [-] -\n")?;
-        indent.push_str("  ")?;
-    }
-    let deepest = told(alloc, chain(alloc, 64)?.as_bytes())?;
-    assert_eq!(rt; deepest.as_slice(), expected.as_bytes());
-    let too_deep = told(alloc, chain(alloc, 65)?.as_bytes())?;
-    assert_eq!(rt; too_deep.as_slice(), "row 66 cause 12".as_bytes());
+    let deepest = told_of_chain(alloc, 64)?;
+    let wanted = ladder(alloc, 64)?;
+    assert_eq!(rt; deepest.as_slice(), wanted.as_bytes());
+    Ok(())
+}
+
+#[test]
+fn no_unit_lies_deeper(rt: HostRuntime) -> Result<(), Fail> {
+    let too_deep = told_of_chain(rt.alloc(), 65)?;
+    assert_eq!(rt; too_deep.as_slice(), b"row 66 cause 12".as_slice());
     Ok(())
 }

@@ -1,0 +1,338 @@
+//! A forest of four units as rows of both kinds, and what is read from them and done to them.
+
+ghost use Rattle.std.specs.Prelude.{◌<◌, ◌^◌, vec_len};
+
+use std::alloc::AllocError;
+use std::test::Fail;
+use tree_core::{
+    Kept, Link, LinkFault, Mark, Span, SpanFault, check_links, check_spans, clean_contents,
+    clean_path, links, prune, spans, spans_of_links,
+};
+
+const fn link(id: u64, parent: Option<u64>, ord: u32) -> Link {
+    Link { id, parent, ord }
+}
+
+const fn span(id: u64, lft: u32, rgt: u32) -> Span {
+    Span { id, lft, rgt }
+}
+
+/// Units 2 and 3 below unit 1, and unit 4.
+fn worked_links() -> [Link; 4] {
+    [
+        link(1, None, 1),
+        link(2, Some(1), 1),
+        link(3, Some(1), 2),
+        link(4, None, 2),
+    ]
+}
+
+/// The same units.
+fn worked_spans() -> [Span; 4] {
+    [span(1, 1, 6), span(2, 2, 3), span(3, 4, 5), span(4, 7, 8)]
+}
+
+#[test]
+fn links_are_read(rt: HostRuntime) -> Result<(), Fail> {
+    let alloc = rt.alloc();
+    let rows = worked_links();
+    let numbered = spans_of_links(alloc, &rows)?;
+    assert_eq!(rt; numbered.as_slice(), worked_spans().as_slice());
+    let path = links::path(alloc, &rows, 3)?;
+    assert_eq!(rt; path.as_slice(), [1, 3].as_slice());
+    let branch = links::branch(alloc, &rows, 1)?;
+    assert_eq!(rt; branch.as_slice(), [1, 2, 3].as_slice());
+    Ok(())
+}
+
+#[test]
+fn spans_are_read(rt: HostRuntime) -> Result<(), Fail> {
+    let alloc = rt.alloc();
+    let rows = worked_spans();
+    let path = spans::path(alloc, &rows, 3)?;
+    assert_eq!(rt; path.as_slice(), [1, 3].as_slice());
+    let branch = spans::branch(alloc, &rows, 1)?;
+    assert_eq!(rt; branch.as_slice(), [1, 2, 3].as_slice());
+    Ok(())
+}
+
+#[test]
+fn units_lie_below_others(rt: HostRuntime) {
+    let (link_rows, span_rows) = (worked_links(), worked_spans());
+    for (unit, other, below) in [(3, 1, true), (3, 3, true), (1, 3, false)] {
+        assert_eq!(rt; links::is_below(&link_rows, unit, other), below);
+        assert_eq!(rt; spans::is_below(&span_rows, unit, other), below);
+    }
+}
+
+/// A change of the rows.
+#[derive(Clone, Copy)]
+enum Change {
+    /// A unit goes to a parent, or to the top.
+    Move(u64, Option<u64>),
+    /// A unit goes, with all below it.
+    Cut(u64),
+    /// A new unit stands below a parent, or at the top.
+    Add(Option<u64>, u64),
+}
+
+impl Change {
+    fn of_links(self, rows: &mut Vec<Link>) -> Result<(), AllocError>
+        requires { vec_len rows.old < 2 ^ 30 }
+    {
+        match self {
+            Change::Move(unit, parent) => links::move_last(rows, unit, parent),
+            Change::Cut(unit) => links::cut(rows, unit),
+            Change::Add(parent, id) => links::add_last(rows, parent, id),
+        }
+    }
+
+    fn of_spans(self, rows: &mut Vec<Span>) -> Result<(), AllocError>
+        requires { vec_len rows.old < 2 ^ 30 }
+    {
+        match self {
+            Change::Move(unit, parent) => spans::move_last(rows, unit, parent),
+            Change::Cut(unit) => spans::cut(rows, unit),
+            Change::Add(parent, id) => spans::add_last(rows, parent, id),
+        }
+    }
+}
+
+/// One change after the other.
+#[test]
+fn links_change(rt: HostRuntime) -> Result<(), Fail> {
+    let moved = [
+        link(1, None, 1),
+        link(2, Some(4), 1),
+        link(3, Some(1), 1),
+        link(4, None, 2),
+    ];
+    let added = [
+        link(1, None, 1),
+        link(2, Some(4), 1),
+        link(3, Some(1), 1),
+        link(4, None, 2),
+        link(5, Some(2), 1),
+    ];
+    let left = [link(2, Some(4), 1), link(4, None, 1), link(5, Some(2), 1)];
+    let steps = [
+        (Change::Move(2, Some(4)), &moved[..]),
+        (Change::Add(Some(2), 5), &added[..]),
+        (Change::Cut(1), &left[..]),
+    ];
+    let mut rows = Vec::from_slice(rt.alloc(), &worked_links())?;
+    for (change, wanted) in steps {
+        assert!(rt; rows.len() < 9);
+        change.of_links(&mut rows)?;
+        assert_eq!(rt; rows.as_slice(), wanted);
+    }
+    Ok(())
+}
+
+/// One change after the other.
+#[test]
+fn spans_change(rt: HostRuntime) -> Result<(), Fail> {
+    let added = [
+        span(1, 1, 8),
+        span(2, 2, 5),
+        span(5, 3, 4),
+        span(3, 6, 7),
+        span(4, 9, 10),
+    ];
+    let steps = [
+        (Change::Add(Some(2), 5), &added[..]),
+        (Change::Cut(1), &[span(4, 1, 2)][..]),
+        (Change::Cut(4), &[][..]),
+        (Change::Add(None, 1), &[span(1, 1, 2)][..]),
+    ];
+    let mut rows = Vec::from_slice(rt.alloc(), &worked_spans())?;
+    for (change, wanted) in steps {
+        assert!(rt; rows.len() < 9);
+        change.of_spans(&mut rows)?;
+        assert_eq!(rt; rows.as_slice(), wanted);
+    }
+    Ok(())
+}
+
+/// Each from the worked rows.
+#[test]
+fn spans_move(rt: HostRuntime) -> Result<(), Fail> {
+    let cases = [
+        (
+            (2, Some(1)),
+            [span(1, 1, 6), span(3, 2, 3), span(2, 4, 5), span(4, 7, 8)],
+        ),
+        (
+            (1, None),
+            [span(4, 1, 2), span(1, 3, 8), span(2, 4, 5), span(3, 6, 7)],
+        ),
+        (
+            (1, Some(4)),
+            [span(4, 1, 8), span(1, 2, 7), span(2, 3, 4), span(3, 5, 6)],
+        ),
+        (
+            (4, Some(2)),
+            [span(1, 1, 8), span(2, 2, 5), span(4, 3, 4), span(3, 6, 7)],
+        ),
+        (
+            (2, Some(4)),
+            [span(1, 1, 4), span(3, 2, 3), span(4, 5, 8), span(2, 6, 7)],
+        ),
+    ];
+    for ((unit, parent), wanted) in cases {
+        let mut rows = Vec::from_slice(rt.alloc(), &worked_spans())?;
+        spans::move_last(&mut rows, unit, parent)?;
+        assert_eq!(rt; rows.as_slice(), wanted.as_slice(), "move {unit}");
+    }
+    Ok(())
+}
+
+const CHANGES: [Change; 3] = [
+    Change::Move(2, Some(4)),
+    Change::Cut(1),
+    Change::Add(Some(2), 5),
+];
+
+/// Each change either happens or, where memory is refused, leaves the rows.
+#[test]
+fn links_change_or_stay(rt: HostRuntime) -> Result<(), Fail> {
+    for change in CHANGES {
+        let mut rows = Vec::from_slice(rt.alloc(), &worked_links())?;
+        if change.of_links(&mut rows).is_err() {
+            assert_eq!(rt; rows.as_slice(), worked_links().as_slice());
+        }
+    }
+    Ok(())
+}
+
+/// Each change either happens or, where memory is refused, leaves the rows.
+#[test]
+fn spans_change_or_stay(rt: HostRuntime) -> Result<(), Fail> {
+    for change in CHANGES {
+        let mut rows = Vec::from_slice(rt.alloc(), &worked_spans())?;
+        if change.of_spans(&mut rows).is_err() {
+            assert_eq!(rt; rows.as_slice(), worked_spans().as_slice());
+        }
+    }
+    Ok(())
+}
+
+/// The mark of an open published unit without containers.
+const fn mark(id: u64, lft: u32, rgt: u32) -> Mark {
+    Mark {
+        id,
+        lft,
+        rgt,
+        draft: false,
+        until: None,
+        boxed: false,
+        permit: false,
+    }
+}
+
+/// Unit 1 of the worked forest, in a container; unit 2, a draft in one; unit 3, closed until the day 19784; unit 4.
+fn marks() -> [Mark; 4] {
+    let unit = Mark {
+        boxed: true,
+        ..mark(1, 1, 6)
+    };
+    let draft = Mark {
+        boxed: true,
+        draft: true,
+        ..mark(2, 2, 3)
+    };
+    let closed = Mark {
+        until: Some(19784),
+        ..mark(3, 4, 5)
+    };
+    [unit, draft, closed, mark(4, 7, 8)]
+}
+
+const fn kept(id: u64, depth: u32, stub: bool) -> Kept {
+    Kept { id, depth, stub }
+}
+
+#[test]
+fn marks_are_pruned(rt: HostRuntime) -> Result<(), Fail> {
+    let wanted = [kept(1, 0, false), kept(3, 1, true), kept(4, 0, false)];
+    let told = prune(rt.alloc(), &marks(), 19783)?;
+    assert_eq!(rt; told.as_slice(), wanted.as_slice());
+    Ok(())
+}
+
+#[test]
+fn paths_are_judged(rt: HostRuntime) {
+    let [unit, draft, closed, _] = marks();
+    let permitted = Mark {
+        permit: true,
+        ..closed
+    };
+    let cases = [
+        (&[][..], 19783, true),
+        (&[unit, closed][..], 19783, false),
+        (&[unit, closed][..], 19784, true),
+        (&[unit, permitted][..], 19783, true),
+        (&[draft, permitted][..], 19783, false),
+    ];
+    for (path, today, clean) in cases {
+        assert_eq!(rt; clean_path(path, today), clean);
+    }
+}
+
+/// The draft has containers of its own; the closed unit lies in those of unit 1.
+#[test]
+fn contents_are_judged(rt: HostRuntime) {
+    let [unit, draft, closed, _] = marks();
+    let permitted = Mark {
+        permit: true,
+        ..closed
+    };
+    let cases = [
+        (&[][..], 19783, false, true),
+        (&[unit, draft, closed][..], 19783, false, false),
+        (&[unit, draft, closed][..], 19783, true, true),
+        (&[unit, draft, closed][..], 19784, false, true),
+        (&[unit, draft, permitted][..], 19783, false, true),
+    ];
+    for (contents, today, above, clean) in cases {
+        assert_eq!(rt; clean_contents(contents, today, above), clean);
+    }
+}
+
+#[test]
+fn spans_are_checked(rt: HostRuntime) {
+    let worked = worked_spans();
+    let crossing = [span(1, 1, 4), span(2, 2, 5), span(3, 3, 6)];
+    let cases = [
+        (&worked[..], Ok(())),
+        (&[][..], Ok(())),
+        (&crossing[..], Err(SpanFault::Cross)),
+        (&[span(1, 1, 2), span(2, 4, 5)][..], Err(SpanFault::Gap)),
+        (&[span(1, 1, 2), span(1, 4, 3)][..], Err(SpanFault::Twice)),
+        (&[span(1, 3, 4), span(2, 1, 2)][..], Err(SpanFault::Order)),
+    ];
+    for (rows, wanted) in cases {
+        assert!(rt; rows.len() < 9);
+        assert_eq!(rt; check_spans(rt.alloc(), rows), wanted);
+    }
+}
+
+#[test]
+fn links_are_checked(rt: HostRuntime) {
+    let worked = worked_links();
+    let cycle = [link(1, Some(2), 1), link(2, Some(1), 1)];
+    let same_place = [link(1, None, 1), link(2, None, 1)];
+    let same_id = [link(1, None, 1), link(1, None, 2)];
+    let cases = [
+        (&worked[..], Ok(())),
+        (&[][..], Ok(())),
+        (&cycle[..], Err(LinkFault::Cycle)),
+        (&[link(1, Some(9), 1)][..], Err(LinkFault::NoParent)),
+        (&same_place[..], Err(LinkFault::Twice)),
+        (&same_id[..], Err(LinkFault::Twice)),
+        (&[link(1, None, 2)][..], Err(LinkFault::Ord)),
+    ];
+    for (rows, wanted) in cases {
+        assert_eq!(rt; check_links(rt.alloc(), rows), wanted);
+    }
+}

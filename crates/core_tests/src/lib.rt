@@ -1,0 +1,15 @@
+//! The tests of the crates that have no tables: descriptions, forests, files, the desk and previews.
+#![tactic(auto)]
+
+#[cfg(test)]
+mod descriptions;
+#[cfg(test)]
+mod desk_days;
+#[cfg(test)]
+mod files;
+#[cfg(test)]
+mod forests;
+#[cfg(test)]
+mod previews;
+#[cfg(test)]
+mod worked_aids;
