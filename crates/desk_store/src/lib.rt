@@ -9,7 +9,7 @@ mod making;
 mod orders;
 mod queues;
 mod runs;
-mod seats;
+mod seating;
 
 pub use blank::is_blank;
 pub use cards::{LiveOrder, ReaderCard};
@@ -19,4 +19,4 @@ pub use making::create_desk;
 pub use orders::{OrderState, PlacedOrder, WaitingOrder};
 pub use queues::ContainerQueue;
 pub use runs::Brought;
-pub use seats::TakenSeat;
+pub use seating::{TakenSeat, seats, set_seat};
