@@ -1,4 +1,5 @@
 -- Containers of a unit that are told one after another.
+use Rattle.office_tables.specs.Schema as tables
 use Rattle.std.proofs.Common.{◌≡◌, ℕ, ◌+◌, List, [], ◌∷◌, ◌++◌, length, map, true, refl, sym, ap, ap₂, subst, ◌∙◌, arith}
 use Rattle.std.specs.Prelude.{unwrap_or}
 use Rattle.std.specs.List.{list_any, list_all}
@@ -31,7 +32,7 @@ one_housing old new unit ord container boxes xs at puts =
     let row = new_row old.trees unit ord container in
     let ys = put_by key row xs in
     let there : AreHoused new.trees boxes ys = record {
-      containers = puts.only.1.1.1.1.1.1.1.1.1.1.0 refl ∙ at.containers;
+      containers = puts.only tables.container.tree refl refl ∙ at.containers;
       apart = at.apart;
       rows = puts.rows ∙ ap (put_row (housing_row row)) at.rows ∙ put_rows housing_row key (λ _. refl) row xs;
       rise = put_rises housing_row key (λ _. refl) row xs at.rise;
@@ -49,7 +50,7 @@ housed old mid new unit ord n key boxes xs at numbered kept puts =
     let there : AreHoused mid.trees all xs = record {
       containers = numbered.1;
       apart = one_apart boxes key at.apart;
-      rows = kept.1.1.1.1.1.1.1.1.1.1.1.0 refl ∙ at.rows;
+      rows = kept tables.housing.tree refl refl ∙ at.rows;
       rise = at.rise;
     } in
     let it = one_housing mid new unit ord n all xs there puts in

@@ -1,7 +1,7 @@
 -- Why the INSERTs of the catalogue's rows fail.
-use Rattle.std.proofs.Common.{◌≡◌, ℕ, ℤ, pos, List, [], ◌∷◌, map, length, Bool, true, false, not, ◌&&◌, ◌||◌, nat_eq, Err, Option, Some, None, option_map, refl, sym, ap, ap₂, subst, ◌∙◌}
+use Rattle.std.proofs.Common.{◌≡◌, ℕ, ℤ, pos, List, [], ◌∷◌, map, length, true, false, not, ◌&&◌, nat_eq, Err, Option, Some, None, option_map, refl, ap, ap₂, ◌∙◌}
 use Rattle.std.proofs.Math.Nat.{le_refl}
-use Rattle.std.proofs.lemmas.Bool.{or_parts, or_from, or_right}
+use Rattle.std.proofs.lemmas.Bool.{or_right}
 use Rattle.std.specs.List.{list_any, list_all}
 use Rattle.std.specs.Ordering.{int_cmp}
 use Rattle.isad_core.specs.Texts.{Bytes}
@@ -16,42 +16,29 @@ use Rattle.sqlite.specs.Effect.{Database, RefusesSource, value_rows}
 use Rattle.sqlite.specs.Source.TheVariants.{Values}
 use Rattle.sqlite.specs.Listing.{understood}
 use Rattle.sqlite.specs.State.{State, IsLive, Executes}
-use Rattle.sqlite.specs.Tree.{Trees, rowid, IsTable}
+use Rattle.sqlite.specs.Tree.{Trees}
 use Rattle.sqlite.specs.Values.{or_null}
 use Rattle.sqlite.specs.Kind.TheVariants as kind
-use Rattle.sqlite_rules.specs.Lists.{Has}
-use Rattle.sqlite_rules.proofs.ListLemmas.{all_from}
-use Rattle.sqlite_rules.proofs.PlaceLemmas.{next_is_free}
 use Rattle.sqlite_schema.specs.Names.{same_name}
 use Rattle.sqlite_schema.specs.Rules.{is_of, agree, guards, has_null, has_parent, is_key_of}
 use Rattle.sqlite_tied.specs.Compute.{everything}
-use Rattle.sqlite_value.proofs.OrderLemmas.{value_cmp-Int}
 use Rattle.sqlite_value.specs.Keys.{joined, first_key, plain}
 use Rattle.tree_core.specs.declared.rows.Link.{Link}
 use Rattle.catalogue_rows.specs.Adding.{AreElements}
 use Rattle.office_tables.specs.Faults.{fault_of, IsUnlimited, HasCause}
 use Rattle.office_tables.specs.Order.{Rises}
-use Rattle.office_tables.specs.Flags.{flag}
 use Rattle.tree_core.specs.Versions.{version_number, Version, Links, Spans}
 use Rattle.catalogue_rows.specs.Rows.{office_cells, office_row, unit_row, ElementRow, element_row, container_row, HousingRow, housing_row, link_row}
 use Rattle.office_tables.specs.Schema.{schema, to_unit, office, unit, element, container, housing, link}
-use Rattle.catalogue_core.specs.Units.{Unit, has_id, is_from}
+use Rattle.catalogue_core.specs.Units.{Unit, has_id}
 use Rattle.catalogue_rows.specs.declared.office.OfficeRow.{OfficeRow}
 use Rattle.office_tables.proofs.Casts.{cast_int, cast_null, cast_maybe}
+use Rattle.office_tables.proofs.Fresh.{any_mapped, next_free, not_there}
 use Rattle.office_tables.proofs.Failures.{IsWhole}
 use Rattle.office_tables.proofs.InsertCauses.{IsWelcome, values_typed, insert_cause}
-use Rattle.catalogue_rows.proofs.Inserts.{insert_unit_text, insert_unit_terms, insert_unit_is, insert_unit_plain, insert_office_text, insert_office_terms, insert_office_is, insert_office_plain, insert_container_text, insert_container_terms, insert_container_is, insert_container_plain, insert_element_text, insert_element_terms, insert_element_is, insert_element_plain, insert_housing_text, insert_housing_terms, insert_housing_is, insert_housing_plain}
+use Rattle.catalogue_rows.proofs.Inserts.{insert_office_text, insert_office_terms, insert_office_is, insert_office_plain, insert_container_text, insert_container_terms, insert_container_is, insert_container_plain, insert_element_text, insert_element_terms, insert_element_is, insert_element_plain, insert_housing_text, insert_housing_terms, insert_housing_is, insert_housing_plain}
 use Rattle.catalogue_rows.proofs.LinkChanges.{insert_link_text, insert_link_terms, insert_link_is, insert_link_plain}
-use Rattle.office_tables.proofs.Rows.{map_has, table_rises}
-use Rattle.office_tables.proofs.Tests.{only, both, same_nat, same_number, same_bytes}
-
--- no row has a number that no record has
-not_there : {A : Type 0} (row : A → Row) (number : A → ℕ) (keyed : (x : A) → rowid (row x) ≡ Int (pos (number x))) (n : ℕ) (new : Row) → rowid new ≡ Int (pos n)
-    → (xs : List A) → list_any (λ x. nat_eq n (number x)) xs ≡ false → is_taken (map row xs) new ≡ false
-not_there row number keyed n new is [] none = refl
-not_there row number keyed n new is (x ∷ xs) none =
-    let parts = or_parts _ _ none in
-    or_from _ _ (rw (keyed x, is, value_cmp-Int (pos (number x)) (pos n)) (same_nat (number x) n ∙ parts.0)) (not_there row number keyed n new is xs parts.1)
+use Rattle.office_tables.proofs.Tests.{only, both, same_number, same_bytes}
 
 -- ---- links
 
@@ -87,19 +74,6 @@ insert_link_cause old new l xs has live free stored none =
     insert_cause Links 12 link refl insert_link_text params old new has insert_link_terms 4 insert_link_is insert_link_plain insert_link_whole live free
     (link_typed (pos l.id) (pos l.ord) (option_map pos l.parent) (record { schema = schema Links; trees = old.now.trees })) (link_row l) news (link_welcome l xs old.now.trees stored none)
 
--- ---- rows of records
-
-any_mapped : {A : Type 0} (row : A → Row) (test : Row → Bool) (is : A → Bool) → ((x : A) → test (row x) ≡ is x) → (xs : List A) → list_any test (map row xs) ≡ list_any is xs
-any_mapped row test is same [] = refl
-any_mapped row test is same (x ∷ xs) = ap₂ ◌||◌ (same x) (any_mapped row test is same xs)
-
--- the number after the last is free
-next_free : {A : Type 0} (row : A → Row) (key : A → ℤ) (keyed : (x : A) → rowid (row x) ≡ Int (key x)) (xs : List A) (rows : List Row) (rest : Row) → rows ≡ map row xs → Rises (λ a b. int_cmp (key a) (key b)) xs
-    → is_taken rows (Int (next_rowid rows) ∷ rest) ≡ false
-next_free row key keyed xs rows rest stored rise =
-    next_is_free Chosen rows rest (subst IsTable (sym stored) (table_rises row key keyed xs rise))
-    (all_from _ rows (λ r h. let x = map_has row xs r (subst (λ l. Has l r) stored h) in rw (x.2, keyed x.0) refl))
-
 -- ---- rows that go with a unit
 
 to_unit_fits : (v : Version) → list_all (is_key_of (schema v)) (to_unit 1 ∷ []) ≡ true
@@ -121,43 +95,6 @@ has_its_unit : (v : Version) (db : Trees) (row : Row) (n : ℕ) → column row 1
     → list_all (has_parent (schema v).tables db row) (to_unit 1 ∷ []) ≡ true
 has_its_unit v db row n is us stored known =
     held_by_unit v db row (ap (list_any (λ parent. agree plain (0 ∷ []) parent (1 ∷ []) row)) stored ∙ any_mapped unit_row _ (has_id n) (unit_agrees n row is) us ∙ known)
-
--- ---- units
-
-insert_unit_whole : (v : Version) → IsWhole (length insert_unit_text) 5 (understood (schema v) insert_unit_text)
-unfolding understood everything
-insert_unit_whole Links = (le_refl _, refl, refl)
-insert_unit_whole Spans = (le_refl _, refl, refl)
-
-same_origin : (a b : Unit) → agree plain (2 ∷ 3 ∷ []) (unit_row a) (2 ∷ 3 ∷ []) (unit_row b) ≡ is_from b.source b.legacy a
-unfolding first_key
-same_origin a b = both (same_bytes a.source b.source) (same_bytes a.legacy b.legacy)
-
-unit_alone : (v : Version) (db : Trees) (row : Row) → list_any (λ r. agree plain (2 ∷ 3 ∷ []) r (2 ∷ 3 ∷ []) row) (db 14) ≡ false
-    → list_all (λ i. not (guards i unit && list_any (λ r. agree i.order i.columns r i.columns row) (db 14))) (schema v).indexes ≡ true
-unit_alone Links db row h = rw h refl
-unit_alone Spans db row h = rw h refl
-
-unit_welcome : (u : Unit) (xs : List Unit) (v : Version) (db : Trees) → u.until ≡ None → db 14 ≡ map unit_row xs → list_any (has_id u.id) xs ≡ false → list_any (is_from u.source u.legacy) xs ≡ false → IsWelcome (schema v) db unit (unit_row u)
-unit_welcome u xs v db none_until stored none other = record {
-  keyed = refl;
-  free = ap (λ rows. is_taken rows (unit_row u)) stored ∙ not_there unit_row (λ x. x.id) (λ _. refl) u.id (unit_row u) refl xs none;
-  typed = rw none_until refl;
-  present = refl;
-  checked = refl;
-  alone = unit_alone v db (unit_row u) (ap (list_any (λ r. agree plain (2 ∷ 3 ∷ []) r (2 ∷ 3 ∷ []) (unit_row u))) stored ∙ any_mapped unit_row _ (is_from u.source u.legacy) (λ a. same_origin a u) xs ∙ other);
-  referred = refl;
-  parents = refl;
-}
-
-pub insert_unit_cause : (old new : State) (u : Unit) (xs : List Unit) (v : Version) → old.now.schema ≡ schema v → IsLive old → IsUnlimited old → u.until ≡ None → old.now.trees 14 ≡ map unit_row xs
-    → list_any (has_id u.id) xs ≡ false → list_any (is_from u.source u.legacy) xs ≡ false
-    → (e : Error) → Executes insert_unit_text (Int (pos u.id) ∷ Text u.source ∷ Text u.legacy ∷ Text u.values.level ∷ Int (flag u.draft) ∷ []) old new (Err e) → HasCause old new (fault_of e)
-insert_unit_cause old new u xs v has live free none_until stored none other =
-    let params = Int (pos u.id) ∷ Text u.source ∷ Text u.legacy ∷ Text u.values.level ∷ Int (flag u.draft) ∷ [] in
-    let news : (edit_of old.now.trees unit [] Chosen 0 (value_rows params 7 1 insert_unit_terms)).news ≡ unit_row u ∷ [] = rw (none_until, cast_int (pos u.id), cast_null, cast_int (flag u.draft)) refl in
-    insert_cause v 8 unit refl insert_unit_text params old new has insert_unit_terms 7 (insert_unit_is v) (insert_unit_plain v) (insert_unit_whole v) live free
-    (λ e r. values_typed r (λ t. let clash : true ≡ false = t in cc)) (unit_row u) news (unit_welcome u xs v old.now.trees none_until stored none other)
 
 -- ---- containers
 

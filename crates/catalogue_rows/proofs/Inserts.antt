@@ -15,62 +15,14 @@ use Rattle.sqlite.specs.State.{State, Shows, Writes, Executes, mode_of}
 use Rattle.sqlite.proofs.Callers.{IsPlain, command_of, statement_of, runs_as}
 use Rattle.sqlite_tied.specs.Compute.{everything}
 use Rattle.tree_core.specs.Versions.{Version, Links, Spans, version_number}
-use Rattle.office_tables.specs.Schema.{schema, office, unit, element, container, housing}
-use Rattle.catalogue_core.specs.Units.{Unit}
-use Rattle.office_tables.specs.Flags.{flag}
-use Rattle.catalogue_rows.specs.Rows.{office_row, office_cells, unit_row, element_row, container_row, housing_row}
+use Rattle.office_tables.specs.Schema.{schema, office, element, container, housing}
+use Rattle.catalogue_rows.specs.Rows.{office_row, office_cells, element_row, container_row, housing_row}
 use Rattle.office_tables.specs.Step.{OnlyTouches}
 use Rattle.catalogue_rows.specs.declared.office.OfficeRow.{OfficeRow}
 use Rattle.office_tables.proofs.Casts.{cast_int, cast_null}
 use Rattle.office_tables.proofs.Steps.{inserted, Inserted}
 use Rattle.office_tables.proofs.Touching.{touched}
 use Rattle.office_tables.proofs.Puts.{not_taken}
-
-abbrev pub insert_unit_text : List ℕ
-insert_unit_text = codes "INSERT INTO unit (id, source, legacy, level, draft, until) VALUES (?1, ?2, ?3, ?4, ?5, NULL)"
-
-abbrev pub insert_unit_terms : List Term
-insert_unit_terms = col 0 0 ∷ lit Null ∷ col 0 1 ∷ col 0 2 ∷ col 0 3 ∷ col 0 4 ∷ lit Null ∷ []
-
-abbrev pub insert_unit_command : Command
-insert_unit_command = Insert 8 (Values insert_unit_terms 7)
-
-pub insert_unit_is : (v : Version) → command_of (understood (schema v) insert_unit_text) ≡ insert_unit_command
-unfolding understood everything
-insert_unit_is Links = refl
-insert_unit_is Spans = refl
-
-pub insert_unit_plain : (v : Version) → IsPlain (understood (schema v) insert_unit_text)
-unfolding understood everything
-insert_unit_plain Links = (refl, refl)
-insert_unit_plain Spans = (refl, refl)
-
-put_insert_unit : (u : Unit) (db : Trees) → edited db (edit_of db unit [] Chosen 0 ((Int (pos u.id) ∷ Null ∷ Text u.source ∷ Text u.legacy ∷ Text u.values.level ∷ Int (flag u.draft) ∷ Null ∷ []) ∷ [])) ≡ put_row (unit_row (record u { until = None })) (db 14)
-put_insert_unit u db = rw (cast_int (pos u.id), cast_null, cast_int (flag u.draft)) refl
-
-new_insert_unit : (u : Unit) (db : Trees) → are_fresh (left_by db (edit_of db unit [] Chosen 0 ((Int (pos u.id) ∷ Null ∷ Text u.source ∷ Text u.legacy ∷ Text u.values.level ∷ Int (flag u.draft) ∷ Null ∷ []) ∷ []))) (edit_of db unit [] Chosen 0 ((Int (pos u.id) ∷ Null ∷ Text u.source ∷ Text u.legacy ∷ Text u.values.level ∷ Int (flag u.draft) ∷ Null ∷ []) ∷ [])).news ≡ (not (is_taken (db 14) (unit_row (record u { until = None }))) && true)
-new_insert_unit u db = rw (cast_int (pos u.id)) refl
-
-module _ (old new : State) (u : Unit) (count : ℕ) (v : Version) (has : old.now.schema ≡ schema v) (h : Executes insert_unit_text (Int (pos u.id) ∷ Text u.source ∷ Text u.legacy ∷ Text u.values.level ∷ Int (flag u.draft) ∷ []) old new (Ok count)) where
-  insert_unit_w : Writes old new None insert_unit_command (statement_of insert_unit_text (understood (schema v) insert_unit_text)) (Int (pos u.id) ∷ Text u.source ∷ Text u.legacy ∷ Text u.values.level ∷ Int (flag u.draft) ∷ []) count
-  insert_unit_w = runs_as insert_unit_text (Int (pos u.id) ∷ Text u.source ∷ Text u.legacy ∷ Text u.values.level ∷ Int (flag u.draft) ∷ []) old new (schema v) has insert_unit_command (insert_unit_is v) (insert_unit_plain v) count h
-
-  insert_unit_it : Inserted (schema v) 8 unit refl (mode_of old) (Int (pos u.id) ∷ Text u.source ∷ Text u.legacy ∷ Text u.values.level ∷ Int (flag u.draft) ∷ []) (Values insert_unit_terms 7) old.now new.now
-  insert_unit_it = inserted (schema v) 8 unit refl old.step_limit (mode_of old) (Int (pos u.id) ∷ Text u.source ∷ Text u.legacy ∷ Text u.values.level ∷ Int (flag u.draft) ∷ []) (statement_of insert_unit_text (understood (schema v) insert_unit_text)) (Values insert_unit_terms 7) old.now new.now insert_unit_w.tally has insert_unit_w.changed
-
-  pub insert_unit_done : (new.now.schema ≡ schema v) × Shows old new new.now (if old.in_transaction then old.committed else new.now) old.in_transaction
-  insert_unit_done = (insert_unit_it.schema_is, insert_unit_w.shown)
-
-  pub insert_unit_touches : OnlyTouches (14 ∷ []) old.now new.now
-  insert_unit_touches = touched v old.now new.now 14 insert_unit_it.applies.tables
-
-  pub insert_unit_rows : new.now.trees 14 ≡ put_row (unit_row (record u { until = None })) (old.now.trees 14)
-  insert_unit_rows = insert_unit_it.applies.rows ∙ ap (λ rows. edited old.now.trees (edit_of old.now.trees unit [] Chosen 0 rows)) insert_unit_it.source.1 ∙ put_insert_unit u old.now.trees
-
-  pub insert_unit_fresh : is_taken (old.now.trees 14) (unit_row (record u { until = None })) ≡ false
-  insert_unit_fresh =
-      not_taken (is_taken (old.now.trees 14) (unit_row (record u { until = None }))) (sym (new_insert_unit u old.now.trees)
-      ∙ subst (λ rows. are_fresh (left_by old.now.trees (edit_of old.now.trees unit [] Chosen 0 rows)) (edit_of old.now.trees unit [] Chosen 0 rows).news ≡ true) insert_unit_it.source.1 insert_unit_it.applies.fresh)
 
 abbrev pub insert_office_text : List ℕ
 insert_office_text = codes "INSERT INTO office (one, version, country, repo, seats, daily, hands, run_size, day, next_unit) VALUES (1, ?1, ?2, ?3, ?4, ?5, ?6, ?7, ?8, ?9)"

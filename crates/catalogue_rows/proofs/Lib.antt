@@ -4,6 +4,8 @@ pub mod Offices
 pub mod Statuses
 pub mod Parts
 pub mod Finding
+pub mod UnitWrites
+pub mod UnitQueries
 pub mod Inserts
 pub mod Selects
 pub mod Changes
@@ -34,4 +36,3 @@ pub mod UnitFaults
 pub mod LinkReadCauses
 pub mod Untold
 pub mod BoxCauses
-pub mod UnitCauses

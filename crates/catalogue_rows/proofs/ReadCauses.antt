@@ -1,7 +1,6 @@
 -- Why the queries fail: their texts are whole, their values type, and none sums.
 use Rattle.std.proofs.Common.{◌≡◌, ℕ, pos, [], ◌∷◌, length, true, false, refl}
 use Rattle.std.proofs.Math.Nat.{le_refl}
-use Rattle.isad_core.specs.Texts.{Bytes}
 use Rattle.isad_core.specs.declared.values.BoxKey.{BoxKey}
 use Rattle.sqlite.specs.declared.types.Value.TheVariants.{Int, Text}
 use Rattle.sqlite.specs.declared.error.Error.{Error}
@@ -13,20 +12,7 @@ use Rattle.tree_core.specs.Versions.{Version, Links, Spans}
 use Rattle.office_tables.specs.Schema.{schema}
 use Rattle.office_tables.proofs.Causes.{read_cause, none_refuse, sums_nothing, counts_always}
 use Rattle.office_tables.proofs.Failures.{IsWhole}
-use Rattle.catalogue_rows.proofs.Selects.{known_text, known_is, known_plain, known_unlisted, elements_text, elements_is, elements_plain, elements_unlisted, housings_text, housings_is, housings_plain, housings_unlisted, housed_text, housed_is, housed_plain, housed_unlisted, find_container_text, find_container_is, find_container_plain, find_container_unlisted, container_number_text, container_number_is, container_number_plain, container_number_unlisted, office_is_text, office_is_is, office_is_plain, office_is_unlisted, count_units_text, count_units_is, count_units_plain, count_units_unlisted, count_containers_text, count_containers_is, count_containers_plain, count_containers_unlisted, all_links_text, all_links_is, all_links_plain, all_links_unlisted}
-
-known_whole : (v : Version) → IsWhole (length known_text) 2 (understood (schema v) known_text)
-unfolding understood everything
-known_whole Links = (le_refl _, refl, refl)
-known_whole Spans = (le_refl _, refl, refl)
-
-pub known_cause : (old new : State) (source legacy : Bytes) (v : Version) → old.now.schema ≡ schema v → IsUnlimited old → (e : Error) → FailsToQuery known_text (Text source ∷ Text legacy ∷ []) old new e → HasCause old new (fault_of e)
-known_cause old new source legacy Links has free e h =
-    read_cause known_text (Text source ∷ Text legacy ∷ []) old new (schema Links) has _ _ (known_is Links) (known_plain Links) (known_whole Links) (known_unlisted Links)
-    (λ db e r. none_refuse r (λ t. let clash : true ≡ false = t in cc) (sums_nothing _)) free e h
-known_cause old new source legacy Spans has free e h =
-    read_cause known_text (Text source ∷ Text legacy ∷ []) old new (schema Spans) has _ _ (known_is Spans) (known_plain Spans) (known_whole Spans) (known_unlisted Spans)
-    (λ db e r. none_refuse r (λ t. let clash : true ≡ false = t in cc) (sums_nothing _)) free e h
+use Rattle.catalogue_rows.proofs.Selects.{elements_text, elements_is, elements_plain, elements_unlisted, housings_text, housings_is, housings_plain, housings_unlisted, housed_text, housed_is, housed_plain, housed_unlisted, find_container_text, find_container_is, find_container_plain, find_container_unlisted, container_number_text, container_number_is, container_number_plain, container_number_unlisted, office_is_text, office_is_is, office_is_plain, office_is_unlisted, count_units_text, count_units_is, count_units_plain, count_units_unlisted, count_containers_text, count_containers_is, count_containers_plain, count_containers_unlisted, all_links_text, all_links_is, all_links_plain, all_links_unlisted}
 
 elements_whole : (v : Version) → IsWhole (length elements_text) 1 (understood (schema v) elements_text)
 unfolding understood everything

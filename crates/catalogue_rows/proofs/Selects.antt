@@ -2,7 +2,6 @@
 use Rattle.std.proofs.Common.{◌≡◌, ℕ, pos, List, [], ◌∷◌, map, filter, length, codes, true, false, ◌&&◌, option_map, refl, ap, ap₂, ◌∙◌, nat_eq}
 use Rattle.std.specs.declared.cmp.Ordering.TheVariants.{Equal}
 use Rattle.std.specs.List.Sorted.{IsPermutation, IsSorted}
-use Rattle.isad_core.specs.Texts.{Bytes}
 use Rattle.isad_core.specs.declared.values.BoxKey.{BoxKey}
 use Rattle.tree_core.specs.declared.rows.Link.{Link}
 use Rattle.sqlite.specs.declared.types.Value.TheVariants.{Null, Int, Text}
@@ -22,9 +21,9 @@ use Rattle.sqlite.proofs.Callers.{IsPlain, command_of, reads_as}
 use Rattle.sqlite_tied.specs.Compute.{everything}
 use Rattle.tree_core.specs.Versions.{Version, Links, Spans}
 use Rattle.office_tables.specs.Schema.{schema, unit, container}
-use Rattle.catalogue_core.specs.Units.{Unit, is_from}
+use Rattle.catalogue_core.specs.Units.{Unit}
 use Rattle.atom_csv.specs.Values.{is_same as is_same_box}
-use Rattle.catalogue_rows.specs.Rows.{office_row, settings_cells, unit_row, by_number, ElementRow, element_row, container_row, HousingRow, housing_row, link_row, by_id, by_element, by_housing, by_container}
+use Rattle.catalogue_rows.specs.Rows.{office_row, settings_cells, unit_row, ElementRow, element_row, container_row, HousingRow, housing_row, link_row, by_id, by_element, by_housing, by_container}
 use Rattle.catalogue_rows.specs.declared.office.OfficeRow.{OfficeRow}
 use Rattle.office_tables.proofs.Tests.{only, both, same_number, same_bytes, by_one_int, by_two_ints}
 use Rattle.office_tables.specs.Counting.{capped}
@@ -37,37 +36,6 @@ office_of o = office_row o.0 o.1
 
 abbrev pub link_cells : Link → Row
 link_cells l = Int (pos l.id) ∷ or_null Int (option_map pos l.parent) ∷ Int (pos l.ord) ∷ []
-
--- ---- units
-
-abbrev pub known_text : List ℕ
-known_text = codes "SELECT id FROM unit WHERE source = ?1 AND legacy = ?2 ORDER BY id"
-
-abbrev pub known_command : Command
-known_command = Select (record { lets = []; body = plain_query (inner 14 end) (op2 (Compare Eq Binary) (col 1 2) (col 0 0) ∷ op2 (Compare Eq Binary) (col 1 3) (col 0 1) ∷ []) (col 1 0 ∷ []) ((col 1 0, ascending Binary) ∷ []) }) (codes "id" ∷ [])
-
-pub known_is : (v : Version) → command_of (understood (schema v) known_text) ≡ known_command
-unfolding understood everything
-known_is Links = refl
-known_is Spans = refl
-
-pub known_plain : (v : Version) → IsPlain (understood (schema v) known_text)
-unfolding understood everything
-known_plain Links = (refl, refl)
-known_plain Spans = (refl, refl)
-
-pub known_unlisted : (v : Version) → reads_listing (schema v) known_text ≡ false
-unfolding understood everything
-known_unlisted Links = refl
-known_unlisted Spans = refl
-
-pub known_rows : (old new : State) (source legacy : Bytes) (xs : List Unit) (rows : List Row) (v : Version) → old.now.schema ≡ schema v → old.now.trees 14 ≡ map unit_row xs → Shown known_text (Text source ∷ Text legacy ∷ []) old new rows
-    → (ys : List Unit) × IsPermutation (filter (is_from source legacy) xs) ys × IsSorted by_number ys × (rows ≡ map (λ u. Int (pos u.id) ∷ []) ys)
-known_rows old new source legacy xs rows v has stored shown =
-    let read = reads_as known_text (Text source ∷ Text legacy ∷ []) old new (schema v) has known_command (known_is v) (known_plain v) (known_unlisted v) rows shown in
-    answers 14 (op2 (Compare Eq Binary) (col 1 2) (col 0 0) ∷ op2 (Compare Eq Binary) (col 1 3) (col 0 1) ∷ []) (col 1 0 ∷ []) ((col 1 0, ascending Binary) ∷ []) old.now.trees (Text source ∷ Text legacy ∷ [])
-    unit_row xs (is_from source legacy) (λ u. Int (pos u.id) ∷ []) (λ (u : Unit). Int (pos u.id) ∷ []) by_number
-    stored (λ u. both (same_bytes u.source source) (same_bytes u.legacy legacy)) (λ _. refl) (λ _. refl) (λ a b. by_one_int (pos a.id) (pos b.id)) rows (read.answer Null)
 
 -- ---- elements
 

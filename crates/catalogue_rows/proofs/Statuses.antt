@@ -1,4 +1,5 @@
 -- What the tables show after units are changed in their places.
+use Rattle.office_tables.specs.Schema as tables
 use Rattle.std.proofs.Common.{◌≡◌, ℕ, ◌<◌, ◌^◌, pos, List, [], ◌∷◌, ◌++◌, map, Bool, true, false, if◌then◌else◌, cond, ◌||◌, nat_eq, refl, sym, ap, ap₂, subst, ◌∙◌}
 use Rattle.std.specs.Ordering.{int_cmp}
 use Rattle.std.specs.declared.cmp.Ordering.TheVariants.{Less}
@@ -57,7 +58,7 @@ module _ (g : Unit → Unit) (same_id : (u : Unit) → (g u).id ≡ u.id) where
         record {
           catalogue = record {
             schema_is = schema_is ∙ at.schema_is;
-            office = kept.1.1.1.1.1.1.1.0 refl ∙ at.office;
+            office = kept tables.office.tree refl refl ∙ at.office;
             next = at.next;
             units = record {
               units = map g at.units.units;
@@ -67,17 +68,17 @@ module _ (g : Unit → Unit) (same_id : (u : Unit) → (g u).id ≡ u.id) where
             };
             elements = record {
               elements = at.elements.elements;
-              rows = kept.1.1.1.1.1.1.1.1.1.0 refl ∙ at.elements.rows;
+              rows = kept tables.element.tree refl refl ∙ at.elements.rows;
               rise = at.elements.rise;
               are = subst (AllByRecursion (λ (u : Unit). IsPermutation (element_cells u.values) (elements_of u.id at.elements.elements))) (sym (nodes_each g f))
                   (all_map g (λ (u : Unit). IsPermutation (element_cells u.values) (elements_of u.id at.elements.elements)) (λ (u : Unit). IsPermutation (element_cells u.values) (elements_of u.id at.elements.elements))
                   (λ u h. rw (same_id u, same_values u) h) (nodes f) at.elements.are);
               others = all_weaker (λ (e : ElementRow). has (has_id e.unit) f ≡ true) (λ (e : ElementRow). has (has_id e.unit) (each g f) ≡ true) (λ e h. still_there f e.unit ∙ h) at.elements.elements at.elements.others;
             };
-            containers = kept.1.1.1.1.1.1.1.1.1.1.0 refl ∙ at.containers;
+            containers = kept tables.container.tree refl refl ∙ at.containers;
             housings = record {
               housings = at.housings.housings;
-              rows = kept.1.1.1.1.1.1.1.1.1.1.1.0 refl ∙ at.housings.rows;
+              rows = kept tables.housing.tree refl refl ∙ at.housings.rows;
               rise = at.housings.rise;
               are = subst (AllByRecursion (λ (u : Unit). IsPermutation (housing_cells c.containers u.values) (housings_of u.id at.housings.housings))) (sym (nodes_each g f))
                   (all_map g (λ (u : Unit). IsPermutation (housing_cells c.containers u.values) (housings_of u.id at.housings.housings)) (λ (u : Unit). IsPermutation (housing_cells c.containers u.values) (housings_of u.id at.housings.housings))
@@ -85,7 +86,7 @@ module _ (g : Unit → Unit) (same_id : (u : Unit) → (g u).id ≡ u.id) where
               others = all_weaker (λ (h : HousingRow). has (has_id h.unit) f ≡ true) (λ (h : HousingRow). has (has_id h.unit) (each g f) ≡ true) (λ e h. still_there f e.unit ∙ h) at.housings.housings at.housings.others;
             };
           };
-          shown = same old.trees new.trees (each (λ (u : Unit). u.id) (each g f)) (kept.1.1.1.1.1.1.1.1.1.1.1.1.0 refl)
+          shown = same old.trees new.trees (each (λ (u : Unit). u.id) (each g f)) (kept tables.link.tree refl refl)
               (subst (shows old.trees) (sym (each_each g (λ (u : Unit). u.id) (λ (u : Unit). u.id) same_id f)) it.shown);
         }
 

@@ -1,4 +1,5 @@
 -- DELETE of a unit, with its elements, its housings and the permits for it.
+use Rattle.office_tables.specs.Schema as tables
 use Rattle.std.proofs.Common.{◌≡◌, inl, inr, ℕ, ℤ, pos, List, [], ◌∷◌, map, filter, find, codes, Bool, true, false, ◌&&◌, ◌||◌, not, cond, Some, None, unwrap_or, Ok, if◌then◌else◌, nat_eq, refl, sym, ap, ap₂, subst, ◌∙◌}
 use Rattle.std.proofs.lemmas.Bool.{eq-eqb, eqb-true, cases_Bool}
 use Rattle.std.specs.List.{AllByRecursion, list_any}
@@ -47,7 +48,7 @@ use Rattle.office_tables.proofs.Steps.{DeletedWith, deleted_with, is_referred_to
 use Rattle.office_tables.proofs.Tests.{only, same_number, same_nat}
 use Rattle.office_tables.proofs.Updates.{deletes_rows}
 use Rattle.catalogue_rows.proofs.Without.{without_one}
-use Rattle.office_tables.proofs.Touching.{touched, touched_then}
+use Rattle.office_tables.proofs.Touching.{touched, touched_then, touched_wider}
 
 pub permit_alone : (v : Version) → is_referred_to (schema v) 10 ≡ false
 unfolding joined same_name
@@ -182,24 +183,25 @@ module _ (old new : Database) (id : ℕ) (units : List Unit) (u : Unit) (v : Ver
   -- the unit is gone, with all that tells of it
   pub remove_unit_removes : AreRemoved (id ∷ []) old new
   remove_unit_removes = record {
-    units = λ xs from rise. to_new.1.1.1.1.1.1.1.1.0 refl ∙ to_second.1.1.1.1.1.1.1.1.0 refl ∙ to_first.1.1.1.1.1.1.1.1.0 refl ∙ units_left xs from rise;
+    units = λ xs from rise. to_new tables.unit.tree refl refl ∙ to_second tables.unit.tree refl refl ∙ to_first tables.unit.tree refl refl ∙ units_left xs from rise;
     elements = λ xs from rise.
-        let at = to_first.1.1.1.1.1.1.1.1.1.0 refl ∙ to_next.1.1.1.1.1.1.1.1.1.0 refl ∙ from in
-        to_new.1.1.1.1.1.1.1.1.1.0 refl
+        let at = to_first tables.element.tree refl refl ∙ to_next tables.element.tree refl refl ∙ from in
+        to_new tables.element.tree refl refl
         ∙ cascade_rows (schema v) Enforced (work_on element 1 u) element_row (λ e. e.row) (λ _. refl) first second xs at rise (λ e. nat_eq u.id e.unit) (λ e. child_is element 1 u e.unit (element_row e) refl) cascade.3
         ∙ ap (map element_row) (same_test_as (λ (e : ElementRow). e.unit) xs);
     housings = λ xs from rise.
-        let at = to_next.1.1.1.1.1.1.1.1.1.1.1.0 refl ∙ from in
-        to_new.1.1.1.1.1.1.1.1.1.1.1.0 refl ∙ to_second.1.1.1.1.1.1.1.1.1.1.1.0 refl
+        let at = to_next tables.housing.tree refl refl ∙ from in
+        to_new tables.housing.tree refl refl ∙ to_second tables.housing.tree refl refl
         ∙ cascade_rows (schema v) Enforced (work_on housing 1 u) housing_row (λ h. h.row) (λ _. refl) it.next first xs at rise (λ h. nat_eq u.id h.unit) (λ h. child_is housing 1 u h.unit (housing_row h) refl) cascade.2
         ∙ ap (map housing_row) (same_test_as (λ (h : HousingRow). h.unit) xs);
     permits = λ xs from rise.
-        let at = to_second.1.1.1.1.1.1.0 refl ∙ to_first.1.1.1.1.1.1.0 refl ∙ to_next.1.1.1.1.1.1.0 refl ∙ from in
+        let at = to_second tables.permit.tree refl refl ∙ to_first tables.permit.tree refl refl ∙ to_next tables.permit.tree refl refl ∙ from in
         cascade_rows (schema v) Enforced (work_on permit 2 u) permit_row (λ p. p.row) (λ _. refl) second new.trees xs at rise (λ p. nat_eq u.id p.unit) (λ p. child_is permit 2 u p.unit (permit_row p) refl) cascade.4
         ∙ ap (map permit_row) (same_test_as (λ (p : PermitRow). p.unit) xs);
-    only = touched_then (14 ∷ 20 ∷ []) (16 ∷ 10 ∷ []) old (record old { trees = first }) new
+    only = touched_wider (14 ∷ 20 ∷ 16 ∷ 10 ∷ []) (10 ∷ 14 ∷ 16 ∷ 20 ∷ []) old new refl
+        (touched_then (14 ∷ 20 ∷ []) (16 ∷ 10 ∷ []) old (record old { trees = first }) new
         (touched_then (14 ∷ []) (20 ∷ []) old (record old { trees = it.next }) (record old { trees = first }) to_next to_first)
-        (touched_then (16 ∷ []) (10 ∷ []) (record old { trees = first }) (record old { trees = second }) new to_second to_new);
+        (touched_then (16 ∷ []) (10 ∷ []) (record old { trees = first }) (record old { trees = second }) new to_second to_new));
   }
 
 -- ---- the one unit of a number

@@ -44,13 +44,13 @@ use Rattle.office_tables.proofs.Causes.{none_refuse, sums_nothing}
 use Rattle.catalogue_rows.proofs.Changes.{element_alone, housing_alone}
 use Rattle.office_tables.proofs.DeleteCauses.{IsLeaf, delete_cause}
 use Rattle.catalogue_rows.proofs.DeleteFaults.{element_fits, housing_fits}
-use Rattle.office_tables.proofs.Failures.{IsWhole}
+use Rattle.office_tables.specs.Meaning.{Means}
 use Rattle.catalogue_rows.proofs.FoundUnits.{none_left, empty}
 use Rattle.catalogue_rows.proofs.Moves.{id_of}
 use Rattle.catalogue_rows.proofs.Removals.{all_kept, still_listed}
 use Rattle.office_tables.proofs.Steps.{DeletedWith, is_referred_to, wrote}
 use Rattle.office_tables.proofs.Tests.{only, same_number}
-use Rattle.catalogue_rows.proofs.UnitDeletes.{keep, permit_alone, remove_unit_text, remove_unit_program, remove_unit_is, remove_unit_plain, remove_unit_removes, shown_units, strict, the_one}
+use Rattle.catalogue_rows.proofs.UnitDeletes.{keep, permit_alone, remove_unit_text, remove_unit_program, remove_unit_command, remove_unit_removes, shown_units, strict, the_one}
 
 -- ---- the tables after some units are gone
 
@@ -153,10 +153,10 @@ parents_left v old new gone told keeps removed =
 
 -- ---- the statement
 
-remove_unit_whole : (v : Version) → IsWhole (length remove_unit_text) 1 (understood (schema v) remove_unit_text)
+pub remove_unit_means : (v : Version) → Means v remove_unit_text 1 remove_unit_command
 unfolding understood everything
-remove_unit_whole Links = (le_refl _, refl, refl)
-remove_unit_whole Spans = (le_refl _, refl, refl)
+remove_unit_means Links = record { is = refl; plain = (refl, refl); whole = (le_refl _, refl, refl); unlisted = refl }
+remove_unit_means Spans = record { is = refl; plain = (refl, refl); whole = (le_refl _, refl, refl); unlisted = refl }
 
 unit_fits : (v : Version) → references_fit (schema v) unit false true ≡ true
 unfolding joined same_name
@@ -215,7 +215,7 @@ module _ (v : Version) (db : Trees) (id : ℕ) (told : IsTold db) (rows : List R
 
 pub remove_unit_cause : (old new : State) (id : ℕ) (v : Version) → old.now.schema ≡ schema v → IsTold old.now.trees → IsLive old → IsUnlimited old → (e : Error) → Executes remove_unit_text (Int (pos id) ∷ []) old new (Err e) → HasCause old new (fault_of e)
 remove_unit_cause old new id v has told =
-    delete_cause remove_unit_text (Int (pos id) ∷ []) old new (schema v) has 8 remove_unit_program (remove_unit_is v) (remove_unit_plain v) (remove_unit_whole v) unit refl
+    delete_cause remove_unit_text (Int (pos id) ∷ []) old new (schema v) has 8 remove_unit_program (remove_unit_means v).is (remove_unit_means v).plain (remove_unit_means v).whole unit refl
     (accepted v) (unit_fits v) (unit_leaves v) (λ rows answer obeys after writes. parents v old.now.trees id told rows answer obeys after writes)
   where
     accepted : (v : Version) (db : Trees) (e : Error) → RefusesQuery None (record { schema = schema v; trees = db }) remove_unit_program (Int (pos id) ∷ []) e → ⊥

@@ -1,4 +1,5 @@
 -- What a new office shows.
+use Rattle.office_tables.specs.Schema as tables
 use Rattle.std.proofs.Common.{◌≡◌, ℕ, [], refl, ap, ◌∙◌}
 use Rattle.std.proofs.lemmas.List.Sorted.{IsPermutation-refl}
 use Rattle.sqlite.specs.Effect.{Database}
@@ -24,16 +25,16 @@ shows_beginning v shows same start mid new o made schema_is puts placed =
         schema_is = schema_is ∙ made.schema_is;
         office = puts.rows ∙ ap (put_row (office_row v o)) none.0;
         next = refl;
-        units = record { units = []; rows = kept.1.1.1.1.1.1.1.1.0 refl ∙ none.1.0; rise = tt; are = IsPermutation-refl [] };
-        elements = record { elements = []; rows = kept.1.1.1.1.1.1.1.1.1.0 refl ∙ none.1.1.0; rise = tt; are = tt; others = tt };
-        containers = kept.1.1.1.1.1.1.1.1.1.1.0 refl ∙ none.1.1.1.0;
-        housings = record { housings = []; rows = kept.1.1.1.1.1.1.1.1.1.1.1.0 refl ∙ none.1.1.1.1.0; rise = tt; are = tt; others = tt };
+        units = record { units = []; rows = kept tables.unit.tree refl refl ∙ none.1.0; rise = tt; are = IsPermutation-refl [] };
+        elements = record { elements = []; rows = kept tables.element.tree refl refl ∙ none.1.1.0; rise = tt; are = tt; others = tt };
+        containers = kept tables.container.tree refl refl ∙ none.1.1.1.0;
+        housings = record { housings = []; rows = kept tables.housing.tree refl refl ∙ none.1.1.1.1.0; rise = tt; are = tt; others = tt };
       };
-      shown = same mid.trees new.trees Empty (kept.1.1.1.1.1.1.1.1.1.1.1.1.0 refl) placed;
+      shown = same mid.trees new.trees Empty (kept tables.link.tree refl refl) placed;
     }
 
 pub desk_kept : (v : Version) (start mid new : Database) (o : OfficeRow) → HasMade desk_tables (schema v) start mid → PutsRow 13 (office_row v o) mid new → KeepsRows desk_tables start.trees new.trees
 desk_kept v start mid new o made puts =
     let kept = made.kept in
     let only = puts.only in
-    (only.0 refl ∙ kept.0, (only.1.0 refl ∙ kept.1.0, (only.1.1.0 refl ∙ kept.1.1.0, (only.1.1.1.0 refl ∙ kept.1.1.1.0, (only.1.1.1.1.0 refl ∙ kept.1.1.1.1.0, (only.1.1.1.1.1.0 refl ∙ kept.1.1.1.1.1.0, (only.1.1.1.1.1.1.0 refl ∙ kept.1.1.1.1.1.1.0, tt)))))))
+    (only.0 refl ∙ kept.0, (only.1.0 refl ∙ kept.1.0, (only.1.1.0 refl ∙ kept.1.1.0, (only.1.1.1.0 refl ∙ kept.1.1.1.0, (only.1.1.1.1.0 refl ∙ kept.1.1.1.1.0, (only.1.1.1.1.1.0 refl ∙ kept.1.1.1.1.1.0, (only tables.permit.tree refl refl ∙ kept.1.1.1.1.1.1.0, tt)))))))

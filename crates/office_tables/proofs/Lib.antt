@@ -33,3 +33,4 @@ pub mod InsertOf
 pub mod UpdateOf
 pub mod DeleteOf
 pub mod SelectOf
+pub mod Fresh

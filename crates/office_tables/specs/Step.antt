@@ -1,8 +1,9 @@
 -- What a call leaves of the transaction that its caller began.
-use Rattle.std.specs.Prelude.{◌≡◌, ◌⊎◌, ℕ, true, false, IsTrue, nat_eq, List, [], ◌∷◌}
-use Rattle.std.specs.List.{AllByRecursion, list_any}
+use Rattle.std.specs.Prelude.{◌≡◌, ◌⊎◌, ℕ, true, false, IsTrue, nat_eq, List, [], ◌∷◌, map}
+use Rattle.std.specs.List.{list_any}
 use Rattle.sqlite.specs.Effect.{Database}
 use Rattle.sqlite.specs.Order.{Row}
+use Rattle.sqlite.specs.Table.{Table}
 use Rattle.sqlite.specs.Tree.{put_row}
 use Rattle.sqlite.specs.Edit.{is_taken}
 use Rattle.sqlite.specs.State.{State, HasCleanDisk, Survives}
@@ -52,12 +53,16 @@ table_trees = 0 ∷ 1 ∷ 3 ∷ 6 ∷ 7 ∷ 8 ∷ 10 ∷ 13 ∷ 14 ∷ 16 ∷ 18
 
 -- only the tables with these trees may have other rows
 abbrev pub OnlyTouches : List ℕ → Database → Database → Type 0
-OnlyTouches touched old new = AllByRecursion (λ tree. list_any (nat_eq tree) touched ≡ false → new.trees tree ≡ old.trees tree) table_trees
+OnlyTouches touched old new = (tree : ℕ) → list_any (nat_eq tree) table_trees ≡ true → list_any (nat_eq tree) touched ≡ false → new.trees tree ≡ old.trees tree
 
 -- what a call leaves that reads
 pub record Looks (old new : State) : Type 0 where
   pub goes : Goes old new
   pub same : HasCleanDisk new → new.now ≡ old.now
+
+-- the table has these records as its rows
+abbrev pub Holds : {A : Type 0} → Table → (A → Row) → State → List A → Type 0
+Holds table row s xs = s.now.trees table.tree ≡ map row xs
 
 -- the table with this tree has one row more, whose number was free, and no other table is touched
 pub record PutsRow (tree : ℕ) (row : Row) (old new : Database) : Type 0 where

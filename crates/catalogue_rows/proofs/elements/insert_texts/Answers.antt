@@ -1,3 +1,4 @@
+use Rattle.office_tables.specs.Schema as tables
 use Rattle.std.proofs.Common.{rules, arith, refl, false, nat_eq, ◌&&◌, Option, length, get_or, ◌≡◌, ◌<◌, ◌+◌, ◌∙◌, List, [], ◌∷◌, ◌++◌, ap, sym, subst, option_copied}
 use Rattle.std.specs.List.{list_any}
 use Rattle.sqlite.specs.Held.{state}
@@ -55,7 +56,7 @@ returns-in_err-insert_text-clause-faults g c clean free known xs at none long =
     let so_far = invariant.1.1.0 in
     let before = early b d _ c.in_err-insert_text.ensures.cut.crash clean in
     let told = invariant.1.1.1.1 before xs at in
-    let here = unit_still a.now.trees b.now.trees unit ((invariant.1.1.1.0 before).1.1.1.1.1.1.1.1.0 refl) known in
+    let here = unit_still a.now.trees b.now.trees unit ((invariant.1.1.1.0 before) tables.unit.tree refl refl) known in
     let low : i < length texts = subst (λ (l : List (Option Bytes)). i < length l) c.as_slice-text-items.ensures c.loop-text-test.true in
     let next = text_free unit i texts xs told.0 (omega (arith, low)) told.2 none in
     let none_yet = subst (λ k. list_any (λ (e : ElementRow). nat_eq unit e.unit && nat_eq (element_number k) e.k) told.0 ≡ false) (sym invariant.0) next in

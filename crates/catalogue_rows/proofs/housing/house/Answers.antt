@@ -1,3 +1,4 @@
+use Rattle.office_tables.specs.Schema as tables
 use Rattle.std.proofs.Common.{◌≡◌, List, [], ◌∷◌, false, nat_eq, ◌&&◌, refl, sym, subst, ◌∙◌}
 use Rattle.std.specs.List.{list_any}
 use Rattle.sqlite.specs.Held.{state}
@@ -39,6 +40,6 @@ returns-clause-faults g c clean free known boxes xs at small place_free number_f
     last_cause a b d went.on c.insert_housing.result c.insert_housing.ensures.cut clean (λ before.
     let is = c.in_ok-number.ensures.numbers before boxes at.containers at.apart in
     let kept = c.in_ok-number.ensures.only before in
-    let here = unit_still a.now.trees b.now.trees unit (kept.1.1.1.1.1.1.1.1.0 refl) known in
+    let here = unit_still a.now.trees b.now.trees unit (kept tables.unit.tree refl refl) known in
     let none = subst (λ n. list_any (λ (h : HousingRow). nat_eq unit h.unit && nat_eq n h.container) xs ≡ false) (sym is.0) number_free in
-    c.insert_housing.ensures.faults clean (still_unlimited a b went.on free) here.units here.rows here.there xs (kept.1.1.1.1.1.1.1.1.1.1.1.0 refl ∙ at.rows) at.rise place_free none)
+    c.insert_housing.ensures.faults clean (still_unlimited a b went.on free) here.units here.rows here.there xs (kept tables.housing.tree refl refl ∙ at.rows) at.rise place_free none)

@@ -1,3 +1,4 @@
+use Rattle.office_tables.specs.Schema as tables
 use Rattle.std.proofs.Common.{rules, refl, false, nat_eq, ◌&&◌, ◌^◌, ◌≡◌, ◌<◌, ◌+◌, ◌∙◌, List, [], ◌∷◌, ◌++◌, length, get_or, take, ap, sym, subst, arith}
 use Rattle.std.proofs.lemmas.List.{take_more, length-take-le}
 use Rattle.std.specs.List.{list_any}
@@ -66,7 +67,7 @@ returns-in_err-house-clause-faults g c clean free known boxes xs at small once n
     let so_far = invariant.1.1.0 in
     let before = early b d _ c.in_err-house.ensures.cut.crash clean in
     let housed = invariant.1.1.1.1 before boxes xs at in
-    let here = unit_still a.now.trees b.now.trees unit ((invariant.1.1.1.0 before).1.1.1.1.1.1.1.1.0 refl) known in
+    let here = unit_still a.now.trees b.now.trees unit ((invariant.1.1.1.0 before) tables.unit.tree refl refl) known in
     let low : i < length told = subst (λ (l : List BoxKey). i < length l) c.as_slice-key-items.ensures c.loop-key-test.true in
     let is : key ≡ get_or told i key = c.key-item.is ∙ ap (λ (l : List BoxKey). get_or l i key) c.as_slice-key-items.ensures in
     let now = with_boxes boxes seen in

@@ -1,49 +1,24 @@
-use Rattle.std.proofs.Common.{rules, refl}
+use Rattle.std.proofs.Common.{refl}
 use Rattle.sqlite.specs.Held.{state}
-use Rattle.sqlite.specs.State.{HasCleanDisk}
-use Rattle.office_tables.specs.Step.{IsCut}
+use Rattle.office_tables.proofs.Calls.{early}
+use Rattle.office_tables.proofs.RowWrites.{ours}
 use Rattle.catalogue_rows.specs.Added.{unit_of}
-use Rattle.office_tables.proofs.Calls.{early, in_office, write_cut, write_went}
-use Rattle.catalogue_rows.proofs.Inserts.{insert_unit_text, insert_unit_command, insert_unit_is, insert_unit_plain, insert_unit_done, insert_unit_rows, insert_unit_touches, insert_unit_fresh}
-use Rattle.office_tables.proofs.WriteCauses.{write_disk}
-use Rattle.catalogue_rows.proofs.InsertFaults.{insert_unit_cause}
+use Rattle.catalogue_rows.proofs.UnitWrites.{insert_unit_text, insert_unit_command, insert_unit_means, insert_unit_puts, insert_unit_faults}
 use Rattle.catalogue_rows.proofs.units.insert_unit.Goals as goal
 
-pub returns-in_err-execute-clause-cut : goal.returns-in_err-execute-clause-cut
-returns-in_err-execute-clause-cut g c =
-    let old = state g.S.Store c.args.conn.now in
-    let new = state g.S.Store c.execute.new.self in
-    let cut : IsCut old new = write_cut insert_unit_text _ old new insert_unit_command refl (in_office insert_unit_text insert_unit_command old (c.requires.inside) insert_unit_is insert_unit_plain) c.in_err-execute.field-0.0 c.in_err-execute.ensures.runs c.execute.ensures.survives in
-    search (rules, cut)
-
-pub returns-clause-goes : goal.returns-clause-goes
-returns-clause-goes g c =
-    let old = state g.S.Store c.args.conn.now in
-    let new = state g.S.Store c.execute.new.self in
-    let ran = λ (clean : HasCleanDisk new). rw (c.number.ensures, c.words.ensures, c.words-2.ensures, c.words-3.ensures, c.truth.ensures) at (c.in_ok-execute.ensures.runs clean) in
-    let at = λ (clean : HasCleanDisk new). c.requires.inside (early old new _ c.execute.ensures.survives clean) in
-    write_went insert_unit_text _ old new insert_unit_command refl (in_office insert_unit_text insert_unit_command old (c.requires.inside) insert_unit_is insert_unit_plain) (λ clean. ((at clean).0, (at clean).1, (insert_unit_done old new (unit_of c.args.unit.now) c.in_ok-execute.field-0 (at clean).0 (at clean).1 (ran clean)).0, (insert_unit_done old new (unit_of c.args.unit.now) c.in_ok-execute.field-0 (at clean).0 (at clean).1 (ran clean)).1)) c.execute.ensures.survives
+pub change-requires : goal.change-requires
+change-requires g c = ours insert_unit_text 5 insert_unit_command (state g.S.Store c.args.conn.now) refl insert_unit_means c.requires.inside
 
 pub returns-clause-puts : goal.returns-clause-puts
 returns-clause-puts g c clean =
     let old = state g.S.Store c.args.conn.now in
-    let new = state g.S.Store c.execute.new.self in
-    let ran = λ (clean : HasCleanDisk new). rw (c.number.ensures, c.words.ensures, c.words-2.ensures, c.words-3.ensures, c.truth.ensures) at (c.in_ok-execute.ensures.runs clean) in
-    let at = λ (clean : HasCleanDisk new). c.requires.inside (early old new _ c.execute.ensures.survives clean) in
-    record { rows = insert_unit_rows old new (unit_of c.args.unit.now) c.in_ok-execute.field-0 (at clean).0 (at clean).1 (ran clean); only = insert_unit_touches old new (unit_of c.args.unit.now) c.in_ok-execute.field-0 (at clean).0 (at clean).1 (ran clean); fresh = insert_unit_fresh old new (unit_of c.args.unit.now) c.in_ok-execute.field-0 (at clean).0 (at clean).1 (ran clean) }
+    let new = state g.S.Store c.change.new.conn in
+    let at = c.requires.inside (early old new _ c.change.ensures.leaves.crash clean) in
+    insert_unit_puts old new (unit_of c.args.unit.now) refl at.0 at.1 c.change.result (rw (c.number.ensures, c.words.ensures, c.words-2.ensures, c.words-3.ensures, c.truth.ensures) at (c.change.ensures.ran clean))
 
-pub returns-in_err-execute-clause-disk : goal.returns-in_err-execute-clause-disk
-returns-in_err-execute-clause-disk g c clean =
+pub returns-clause-faults : goal.returns-clause-faults
+returns-clause-faults g c xs stored none other clean free =
     let old = state g.S.Store c.args.conn.now in
-    let new = state g.S.Store c.execute.new.self in
-    let fair = write_disk insert_unit_text _ old new insert_unit_command refl (in_office insert_unit_text insert_unit_command old (c.requires.inside) insert_unit_is insert_unit_plain (early old new _ c.execute.ensures.survives clean)) c.in_err-execute.field-0.0 (c.in_err-execute.ensures.runs clean) in
-    search (rules, fair)
-
-pub returns-in_err-execute-clause-faults : goal.returns-in_err-execute-clause-faults
-returns-in_err-execute-clause-faults g c clean free xs stored none other =
-    let old = state g.S.Store c.args.conn.now in
-    let new = state g.S.Store c.execute.new.self in
-    let ran = rw (c.number.ensures, c.words.ensures, c.words-2.ensures, c.words-3.ensures, c.truth.ensures) at (c.in_err-execute.ensures.runs clean) in
-    let at = c.requires.inside (early old new _ c.execute.ensures.survives clean) in
-    let cause = insert_unit_cause old new (unit_of c.args.unit.now) xs at.0 at.1 c.schema.ensures.live free refl stored none other c.in_err-execute.field-0.0 ran in
-    search (rules, cause)
+    let new = state g.S.Store c.change.new.conn in
+    let at = c.requires.inside (early old new _ c.change.ensures.leaves.crash clean) in
+    insert_unit_faults old new (unit_of c.args.unit.now) refl at.0 at.1 xs stored none other free c.change.ensures.live c.change.result (rw (c.number.ensures, c.words.ensures, c.words-2.ensures, c.words-3.ensures, c.truth.ensures) at (c.change.ensures.ran clean))

@@ -1,65 +1,29 @@
-use Rattle.std.proofs.Common.{◌≡◌, List, map, filter, nat_eq, rules, sym, ◌∙◌}
-use Rattle.std.specs.Prelude.{IsUtf8}
-use Rattle.std.proofs.lemmas.Result.{IfOk-weaker}
 use Rattle.sqlite.specs.Held.{state}
-use Rattle.sqlite.specs.State.{HasCleanDisk}
 use Rattle.catalogue_core.specs.Units.{Unit}
-use Rattle.catalogue_rows.specs.Rows.{by_number}
-use Rattle.office_tables.specs.Order.{IsOrdered}
-use Rattle.office_tables.specs.Step.{IsCut, Looks}
-use Rattle.sqlite_trees.proofs.ListLemmas.{map-map}
+use Rattle.office_tables.proofs.Calls.{early}
+use Rattle.office_tables.proofs.RowReads.{asks}
+use Rattle.std.proofs.Common.{refl, ◌∷◌, []}
+use Rattle.std.specs.Prelude.{IsUtf8}
+use Rattle.sqlite.specs.declared.types.Value.TheVariants.{Text}
 use Rattle.catalogue_core.specs.Bounds.{IsLegibleUnit}
-use Rattle.office_tables.proofs.Calls.{early, in_office, read_cut, read_looks, cut_looks, on_ok_from}
-use Rattle.catalogue_rows.proofs.UnitReads.{level_text, level_command, level_is, level_plain, level_rows}
-use Rattle.office_tables.proofs.Causes.{memory_only}
-use Rattle.office_tables.proofs.Reading.{all_found}
-use Rattle.catalogue_rows.proofs.Statuses.{all_map}
-use Rattle.catalogue_rows.proofs.UnitCauses.{level_cause}
+use Rattle.sqlite_trees.proofs.ListLemmas.{all_weaker}
+use Rattle.catalogue_rows.proofs.UnitQueries.{level_text, level_columns, level_names, level_means, level_command, numbered_finds, numbered_faults}
 use Rattle.catalogue_rows.proofs.units.levels_of.Goals as goal
 
-pub returns-in_err-rows-clause-cut : goal.returns-in_err-rows-clause-cut
-returns-in_err-rows-clause-cut g c =
-    let old = state g.S.Store c.args.conn.now in
-    let new = state g.S.Store c.query_all.new.self in
-    let cut : IsCut old new = read_cut level_text _ old new level_command (in_office level_text level_command old (c.requires.inside) level_is level_plain) c.in_err-rows.field-0.0 c.in_err-rows.ensures.err c.query_all.ensures.survives in
-    search (rules, cut)
-
-pub returns-clause-looks : goal.returns-clause-looks
-returns-clause-looks g c =
-    let old = state g.S.Store c.args.conn.now in
-    let new = state g.S.Store c.query_all.new.self in
-    on_ok_from c.read_all.result (Looks old new) (read_looks level_text _ old new level_command (in_office level_text level_command old (c.requires.inside) level_is level_plain) _ c.in_ok-rows.ensures.ok c.query_all.ensures.survives)
-
-pub returns-clause-cut : goal.returns-clause-cut
-returns-clause-cut g c =
-    let old = state g.S.Store c.args.conn.now in
-    let new = state g.S.Store c.query_all.new.self in
-    cut_looks c.read_all.result old new (read_looks level_text _ old new level_command (in_office level_text level_command old (c.requires.inside) level_is level_plain) _ c.in_ok-rows.ensures.ok c.query_all.ensures.survives)
+pub find-requires : goal.find-requires
+find-requires g c = asks level_text 1 level_command (state g.S.Store c.args.conn.now) level_means c.requires.inside
 
 pub returns-clause-rows : goal.returns-clause-rows
 returns-clause-rows g c clean xs stored =
     let old = state g.S.Store c.args.conn.now in
-    let new = state g.S.Store c.query_all.new.self in
-    let shown = rw (c.number.ensures) at (c.in_ok-rows.ensures.ok clean) in
-    let at = λ (clean : HasCleanDisk new). c.requires.inside (early old new _ c.query_all.ensures.survives clean) in
-    let got = level_rows old new c.args.id xs _ (at clean).0 (at clean).1 stored shown in
-    IfOk-weaker c.read_all.result (λ all. all.items ≡ map (λ (u : Unit). u.values.level) got.0) (λ all. (ys : List Unit) × IsOrdered by_number (filter (λ (u : Unit). nat_eq c.args.id u.id) xs) ys × (all.items ≡ map (λ (u : Unit). u.values.level) ys)) (λ all same. (got.0, (got.1, got.2), same))
-    (c.read_all.ensures.value (map (λ (u : Unit). u.values.level) got.0) (c.deref.ensures.value ∙ got.3 ∙ sym (map-map _ (λ (u : Unit). u.values.level) got.0)))
-
-pub returns-in_err-rows-clause-faults : goal.returns-in_err-rows-clause-faults
-returns-in_err-rows-clause-faults g c clean free xs stored legible =
-    let old = state g.S.Store c.args.conn.now in
-    let new = state g.S.Store c.query_all.new.self in
-    let at = c.requires.inside (early old new _ c.query_all.ensures.survives clean) in
-    let why = level_cause old new c.args.id at.0 at.1 free c.in_err-rows.field-0.0 (rw (c.number.ensures) at (c.in_err-rows.ensures.err clean)) in
-    search (rules, why)
+    let new = state g.S.Store c.find.new.conn in
+    let at = c.requires.inside (early old new _ c.find.ensures.reads.crash clean) in
+    numbered_finds old new c.args.id at.0 at.1 level_text level_columns level_names (level_means at.0) xs stored (λ t. Text t ∷ []) (λ found. found.items) (λ (u : Unit). u.values.level) (λ _. refl) c.find.result (rw c.number.ensures at (c.find.ensures.found clean))
 
 pub returns-clause-faults : goal.returns-clause-faults
-returns-clause-faults g c clean free xs stored legible =
+returns-clause-faults g c xs stored legible clean free =
     let old = state g.S.Store c.args.conn.now in
-    let new = state g.S.Store c.query_all.new.self in
-    let at = c.requires.inside (early old new _ c.query_all.ensures.survives clean) in
-    let got = level_rows old new c.args.id xs _ at.0 at.1 stored (rw (c.number.ensures) at (c.in_ok-rows.ensures.ok clean)) in
-    let level = λ (u : Unit). u.values.level in
-    let all = map level got.0 in
-    memory_only old new c.read_all.result (c.read_all.ensures.faults all (c.deref.ensures.value ∙ got.3 ∙ sym (map-map _ level got.0)) (all_map level IsUtf8 IsLegibleUnit (λ u h. h.level) got.0 (all_found IsLegibleUnit _ xs got.0 got.1 legible)))
+    let new = state g.S.Store c.find.new.conn in
+    let at = c.requires.inside (early old new _ c.find.ensures.reads.crash clean) in
+    numbered_faults old new c.args.id at.0 at.1 level_text level_columns level_names (level_means at.0) xs stored (λ t. Text t ∷ []) (λ found. found.items) (λ (u : Unit). u.values.level) (λ _. refl) c.find.result
+    IsUtf8 refl (all_weaker IsLegibleUnit (λ (u : Unit). IsUtf8 u.values.level) (λ u h. h.level) xs legible) free (rw c.number.ensures at (c.find.ensures.missed clean))

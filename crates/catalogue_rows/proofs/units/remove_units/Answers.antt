@@ -22,7 +22,7 @@ returns-in_err-remove_unit-clause-cut g c =
     let a = state g.S.Store c.args.conn.now in
     let b = state g.S.Store c.loop-id.conn in
     let d = state g.S.Store c.remove_unit.new.conn in
-    let all : IsCut a d = cut_then a b d c.loop-id.invariant.1.0.on c.in_err-remove_unit.ensures.cut in
+    let all : IsCut a d = cut_then a b d c.loop-id.invariant.1.0.on c.in_err-remove_unit.ensures.leaves.cut in
     search (rules, all)
 
 pub returns-then-id-ge-NO_NUMBER-clause-cut : goal.returns-then-id-ge-NO_NUMBER-clause-cut
@@ -40,7 +40,7 @@ loop-id-preserved g c =
     let i = c.loop-id.id-index in
     let ids = c.args.ids.now in
     let invariant = c.loop-id.invariant in
-    let last = c.in_ok-remove_unit.ensures.goes in (
+    let last = c.in_ok-remove_unit.ensures.leaves.goes in (
       invariant.0,
       (
         goes_then a b d invariant.1.0 last,
@@ -59,13 +59,13 @@ returns-clause-removes g c clean xs stored up listed =
     subst (λ (l : List ℕ). AreRemoved l a.now b.now) (take_all c.loop-id.id-index c.args.ids.now (omega (arith, c.loop-id-test.false))) (c.loop-id.invariant.1.1 clean xs stored up listed)
 
 pub returns-in_err-remove_unit-clause-faults : goal.returns-in_err-remove_unit-clause-faults
-returns-in_err-remove_unit-clause-faults g c clean free told listed low =
+returns-in_err-remove_unit-clause-faults g c told listed low clean free =
     let a = state g.S.Store c.args.conn.now in
     let b = state g.S.Store c.loop-id.conn in
     let d = state g.S.Store c.remove_unit.new.conn in
     let invariant = c.loop-id.invariant in
-    let before = early b d _ c.in_err-remove_unit.ensures.cut.crash clean in
+    let before = early b d _ c.in_err-remove_unit.ensures.leaves.cut.crash clean in
     let free_b : IsUnlimited b = still_unlimited a b invariant.1.0.on free in
-    let why = c.in_err-remove_unit.ensures.faults clean free_b (told_after (take c.loop-id.id-index c.args.ids.now) a.now b.now told (invariant.1.1 before told.units told.unit_rows told.units_rise listed)) in
+    let why = c.in_err-remove_unit.ensures.faults (told_after (take c.loop-id.id-index c.args.ids.now) a.now b.now told (invariant.1.1 before told.units told.unit_rows told.units_rise listed)) clean free_b in
     let whole = cause_then a b d invariant.1.0.on before _ why in
     search (rules, whole)

@@ -13,5 +13,5 @@ returns-clause-finds g c clean f shows =
 
 pub returns-in_err-found-clause-faults : goal.returns-in_err-found-clause-faults
 returns-in_err-found-clause-faults g c clean free f shows =
-    let why = c.in_err-found.ensures.faults clean free shows.units shows.rows in
+    let why = c.in_err-found.ensures.faults shows.units shows.rows clean free in
     search (rules, why)

@@ -21,7 +21,7 @@ returns-clause-shows g c clean o k it =
     on_ok_both c.set_until.result (Goes a b) (HasRows 14 (map unit_row (map change it.catalogue.units.units)) a.now b.now) (Shows g.P.Places.shows g.P.Places.version b.now o (with_closure c.args.unit c.args.until k))
     (λ last wrote. shows_changed change (λ u. kept_by (λ (u : Unit). u.id) (has_id c.args.unit u) (closed u) u refl) (λ u. kept_by (λ (u : Unit). u.values) (has_id c.args.unit u) (closed u) u refl)
     g.P.Places.version g.P.Places.shows g.met.P.Places.shows_same a.now b.now o k it (last.schema clean) wrote)
-    c.set_until.ensures.goes (c.set_until.ensures.rows clean it.catalogue.units.units it.catalogue.units.rows it.catalogue.units.rise)
+    c.set_until.ensures.leaves.goes (c.set_until.ensures.rows clean it.catalogue.units.units it.catalogue.units.rows it.catalogue.units.rise)
 
 pub returns-clause-only : goal.returns-clause-only
 returns-clause-only g c clean o k it =

@@ -22,7 +22,7 @@ returns-in_err-set_draft-clause-cut g c =
     let a = state g.S.Store c.args.conn.now in
     let b = state g.S.Store c.loop-unit.conn in
     let d = state g.S.Store c.set_draft.new.conn in
-    let all : IsCut a d = cut_then a b d c.loop-unit.invariant.1.0.on c.in_err-set_draft.ensures.cut in
+    let all : IsCut a d = cut_then a b d c.loop-unit.invariant.1.0.on c.in_err-set_draft.ensures.leaves.cut in
     search (rules, all)
 
 pub loop-unit-preserved : goal.loop-unit-preserved
@@ -33,7 +33,7 @@ loop-unit-preserved g c =
     let i = c.loop-unit.unit-index in
     let units = c.args.units.now in
     let invariant = c.loop-unit.invariant in
-    let last = c.in_ok-set_draft.ensures.goes in (
+    let last = c.in_ok-set_draft.ensures.leaves.goes in (
       invariant.0,
       (
         goes_then a b d invariant.1.0 last,
@@ -62,7 +62,7 @@ returns-in_err-set_draft-clause-disk g c clean =
     let a = state g.S.Store c.args.conn.now in
     let b = state g.S.Store c.loop-unit.conn in
     let d = state g.S.Store c.set_draft.new.conn in
-    let fair = disk_then a b d c.loop-unit.invariant.1.0.on (early b d _ c.in_err-set_draft.ensures.cut.crash clean) _ (c.in_err-set_draft.ensures.disk clean) in
+    let fair = disk_then a b d c.loop-unit.invariant.1.0.on (early b d _ c.in_err-set_draft.ensures.leaves.cut.crash clean) _ (c.in_err-set_draft.ensures.leaves.disk clean) in
     search (rules, fair)
 
 pub returns-in_err-set_draft-clause-faults : goal.returns-in_err-set_draft-clause-faults
@@ -71,8 +71,8 @@ returns-in_err-set_draft-clause-faults g c clean free o k it low =
     let b = state g.S.Store c.loop-unit.conn in
     let d = state g.S.Store c.set_draft.new.conn in
     let invariant = c.loop-unit.invariant in
-    let before = early b d _ c.in_err-set_draft.ensures.cut.crash clean in
+    let before = early b d _ c.in_err-set_draft.ensures.leaves.cut.crash clean in
     let at = (invariant.1.1 before o k it).0.catalogue.units in
-    let why = c.in_err-set_draft.ensures.faults clean (still_unlimited a b invariant.1.0.on free) at.units at.rows at.rise in
+    let why = c.in_err-set_draft.ensures.faults at.units at.rows at.rise clean (still_unlimited a b invariant.1.0.on free) in
     let whole = cause_then a b d invariant.1.0.on before _ why in
     search (rules, whole)

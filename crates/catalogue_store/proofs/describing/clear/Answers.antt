@@ -1,3 +1,4 @@
+use Rattle.office_tables.specs.Schema as tables
 use Rattle.std.proofs.Common.{map, filter, not, nat_eq, refl, ◌∙◌}
 use Rattle.sqlite.specs.Held.{state}
 use Rattle.catalogue_rows.specs.Adding.{AreElements, AreHoused}
@@ -20,12 +21,12 @@ returns-clause-clears g c clean boxes xs hs texts housed =
     (λ last.
     let first = c.in_ok-clear_elements.ensures.rows (early b d _ last.on.crash clean) xs texts.rows texts.rise in
     let kept = first.only in
-    let here = same_housed a.now.trees b.now.trees boxes hs (kept.1.1.1.1.1.1.1.1.1.1.0 refl) (kept.1.1.1.1.1.1.1.1.1.1.1.0 refl) housed in
+    let here = same_housed a.now.trees b.now.trees boxes hs (kept tables.container.tree refl refl) (kept tables.housing.tree refl refl) housed in
     let there : AreElements b.now.trees elements = record { rows = first.are; rise = elements_rise unit xs texts.rise } in
     on_ok_then c.clear_housings.result (HasRows 20 (map housing_row housings) b.now d.now) (AreElements d.now.trees elements × AreHoused d.now.trees boxes housings)
     (λ then. (
-      same_elements b.now.trees d.now.trees elements (then.only.1.1.1.1.1.1.1.1.1.0 refl) there,
-      record { containers = then.only.1.1.1.1.1.1.1.1.1.1.0 refl ∙ here.containers; apart = here.apart; rows = then.are; rise = housings_rise unit hs here.rise },
+      same_elements b.now.trees d.now.trees elements (then.only tables.element.tree refl refl) there,
+      record { containers = then.only tables.container.tree refl refl ∙ here.containers; apart = here.apart; rows = then.are; rise = housings_rise unit hs here.rise },
     ))
     (c.clear_housings.ensures.rows clean hs here.rows here.rise))
     c.clear_housings.ensures.goes

@@ -1,3 +1,4 @@
+use Rattle.office_tables.specs.Schema as tables
 use Rattle.std.proofs.Common.{List, refl, [], ◌∷◌}
 use Rattle.sqlite.specs.Held.{state}
 use Rattle.catalogue_rows.specs.Adding.{AreHoused, IsDescribed, WithHousings}
@@ -23,11 +24,11 @@ returns-clause-tells g c clean boxes xs hs texts housed =
     let before = early b d _ last.on.crash clean in
     let kept = c.in_ok-insert_texts.ensures.only before in
     let told = c.in_ok-insert_texts.ensures.adds before xs texts in
-    let here = same_housed a.now.trees b.now.trees boxes hs (kept.1.1.1.1.1.1.1.1.1.1.0 refl) (kept.1.1.1.1.1.1.1.1.1.1.1.0 refl) housed in
+    let here = same_housed a.now.trees b.now.trees boxes hs (kept tables.container.tree refl refl) (kept tables.housing.tree refl refl) housed in
     on_ok_both c.insert_housings.result ((ys : List HousingRow) × AreHoused d.now.trees all ys × WithHousings unit (housing_cells all values) hs ys) (OnlyTouches (18 ∷ 20 ∷ []) b.now d.now) (IsDescribed unit values boxes xs hs d.now.trees)
     (λ added still. record {
       elements = told.0;
-      texts = same_elements b.now.trees d.now.trees told.0 (still.1.1.1.1.1.1.1.1.1.0 refl) told.1;
+      texts = same_elements b.now.trees d.now.trees told.0 (still tables.element.tree refl refl) told.1;
       texts_more = told.2;
       housings = added.0;
       housed = added.1;

@@ -1,3 +1,4 @@
+use Rattle.office_tables.specs.Schema as tables
 use Rattle.std.proofs.Common.{[], ◌∷◌, filter, not, nat_eq, refl, sym, ◌∙◌}
 use Rattle.std.proofs.lemmas.List.Sorted.{list_any-IsPermutation}
 use Rattle.tree_core.specs.Forest.{nodes}
@@ -25,14 +26,14 @@ pub clear-requires-clause-inside : goal.clear-requires-clause-inside
 clear-requires-clause-inside g c =
     let a = state g.S.Store c.args.conn.now in
     let b = state g.S.Store c.set_level.new.conn in
-    still_office a b (office_of g.P.Places.version a c.requires.inside) c.in_ok-set_level.ensures.goes
+    still_office a b (office_of g.P.Places.version a c.requires.inside) c.in_ok-set_level.ensures.leaves.goes
 
 pub describe-requires-clause-inside : goal.describe-requires-clause-inside
 describe-requires-clause-inside g c =
     let a = state g.S.Store c.args.conn.now in
     let b = state g.S.Store c.set_level.new.conn in
     let d = state g.S.Store c.clear.new.conn in
-    still_office a d (office_of g.P.Places.version a c.requires.inside) (goes_then a b d c.in_ok-set_level.ensures.goes c.in_ok-clear.ensures.goes)
+    still_office a d (office_of g.P.Places.version a c.requires.inside) (goes_then a b d c.in_ok-set_level.ensures.leaves.goes c.in_ok-clear.ensures.goes)
 
 pub returns-clause-shows : goal.returns-clause-shows
 returns-clause-shows g c clean o k it knows there =
@@ -55,18 +56,18 @@ returns-clause-shows g c clean o k it knows there =
     let before_b = early b d _ c.in_ok-clear.ensures.goes.on.crash before_d in
     let level = c.in_ok-set_level.ensures.rows before_b at.units.units at.units.rows at.units.rise in
     let kept = level.only in
-    let texts = same_elements a.now.trees b.now.trees xs (kept.1.1.1.1.1.1.1.1.1.0 refl) (elements_shown v a.now o k at) in
-    let housed = same_housed a.now.trees b.now.trees k.containers hs (kept.1.1.1.1.1.1.1.1.1.1.0 refl) (kept.1.1.1.1.1.1.1.1.1.1.1.0 refl) (housed_shown v a.now o k at knows) in
+    let texts = same_elements a.now.trees b.now.trees xs (kept tables.element.tree refl refl) (elements_shown v a.now o k at) in
+    let housed = same_housed a.now.trees b.now.trees k.containers hs (kept tables.container.tree refl refl) (kept tables.housing.tree refl refl) (housed_shown v a.now o k at knows) in
     let cleared = c.in_ok-clear.ensures.clears before_d k.containers xs hs texts housed in
     let still = c.in_ok-clear.ensures.only before_d xs hs texts.rows texts.rise housed.rows housed.rise in
     on_ok_both c.describe.result (IsDescribed unit values k.containers elements housings e.now.trees) (OnlyTouches (16 ∷ 18 ∷ 20 ∷ []) d.now e.now) result
     (λ made only.
     let all : OnlyTouches (14 ∷ 16 ∷ 20 ∷ 16 ∷ 18 ∷ 20 ∷ []) a.now e.now = touched_then (14 ∷ 16 ∷ 20 ∷ []) (16 ∷ 18 ∷ 20 ∷ []) a.now d.now e.now (touched_then (14 ∷ []) (16 ∷ 20 ∷ []) a.now b.now d.now kept still) only in
     shows_valued unit values v g.P.Places.shows g.met.P.Places.shows_same a.now e.now o k it knows there (record {
-      schema = (goes_then a d e (goes_then a b d c.in_ok-set_level.ensures.goes c.in_ok-clear.ensures.goes) last).schema clean;
-      office = all.1.1.1.1.1.1.1.0 refl;
-      places = all.1.1.1.1.1.1.1.1.1.1.1.1.0 refl;
-      units_are = only.1.1.1.1.1.1.1.1.0 refl ∙ still.1.1.1.1.1.1.1.1.0 refl ∙ level.are;
+      schema = (goes_then a d e (goes_then a b d c.in_ok-set_level.ensures.leaves.goes c.in_ok-clear.ensures.goes) last).schema clean;
+      office = all tables.office.tree refl refl;
+      places = all tables.link.tree refl refl;
+      units_are = only tables.unit.tree refl refl ∙ still tables.unit.tree refl refl ∙ level.are;
       described = made;
     }))
     (c.describe.ensures.tells clean k.containers elements housings cleared.0 cleared.1) (c.describe.ensures.only clean))
@@ -85,16 +86,16 @@ returns-clause-faults g c clean free o k it kept knows there once long =
     let hs = at.housings.housings in
     let elements = filter (λ (x : ElementRow). not (nat_eq unit x.unit)) xs in
     let housings = filter (λ (x : HousingRow). not (nat_eq unit x.unit)) hs in
-    let went = goes_then a b d c.in_ok-set_level.ensures.goes c.in_ok-clear.ensures.goes in
+    let went = goes_then a b d c.in_ok-set_level.ensures.leaves.goes c.in_ok-clear.ensures.goes in
     last_cause a d e went.on c.describe.result c.describe.ensures.cut clean (λ before_d.
     let before_b = early b d _ c.in_ok-clear.ensures.goes.on.crash before_d in
     let level = c.in_ok-set_level.ensures.rows before_b at.units.units at.units.rows at.units.rise in
     let only = level.only in
-    let texts = same_elements a.now.trees b.now.trees xs (only.1.1.1.1.1.1.1.1.1.0 refl) (elements_shown v a.now o k at) in
-    let housed = same_housed a.now.trees b.now.trees k.containers hs (only.1.1.1.1.1.1.1.1.1.1.0 refl) (only.1.1.1.1.1.1.1.1.1.1.1.0 refl) (housed_shown v a.now o k at knows) in
+    let texts = same_elements a.now.trees b.now.trees xs (only tables.element.tree refl refl) (elements_shown v a.now o k at) in
+    let housed = same_housed a.now.trees b.now.trees k.containers hs (only tables.container.tree refl refl) (only tables.housing.tree refl refl) (housed_shown v a.now o k at knows) in
     let cleared = c.in_ok-clear.ensures.clears before_d k.containers xs hs texts housed in
     let still = c.in_ok-clear.ensures.only before_d xs hs texts.rows texts.rise housed.rows housed.rise in
     let listed = sym (list_any-IsPermutation (has_id unit) (nodes k.forest) at.units.units at.units.are) ∙ there in
-    let known = unit_valued d.now.trees unit c.args.values.now at.units.units (still.1.1.1.1.1.1.1.1.0 refl ∙ level.are) listed in
+    let known = unit_valued d.now.trees unit c.args.values.now at.units.units (still tables.unit.tree refl refl ∙ level.are) listed in
     c.describe.ensures.faults clean (still_unlimited a d went.on free) known k.containers elements housings cleared.0 cleared.1 kept.few_boxes once long
     (none_left (λ (x : ElementRow). nat_eq unit x.unit) xs) (none_left (λ (x : HousingRow). nat_eq unit x.unit) hs))

@@ -35,7 +35,7 @@ returns-in_err-containers-clause-cut g c =
     let b = state g.S.Store c.levels_of.new.conn in
     let d = state g.S.Store c.texts_of.new.conn in
     let e = state g.S.Store c.containers_of.new.conn in
-    let all : IsCut a e = cut_then a d e (goes_then a b d c.in_ok-levels.ensures.looks.goes c.in_ok-texts.ensures.looks.goes).on c.in_err-containers.ensures.cut in
+    let all : IsCut a e = cut_then a d e (goes_then a b d c.in_ok-levels.ensures.reads.looks.goes c.in_ok-texts.ensures.looks.goes).on c.in_err-containers.ensures.cut in
     search (rules, all)
 
 pub returns-in_err-boxes-clause-cut : goal.returns-in_err-boxes-clause-cut
@@ -45,7 +45,7 @@ returns-in_err-boxes-clause-cut g c =
     let d = state g.S.Store c.texts_of.new.conn in
     let e = state g.S.Store c.containers_of.new.conn in
     let h = state g.S.Store c.boxes_of.new.conn in
-    let so_far = goes_then a d e (goes_then a b d c.in_ok-levels.ensures.looks.goes c.in_ok-texts.ensures.looks.goes) c.in_ok-containers.ensures.looks.goes in
+    let so_far = goes_then a d e (goes_then a b d c.in_ok-levels.ensures.reads.looks.goes c.in_ok-texts.ensures.looks.goes) c.in_ok-containers.ensures.looks.goes in
     let all : IsCut a h = cut_then a e h so_far.on c.in_err-boxes.ensures.cut in
     search (rules, all)
 
@@ -59,7 +59,7 @@ returns-clause-answers g c clean version o k at places =
     let at_e = early e h _ c.in_ok-boxes.ensures.looks.goes.on.crash clean in
     let at_d = early d e _ c.in_ok-containers.ensures.looks.goes.on.crash at_e in
     let at_b = early b d _ c.in_ok-texts.ensures.looks.goes.on.crash at_d in
-    let same_b : b.now ≡ a.now = c.in_ok-levels.ensures.looks.same at_b in
+    let same_b : b.now ≡ a.now = c.in_ok-levels.ensures.reads.looks.same at_b in
     let same_d : d.now ≡ a.now = c.in_ok-texts.ensures.looks.same at_d ∙ same_b in
     let same_e : e.now ≡ a.now = c.in_ok-containers.ensures.looks.same at_e ∙ same_d in
     let got = c.in_ok-levels.ensures.rows at_b at.units.units at.units.rows in
@@ -85,12 +85,12 @@ returns-clause-looks g c =
     let d = state g.S.Store c.texts_of.new.conn in
     let e = state g.S.Store c.containers_of.new.conn in
     let h = state g.S.Store c.boxes_of.new.conn in
-    looks_then a e h (looks_then a d e (looks_then a b d c.in_ok-levels.ensures.looks c.in_ok-texts.ensures.looks) c.in_ok-containers.ensures.looks) c.in_ok-boxes.ensures.looks
+    looks_then a e h (looks_then a d e (looks_then a b d c.in_ok-levels.ensures.reads.looks c.in_ok-texts.ensures.looks) c.in_ok-containers.ensures.looks) c.in_ok-boxes.ensures.looks
 
 pub returns-in_err-levels-clause-faults : goal.returns-in_err-levels-clause-faults
 returns-in_err-levels-clause-faults g c clean free version o k at places knows kept =
     let a = state g.S.Store c.args.conn.now in
-    let why = c.in_err-levels.ensures.faults clean free at.units.units at.units.rows (legible_units a.now.trees k at.units kept) in
+    let why = c.in_err-levels.ensures.faults at.units.units at.units.rows (legible_units a.now.trees k at.units kept) clean free in
     search (rules, why)
 
 pub returns-in_err-texts-clause-faults : goal.returns-in_err-texts-clause-faults
@@ -98,7 +98,7 @@ returns-in_err-texts-clause-faults g c clean free version o k at places knows ke
     let a = state g.S.Store c.args.conn.now in
     let b = state g.S.Store c.levels_of.new.conn in
     let d = state g.S.Store c.texts_of.new.conn in
-    let looked = c.in_ok-levels.ensures.looks in
+    let looked = c.in_ok-levels.ensures.reads.looks in
     let at_b = early b d _ c.in_err-texts.ensures.cut.crash clean in
     let free_b : IsUnlimited b = still_unlimited a b looked.goes.on free in
     let got = c.in_ok-levels.ensures.rows at_b at.units.units at.units.rows in
@@ -118,7 +118,7 @@ returns-in_err-containers-clause-faults g c clean free version o k at places kno
     let b = state g.S.Store c.levels_of.new.conn in
     let d = state g.S.Store c.texts_of.new.conn in
     let e = state g.S.Store c.containers_of.new.conn in
-    let looked = looks_then a b d c.in_ok-levels.ensures.looks c.in_ok-texts.ensures.looks in
+    let looked = looks_then a b d c.in_ok-levels.ensures.reads.looks c.in_ok-texts.ensures.looks in
     let at_d = early d e _ c.in_err-containers.ensures.cut.crash clean in
     let free_d : IsUnlimited d = still_unlimited a d looked.goes.on free in
     let why = c.in_err-containers.ensures.faults clean free_d at.housings.housings (ap (λ (db : Database). db.trees 20) (looked.same at_d) ∙ at.housings.rows) in
@@ -135,7 +135,7 @@ returns-in_err-boxes-clause-faults g c clean free version o k at places knows ke
     let at_e = early e h _ c.in_err-boxes.ensures.cut.crash clean in
     let at_d = early d e _ c.in_ok-containers.ensures.looks.goes.on.crash at_e in
     let at_b = early b d _ c.in_ok-texts.ensures.looks.goes.on.crash at_d in
-    let looked_d = looks_then a b d c.in_ok-levels.ensures.looks c.in_ok-texts.ensures.looks in
+    let looked_d = looks_then a b d c.in_ok-levels.ensures.reads.looks c.in_ok-texts.ensures.looks in
     let looked = looks_then a d e looked_d c.in_ok-containers.ensures.looks in
     let free_e : IsUnlimited e = still_unlimited a e looked.goes.on free in
     let got = c.in_ok-levels.ensures.rows at_b at.units.units at.units.rows in
