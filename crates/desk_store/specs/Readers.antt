@@ -26,6 +26,9 @@ reader_with t d = find (λ (r : ReaderRow). nat_eq t r.ticket) d.readers
 abbrev pub renewed : ℕ → ℤ → List ReaderRow → List ReaderRow
 renewed t until readers = map (λ (r : ReaderRow). if nat_eq t r.ticket then record r { until = until } else r) readers
 
+abbrev pub with_last_day : ℕ → ℤ → Desk → Desk
+with_last_day t until d = record d { readers = renewed t until d.readers }
+
 -- ---- what is known of a ticket
 
 -- the seat on which the ticket's reader sits

@@ -8,6 +8,7 @@ mod holdings;
 mod making;
 mod orders;
 mod queues;
+mod readers;
 mod runs;
 mod seating;
 
@@ -18,5 +19,6 @@ pub use holdings::{FirstOrder, Loan};
 pub use making::create_desk;
 pub use orders::{OrderState, PlacedOrder, WaitingOrder};
 pub use queues::ContainerQueue;
+pub use readers::{add_reader, renew};
 pub use runs::Brought;
 pub use seating::{TakenSeat, seats, set_seat};
