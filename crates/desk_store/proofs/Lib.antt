@@ -1,1 +1,9 @@
 pub mod Creations
+pub mod OnlyOf
+pub mod SeatRows
+pub mod Frames
+pub mod Counted
+pub mod LastOf
+pub mod ReaderRows
+pub mod ReaderCalls
+pub mod SeatCalls

@@ -1,5 +1,5 @@
 -- Where containers are, and which of them may move.
-use Rattle.std.specs.Prelude.{◌≡◌, ℕ, pos, ℤ, Bool, true, false, not, ◌&&◌, nat_eq, nat_lt, List, map, filter, filter_map, find, Option, Some, None, option_map, option_and_then}
+use Rattle.std.specs.Prelude.{◌≡◌, ℕ, pos, Bool, true, not, ◌&&◌, nat_eq, nat_lt, List, map, filter, filter_map, find, Option, Some, None, option_map, option_and_then}
 use Rattle.std.specs.List.{AllByRecursion, list_any}
 use Rattle.desk_core.specs.declared.reader.Place.{Place}
 use Rattle.desk_core.specs.declared.reader.Place.TheVariants.{Shelf, Desk as AtTheDesk, Out}
@@ -15,7 +15,7 @@ put_down = put_by (λ (h : HoldingRow). pos h.container)
 
 -- on the shelf it has no row
 abbrev pub placed_at : ℕ → Place → List HoldingRow → List HoldingRow
-placed_at c Shelf holdings = filter (λ h. not (nat_eq h.container c)) holdings
+placed_at c Shelf holdings = filter (λ h. not (nat_eq c h.container)) holdings
 placed_at c AtTheDesk holdings = put_down (record { container = c; place = 1; held_by = None }) holdings
 placed_at c (Out o) holdings = put_down (record { container = c; place = 2; held_by = Some o }) holdings
 
@@ -26,7 +26,7 @@ with_place c place d = record d { holdings = placed_at c place d.holdings }
 
 -- the ticket of an order
 abbrev pub ticket_of : List OrderRow → ℕ → Option ℕ
-ticket_of orders o = option_map (λ (row : OrderRow). row.ticket) (find (λ (row : OrderRow). nat_eq row.id o) orders)
+ticket_of orders o = option_map (λ (row : OrderRow). row.ticket) (find (λ (row : OrderRow). nat_eq o row.id) orders)
 
 -- the container is out: with which order, and with whom
 abbrev pub issued_by : List OrderRow → HoldingRow → Option Loan
@@ -40,24 +40,24 @@ issued_of d = filter_map (issued_by d.orders) d.holdings
 -- each container that is out is so by an order that is there
 abbrev pub HaveOrders : Desk → Type 0
 HaveOrders d =
-    AllByRecursion (λ (h : HoldingRow). (o : ℕ) → h.held_by ≡ Some o → list_any (λ (row : OrderRow). nat_eq row.id o) d.orders ≡ true) d.holdings
+    AllByRecursion (λ (h : HoldingRow). (o : ℕ) → h.held_by ≡ Some o → list_any (λ (row : OrderRow). nat_eq o row.id) d.orders ≡ true) d.holdings
 
 -- ---- those that may move
 
 abbrev pub waits_for : ℕ → OrderRow → Bool
-waits_for c o = nat_eq o.container c && nat_eq o.state 1
+waits_for c o = nat_eq 1 o.state && nat_eq c o.container
 
 -- the containers at the desk, by number, each with whether an order waits for it
 abbrev pub at_desk_of : Desk → List (ℕ × Bool)
 at_desk_of d =
-    map (λ (h : HoldingRow). (h.container, list_any (waits_for h.container) d.orders)) (filter (λ h. nat_eq h.place 1) d.holdings)
+    map (λ (h : HoldingRow). (h.container, list_any (waits_for h.container) d.orders)) (filter (λ h. nat_eq 1 h.place) d.holdings)
 
 abbrev pub is_on_shelf : Desk → ℕ → Bool
-is_on_shelf d c = not (list_any (λ (h : HoldingRow). nat_eq h.container c) d.holdings)
+is_on_shelf d c = not (list_any (λ (h : HoldingRow). nat_eq c h.container) d.holdings)
 
 -- no order that waits for its container came before it
 abbrev pub is_first : Desk → OrderRow → Bool
-is_first d o = nat_eq o.state 1 && not (list_any (λ other. waits_for o.container other && nat_lt other.id o.id) d.orders)
+is_first d o = nat_eq 1 o.state && not (list_any (λ other. waits_for o.container other && nat_lt other.id o.id) d.orders)
 
 -- what a run may take: the containers on the shelf for which an order waits, each with the first of them, by these orders
 abbrev pub candidates_of : Desk → List FirstOrder

@@ -1,5 +1,5 @@
 -- What was ordered, and who waits for a container.
-use Rattle.std.specs.Prelude.{◌≡◌, ℕ, suc, ℤ, ◌&&◌, ◌<◌, nat_eq, List, [], ◌∷◌, ◌++◌, length, map, filter, find, Option, Some, None, option_map}
+use Rattle.std.specs.Prelude.{◌≡◌, ℕ, suc, ℤ, ◌&&◌, ◌<◌, nat_eq, List, [], ◌∷◌, ◌++◌, length, map, filter, find, Option, Some, None}
 use Rattle.isad_core.specs.declared.values.BoxKey.{BoxKey}
 use Rattle.desk_core.specs.declared.reader.Place.{Place}
 use Rattle.desk_core.specs.declared.reader.Place.TheVariants.{Shelf, Desk as AtTheDesk, Out}
@@ -25,7 +25,7 @@ abbrev pub IsOrder : OrderRow → PlacedOrder → Type 0
 IsOrder row o = (o.ticket ≡ row.ticket) × (o.container ≡ row.container) × (o.day ≡ row.day) × (state_number o.state ≡ row.state)
 
 abbrev pub order_with : ℕ → Desk → Option OrderRow
-order_with o d = find (λ (row : OrderRow). nat_eq row.id o) d.orders
+order_with o d = find (λ (row : OrderRow). nat_eq o row.id) d.orders
 
 -- one more order, which waits; orders are numbered from 1 as they come
 abbrev pub with_order : ℕ → ℕ → ℤ → Desk → Desk
@@ -46,7 +46,7 @@ with_order_state o state d = record d { orders = with_state o (state_number stat
 abbrev pub queue_of : ℕ → Desk → List WaitingOrder
 queue_of c d =
     map (λ (o : OrderRow). record { order = o.id; ticket = o.ticket })
-    (filter (λ o. nat_eq o.container c && nat_eq o.state 1) d.orders)
+    (filter (λ o. nat_eq 1 o.state && nat_eq c o.container) d.orders)
 
 -- where a container is: at the desk, out with an order, or on the shelf, where it has no row
 abbrev pub IsAt : Option HoldingRow → Place → Type 0
@@ -56,7 +56,7 @@ IsAt (Some h) (Out o) = (h.place ≡ 2) × (h.held_by ≡ Some o)
 IsAt (Some h) Shelf = ⊥
 
 abbrev pub holding_of : ℕ → Desk → Option HoldingRow
-holding_of c d = find (λ (h : HoldingRow). nat_eq h.container c) d.holdings
+holding_of c d = find (λ (h : HoldingRow). nat_eq c h.container) d.holdings
 
 -- what is told of a container that is known: what is written on it, where it is, and who waits for it
 pub record IsQueue (c : ℕ) (d : Desk) (box : BoxKey) (q : ContainerQueue) : Type 0 where

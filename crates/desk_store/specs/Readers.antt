@@ -1,5 +1,5 @@
 -- What a clerk knows of a ticket, and how tickets are given and renewed.
-use Rattle.std.specs.Prelude.{◌≡◌, ℕ, suc, ℤ, ◌&&◌, Bool, cond, nat_eq, nat_le, nat_lt, List, [], ◌∷◌, ◌++◌, length, map, filter, find, count_by, Option, Some, None, option_map}
+use Rattle.std.specs.Prelude.{ℕ, suc, ℤ, ◌&&◌, if◌then◌else◌, Bool, cond, nat_eq, nat_lt, List, [], ◌∷◌, ◌++◌, length, map, filter, find, count_by, Option, Some, None, option_map}
 use Rattle.std.specs.Ordering.{int_eq}
 use Rattle.isad_core.specs.Texts.{Bytes}
 use Rattle.isad_core.specs.Limits.{most_tickets}
@@ -20,17 +20,20 @@ with_reader (Some t) name until d = record d { readers = d.readers ++ record { t
 
 -- the reader with the ticket
 abbrev pub reader_with : ℕ → Desk → Option ReaderRow
-reader_with t d = find (λ (r : ReaderRow). nat_eq r.ticket t) d.readers
+reader_with t d = find (λ (r : ReaderRow). nat_eq t r.ticket) d.readers
 
 -- the ticket has another last day
 abbrev pub renewed : ℕ → ℤ → List ReaderRow → List ReaderRow
-renewed t until readers = map (λ r. cond (nat_eq r.ticket t) (record r { until = until }) r) readers
+renewed t until readers = map (λ (r : ReaderRow). if nat_eq t r.ticket then record r { until = until } else r) readers
+
+abbrev pub with_last_day : ℕ → ℤ → Desk → Desk
+with_last_day t until d = record d { readers = renewed t until d.readers }
 
 -- ---- what is known of a ticket
 
 -- the seat on which the ticket's reader sits
 abbrev pub seat_of : ℕ → Desk → Option ℕ
-seat_of t d = option_map (λ (s : SeatRow). s.seat) (find (λ (s : SeatRow). nat_eq s.ticket t) d.seats)
+seat_of t d = option_map (λ (s : SeatRow). s.seat) (find (λ (s : SeatRow). nat_eq t s.ticket) d.seats)
 
 -- the order waits or is out: it is neither done nor cancelled
 abbrev pub is_live : OrderRow → Bool
@@ -40,15 +43,15 @@ is_live o = nat_lt o.state 3
 abbrev pub live_orders : ℕ → Desk → List LiveOrder
 live_orders t d =
     map (λ (o : OrderRow). record { order = o.id; container = o.container; is_out = nat_eq o.state 2 })
-    (filter (λ o. nat_eq o.ticket t && is_live o) d.orders)
+    (filter (λ o. nat_eq t o.ticket && is_live o) d.orders)
 
 -- how many containers are out with the ticket
 abbrev pub held_with : ℕ → Desk → ℕ
-held_with t d = count_by (λ (o : OrderRow). nat_eq o.ticket t && nat_eq o.state 2) d.orders
+held_with t d = count_by (λ (o : OrderRow). nat_eq t o.ticket && nat_eq o.state 2) d.orders
 
 -- how many orders the ticket placed on a day, ended ones too
 abbrev pub placed_on : ℕ → ℤ → Desk → ℕ
-placed_on t day d = count_by (λ (o : OrderRow). nat_eq o.ticket t && int_eq o.day day) d.orders
+placed_on t day d = count_by (λ (o : OrderRow). nat_eq t o.ticket && int_eq day o.day) d.orders
 
 -- the reader's card on a day
 abbrev pub card_of : ℕ → ℤ → Desk → Option ReaderCard

@@ -1,11 +1,10 @@
 -- What runs bring to the desk.
-use Rattle.std.specs.Prelude.{◌≡◌, ℕ, suc, ℤ, cond, nat_eq, nat_lt, List, [], ◌∷◌, ◌++◌, length, map, filter, find, Option, Some, None, IsPermutation}
+use Rattle.std.specs.Prelude.{◌≡◌, ℕ, suc, ℤ, cond, nat_eq, nat_lt, List, [], ◌∷◌, ◌++◌, length, map, filter, find, Option, Some, None}
 use Rattle.isad_core.specs.declared.values.BoxKey.{BoxKey}
 use Rattle.desk_core.specs.declared.run.Candidate.{Candidate}
 use Rattle.isad_core.specs.Limits.{most_runs}
 use Rattle.desk_core.specs.DeskRows.{Desk, RunRow, RunLineRow}
 use Rattle.desk_store.specs.declared.holdings.FirstOrder.{FirstOrder}
-use Rattle.desk_store.specs.declared.runs.Brought.{Brought}
 
 -- the number of the next run, where one is left
 abbrev pub next_run : Desk → Option ℕ
@@ -21,14 +20,14 @@ with_run (Some n) day taken d =
     record d { runs = d.runs ++ record { id = n; day = day } ∷ []; run_lines = d.run_lines ++ map (line_of n) taken }
 
 abbrev pub run_with : ℕ → Desk → Option RunRow
-run_with n d = find (λ (r : RunRow). nat_eq r.id n) d.runs
+run_with n d = find (λ (r : RunRow). nat_eq n r.id) d.runs
 
 -- the lines of a run
 abbrev pub lines_of : ℕ → Desk → List RunLineRow
-lines_of n d = filter (λ l. nat_eq l.run n) d.run_lines
+lines_of n d = filter (λ l. nat_eq n l.run) d.run_lines
 
 -- a line with what is written on its container
 pub record IsCandidate (boxes : List (ℕ × BoxKey)) (l : RunLineRow) (c : Candidate) : Type 0 where
   pub box : BoxKey
-  pub known : find (λ (b : ℕ × BoxKey). nat_eq b.0 l.container) boxes ≡ Some (l.container, box)
+  pub known : find (λ (b : ℕ × BoxKey). nat_eq l.container b.0) boxes ≡ Some (l.container, box)
   pub is : c ≡ record { container = l.container; order = l.order_no; ticket = l.ticket; location = box.location; name = box.name; kind = box.kind }

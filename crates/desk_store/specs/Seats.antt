@@ -1,9 +1,9 @@
 -- Who sits where.
-use Rattle.std.specs.Prelude.{◌≡◌, ℕ, pos, Bool, not, false, nat_eq, List, [], map, filter, Option, Some, None, ⊤}
+use Rattle.std.specs.Prelude.{◌≡◌, ℕ, pos, not, false, nat_eq, List, [], map, filter, Option, Some, None, ⊤}
 use Rattle.std.specs.List.{list_any}
 use Rattle.desk_core.specs.DeskRows.{Desk, SeatRow}
 use Rattle.office_tables.specs.Put.{put_by}
-use Rattle.desk_store.specs.declared.seats.TakenSeat.{TakenSeat}
+use Rattle.desk_store.specs.declared.seating.TakenSeat.{TakenSeat}
 
 -- the seats that are taken, by number, each with the ticket of who sits there
 abbrev pub taken_seats : Desk → List TakenSeat
@@ -11,7 +11,7 @@ taken_seats d = map (λ (s : SeatRow). record { seat = s.seat; ticket = s.ticket
 
 -- a seat is taken by a ticket, or is free again
 abbrev pub seated : ℕ → Option ℕ → List SeatRow → List SeatRow
-seated seat None seats = filter (λ s. not (nat_eq s.seat seat)) seats
+seated seat None seats = filter (λ s. not (nat_eq seat s.seat)) seats
 seated seat (Some t) seats = put_by (λ (s : SeatRow). pos s.seat) (record { seat = seat; ticket = t }) seats
 
 abbrev pub with_seat : ℕ → Option ℕ → Desk → Desk
@@ -21,7 +21,7 @@ with_seat seat who d = record d { seats = seated seat who d.seats }
 abbrev pub MayTake : ℕ → Option ℕ → Desk → Type 0
 MayTake seat None d = ⊤
 MayTake seat (Some t) d =
-    (list_any (λ (s : SeatRow). nat_eq s.seat seat) d.seats ≡ false) × (list_any (λ (s : SeatRow). nat_eq s.ticket t) d.seats ≡ false)
+    (list_any (λ (s : SeatRow). nat_eq seat s.seat) d.seats ≡ false) × (list_any (λ (s : SeatRow). nat_eq t s.ticket) d.seats ≡ false)
 
 -- nobody sits
 abbrev pub all_free : Desk → Desk

@@ -3,6 +3,7 @@ use Rattle.std.specs.Prelude.{◌≡◌, ℕ, suc, ℤ, pos, ◌≤◌, ◌<◌,
 use Rattle.std.specs.List.{AllByRecursion}
 use Rattle.std.specs.Ordering.{int_cmp}
 use Rattle.sqlite.specs.Tree.{Trees}
+use Rattle.sqlite.specs.Effect.{Database}
 use Rattle.sqlite.specs.Order.{Row}
 use Rattle.isad_core.specs.Days.{is_day_number}
 use Rattle.isad_core.specs.Limits.{most_orders, most_tickets, most_runs}
@@ -47,6 +48,10 @@ pub record ShowsDesk (db : Trees) (d : Desk) : Type 0 where
   pub few_runs : length d.runs ≤ most_runs
   pub run_lines : HasNumbered run_line_cells (db 8) d.run_lines
   pub permits : HasNumbered permit_cells (db 10) d.permits
+
+-- the same of the database, beside nothing else
+abbrev pub ShowsRoom : Database → ⊤ → Desk → Type 0
+ShowsRoom db beside d = ShowsDesk db.trees d
 
 -- ---- what can be read back: names that are UTF-8, days of the calendar, seats and states that there are
 

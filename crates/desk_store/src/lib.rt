@@ -8,8 +8,9 @@ mod holdings;
 mod making;
 mod orders;
 mod queues;
+mod readers;
 mod runs;
-mod seats;
+mod seating;
 
 pub use blank::is_blank;
 pub use cards::{LiveOrder, ReaderCard};
@@ -18,5 +19,6 @@ pub use holdings::{FirstOrder, Loan};
 pub use making::create_desk;
 pub use orders::{OrderState, PlacedOrder, WaitingOrder};
 pub use queues::ContainerQueue;
+pub use readers::{add_reader, renew};
 pub use runs::Brought;
-pub use seats::TakenSeat;
+pub use seating::{TakenSeat, seats, set_seat};

@@ -1,0 +1,94 @@
+-- A reader more, on the whole desk: first the next ticket is read, then the row is put.
+use Rattle.std.proofs.Common.{◌≡◌, ℕ, suc, ◌+◌, ◌<◌, ℤ, pos, false, cond, nat_eq, List, [], ◌∷◌, ◌++◌, map, length, Option, Some, None, Result, Ok, Err, inl, inr, refl, sym, ap, subst, ◌∙◌, arith}
+use Rattle.std.specs.Prelude.{⊤, nat_lt}
+use Rattle.std.specs.List.{list_any}
+use Rattle.std.specs.Result.{IsErr, IsErrAnd}
+use Rattle.std.proofs.lemmas.Bool.{cases_Bool, ltb-true}
+use Rattle.std.proofs.lemmas.List.{length-append}
+use Rattle.isad_core.specs.Texts.{Bytes}
+use Rattle.sqlite.specs.Effect.{Database}
+use Rattle.sqlite.specs.Held.{Held, state}
+use Rattle.sqlite.specs.State.{State, HasCleanDisk}
+use Rattle.sqlite.specs.Tree.{put_row}
+use Rattle.sqlite_trees.specs.declared.store.Store as store
+use Rattle.desk_core.specs.Checks.{most_tickets}
+use Rattle.desk_core.specs.DeskRows.{Desk, ReaderRow}
+use Rattle.office_tables.specs.Calls.{Makes}
+use Rattle.office_tables.specs.Faults.{IsUnlimited, HasCause}
+use Rattle.office_tables.specs.Schema.{reader}
+use Rattle.office_tables.specs.Step.{Goes, Holds, IsCut, Looks, OnlyTouches, PutsRow}
+use Rattle.office_tables.specs.declared.fault.StoreFault.{StoreFault}
+use Rattle.office_tables.proofs.Calls.{early, goes_then, cut_then}
+use Rattle.office_tables.proofs.Causes.{still_unlimited}
+use Rattle.office_tables.proofs.LaterCauses.{next_cause}
+use Rattle.office_tables.proofs.Puts.{put_rows}
+use Rattle.desk_store.specs.Readers.{next_ticket, with_reader}
+use Rattle.desk_store.specs.Rows.{reader_cells}
+use Rattle.desk_store.specs.Shows.{ShowsDesk, ShowsRoom, IsLegible}
+use Rattle.desk_store.proofs.Counted.{counted_more, counted_free, put_end}
+use Rattle.desk_store.proofs.Frames.{with_readers}
+
+-- where there is a next ticket, it is one more than those that were given
+next_is : (d : Desk) (t : ℕ) → Some t ≡ next_ticket d → (t ≡ 1 + length d.readers) × (length d.readers < most_tickets)
+next_is d t h = elim (cases_Bool (nat_lt (length d.readers) most_tickets)) [
+  | inl left ↦ (let e : Some t ≡ Some (suc (length d.readers)) = h ∙ ap (λ b. cond b (Some (suc (length d.readers))) None) left in let k : t ≡ suc (length d.readers) = cc in k ∙ omega arith, ltb-true (length d.readers) most_tickets left)
+  | inr none ↦ absurd (let e : Some t ≡ None = h ∙ ap (λ b. cond b (Some (suc (length d.readers))) None) none in cc)
+]
+
+module _ {S : Type 0} (g : store.Ghosts S) (before mid after : Held S) (name : Bytes) (until : ℤ) (ticket : ℕ) where
+  abbrev a : State
+  a = state g before
+
+  abbrev b : State
+  b = state g mid
+
+  abbrev c : State
+  c = state g after
+
+  abbrev row : ReaderRow
+  row = record { ticket = ticket; name = name; until = until }
+
+  module _ (looked : Looks a b) (is : HasCleanDisk b → (d : Desk) → ShowsDesk a.now.trees d → Some ticket ≡ next_ticket d) where
+    still_shown : HasCleanDisk b → (d : Desk) → ShowsDesk a.now.trees d → ShowsDesk b.now.trees d
+    still_shown clean d shown = subst (λ (db : Database). ShowsDesk db.trees d) (sym (looked.same clean)) shown
+
+    put : HasCleanDisk b → PutsRow 0 (reader_cells row) b.now c.now → (d : Desk) → ShowsDesk a.now.trees d → ShowsDesk c.now.trees (with_reader (next_ticket d) name until d)
+    put clean puts d shown =
+        let at = is clean d shown in
+        let n = next_is d ticket at in
+        let few = n.1 in
+        let there = still_shown clean d shown in
+        subst (λ o. ShowsDesk c.now.trees (with_reader o name until d)) at
+        (with_readers b.now c.now d there (d.readers ++ row ∷ []) puts.only
+        (puts.rows ∙ ap (put_row (reader_cells row)) there.readers ∙ put_rows reader_cells (λ (r : ReaderRow). pos r.ticket) (λ _. refl) row d.readers
+        ∙ ap (map reader_cells) (put_end (λ (r : ReaderRow). r.ticket) 1 d.readers row shown.tickets n.0))
+        (counted_more (λ (r : ReaderRow). r.ticket) 1 d.readers row shown.tickets n.0)
+        (let size = length-append d.readers (row ∷ []) in omega (arith, size, few)))
+
+    pub added : Goes b c → (HasCleanDisk c → PutsRow 0 (reader_cells row) b.now c.now) → Makes g ShowsRoom IsLegible before after (Ok (Some ticket)) (λ _. ⊤) (λ d. with_reader (next_ticket d) name until d) (0 ∷ [])
+    added goes puts =
+        let back = early b c _ goes.on.crash in
+        record {
+          shows_made = λ clean beside d shown may. put (back clean) (puts clean) d shown;
+          only = λ clean. subst (λ (db : Database). OnlyTouches (0 ∷ []) db c.now) (looked.same (back clean)) (puts clean).only;
+          goes = goes_then a b c looked.goes goes;
+          cut = tt;
+          faults = λ beside d shown may kept clean free. tt;
+        }
+
+    pub failed : (e : StoreFault) → IsCut b c
+        → ((xs : List ReaderRow) → Holds reader reader_cells b xs → list_any (λ (r : ReaderRow). nat_eq ticket r.ticket) xs ≡ false → HasCleanDisk c → IsUnlimited b → HasCause b c e)
+        → Makes {X = Option ℕ} g ShowsRoom IsLegible before after (Err e) (λ _. ⊤) (λ d. with_reader (next_ticket d) name until d) (0 ∷ [])
+    failed e cut why = record {
+      shows_made = λ clean beside d shown may. tt;
+      only = λ clean. tt;
+      goes = tt;
+      cut = cut_then a b c looked.goes.on cut;
+      faults = λ beside d shown may kept clean free. next_cause a b c looked.goes.on cut clean e (λ cleaner.
+          why d.readers (still_shown cleaner d shown).readers (counted_free (λ (r : ReaderRow). r.ticket) 1 d.readers ticket shown.tickets (next_is d ticket (is cleaner d shown)).0) clean (still_unlimited a b looked.goes.on free));
+    }
+
+-- a fault that is handed on is the same fault
+pub handed_on : {X : Type 0} (r : Result X StoreFault) (e : StoreFault) → IsErr r → IsErrAnd r (λ f. f ≡ e) → r ≡ Err e
+handed_on (Ok x) e h k = absurd (cc)
+handed_on (Err f) e h k = ap Err k

@@ -1,0 +1,177 @@
+-- The statements on the rows of readers: what their texts mean, what they leave or tell, and why they fail.
+use Rattle.std.proofs.Common.{◌≡◌, ◌≤◌, ◌<◌, ◌^◌, ℕ, zero, suc, ℤ, pos, List, [], ◌∷◌, map, length, drop, codes, Bool, true, false, not, ◌&&◌, if◌then◌else◌, ltb, Result, OnOk, IfOk, IfErr, nat_eq, refl, ap, ◌∙◌, arith}
+use Rattle.std.proofs.Math.Nat.{le_refl}
+use Rattle.std.proofs.lemmas.Bool.{ltb-true}
+use Rattle.std.specs.List.{list_any, list_all}
+use Rattle.sqlite.specs.declared.types.Value.TheVariants.{Null, Int, Text}
+use Rattle.sqlite.specs.Order.{Row, column}
+use Rattle.sqlite.specs.Cast.{cast_row}
+use Rattle.sqlite.specs.Edit.{edit_of, is_taken}
+use Rattle.sqlite.specs.Effect.{value_rows}
+use Rattle.sqlite.specs.Rowids.TheVariants.{Chosen}
+use Rattle.sqlite.specs.Term.{Term, lit, col, op2}
+use Rattle.sqlite.specs.Collation.TheVariants.{Binary}
+use Rattle.sqlite.specs.Command.{Command}
+use Rattle.sqlite.specs.Command.TheVariants.{Insert, Update, Select}
+use Rattle.sqlite.specs.Source.TheVariants.{Values}
+use Rattle.sqlite.specs.Listing.{understood}
+use Rattle.sqlite.specs.State.{State, IsLive}
+use Rattle.sqlite.specs.Tree.{Trees}
+use Rattle.sqlite_schema.specs.Names.{same_name}
+use Rattle.sqlite_schema.specs.Rules.{agree, guards}
+use Rattle.sqlite_sql.specs.declared.ops.BinaryOp.TheVariants.{Compare}
+use Rattle.sqlite_sql.specs.declared.ops.CompareOp.TheVariants.{Eq}
+use Rattle.sqlite_tied.specs.Compute.{everything}
+use Rattle.sqlite_value.specs.Keys.{joined}
+use Rattle.tree_core.specs.Versions.{Version, Links, Spans}
+use Rattle.desk_core.specs.Checks.{most_tickets}
+use Rattle.desk_core.specs.DeskRows.{ReaderRow}
+use Rattle.office_tables.specs.Asking.{FindsFirst, Misses}
+use Rattle.office_tables.specs.Changing.{Ran}
+use Rattle.office_tables.specs.Faults.{IsUnlimited, HasCause}
+use Rattle.office_tables.specs.Meaning.{Means}
+use Rattle.office_tables.specs.Schema.{schema, reader}
+use Rattle.office_tables.specs.Step.{Holds, HasRows, OnlyTouches, PutsRow}
+use Rattle.office_tables.specs.declared.fault.StoreFault.{StoreFault}
+use Rattle.desk_store.specs.Readers.{renewed}
+use Rattle.desk_store.specs.Rows.{reader_cells}
+use Rattle.desk_store.specs.Shows.{AreCounted}
+use Rattle.office_tables.proofs.Casts.{cast_int, cast_null}
+use Rattle.office_tables.proofs.Fresh.{not_there}
+use Rattle.office_tables.proofs.InsertCauses.{IsWelcome}
+use Rattle.office_tables.proofs.InsertOf.{insert_puts, insert_faults}
+use Rattle.office_tables.proofs.Tests.{only, same_number}
+use Rattle.office_tables.proofs.UpdateCauses.{KeepsTable}
+use Rattle.office_tables.proofs.UpdateOf.{changing, update_leaves, update_faults}
+use Rattle.desk_store.proofs.Counted.{counted_rises}
+use Rattle.desk_store.proofs.LastOf.{last_of, last_finds, last_faults}
+use Rattle.desk_store.proofs.OnlyOf.{update_only}
+
+-- ---- a new reader
+
+abbrev pub insert_reader_text : List ℕ
+insert_reader_text = codes "INSERT INTO reader (ticket, name, until) VALUES (?1, ?2, ?3)"
+
+abbrev pub insert_reader_terms : List Term
+insert_reader_terms = col 0 0 ∷ lit Null ∷ col 0 1 ∷ col 0 2 ∷ []
+
+abbrev pub insert_reader_command : Command
+insert_reader_command = Insert 0 (Values insert_reader_terms 4)
+
+pub insert_reader_means : (v : Version) → Means v insert_reader_text 3 insert_reader_command
+unfolding understood everything
+insert_reader_means Links = record { is = refl; plain = (refl, refl); whole = (le_refl _, refl, refl); unlisted = refl }
+insert_reader_means Spans = record { is = refl; plain = (refl, refl); whole = (le_refl _, refl, refl); unlisted = refl }
+
+reader_alone : (v : Version) (db : Trees) (row : Row) → list_all (λ i. not (guards i reader && list_any (λ r. agree i.order i.columns r i.columns row) (db 0))) (schema v).indexes ≡ true
+reader_alone Links db row = refl
+reader_alone Spans db row = refl
+
+reader_welcome : (r : ReaderRow) (xs : List ReaderRow) (v : Version) (db : Trees) → db 0 ≡ map reader_cells xs → list_any (λ (x : ReaderRow). nat_eq r.ticket x.ticket) xs ≡ false → IsWelcome (schema v) db reader (reader_cells r)
+reader_welcome r xs v db stored none = record {
+  keyed = refl;
+  free = ap (λ rows. is_taken rows (reader_cells r)) stored ∙ not_there reader_cells (λ x. x.ticket) (λ _. refl) r.ticket (reader_cells r) refl xs none;
+  typed = refl;
+  present = refl;
+  checked = refl;
+  alone = reader_alone v db (reader_cells r);
+  referred = refl;
+  parents = refl;
+}
+
+module _ (old new : State) (x : ReaderRow) (v : Version) (has : old.now.schema ≡ schema v) where
+  abbrev params : Row
+  params = Int (pos x.ticket) ∷ Text x.name ∷ Int x.until ∷ []
+
+  news : (edit_of old.now.trees reader [] Chosen 0 (value_rows params 4 1 insert_reader_terms)).news ≡ reader_cells x ∷ []
+  news = rw (cast_int (pos x.ticket), cast_null, cast_int x.until) refl
+
+  pub insert_reader_puts : (r : Result Unit StoreFault) → Ran insert_reader_text params old new r → OnOk r (PutsRow 0 (reader_cells x) old.now new.now)
+  insert_reader_puts = insert_puts v 0 reader refl insert_reader_text insert_reader_terms 4 params (insert_reader_means v) old new has (reader_cells x) news
+
+  pub insert_reader_faults : (xs : List ReaderRow) → Holds reader reader_cells old xs → list_any (λ (r : ReaderRow). nat_eq x.ticket r.ticket) xs ≡ false → IsUnlimited old → IsLive old
+      → (r : Result Unit StoreFault) → Ran insert_reader_text params old new r → IfErr r (HasCause old new)
+  insert_reader_faults xs stored none =
+      insert_faults v 0 reader refl insert_reader_text insert_reader_terms 4 params (insert_reader_means v) old new has (reader_cells x) news refl (reader_welcome x xs v old.now.trees stored none)
+
+-- ---- another last day
+
+abbrev pub set_last_day_text : List ℕ
+set_last_day_text = codes "UPDATE reader SET until = ?2 WHERE ticket = ?1"
+
+abbrev with_its_number : List Term
+with_its_number = op2 (Compare Eq Binary) (col 1 0) (col 0 0) ∷ []
+
+abbrev set_last_day_columns : List Term
+set_last_day_columns = col 1 0 ∷ col 1 0 ∷ lit Null ∷ col 1 2 ∷ col 0 1 ∷ []
+
+abbrev pub set_last_day_command : Command
+set_last_day_command = Update 0 (changing reader with_its_number set_last_day_columns)
+
+pub set_last_day_means : (v : Version) → Means v set_last_day_text 2 set_last_day_command
+unfolding understood everything
+set_last_day_means Links = record { is = refl; plain = (refl, refl); whole = (le_refl _, refl, refl); unlisted = refl }
+set_last_day_means Spans = record { is = refl; plain = (refl, refl); whole = (le_refl _, refl, refl); unlisted = refl }
+
+-- the ticket stays
+abbrev kept_of_reader : ℕ → Bool
+kept_of_reader p = ltb p 2
+
+reader_kept : (v : Version) → KeepsTable kept_of_reader (schema v) 0 reader
+unfolding joined same_name
+reader_kept Links = record { listed = refl; apart = refl; spared = refl; fits = refl }
+reader_kept Spans = record { listed = refl; apart = refl; spared = refl; fits = refl }
+
+abbrev renewed_to : ℤ → ReaderRow → ReaderRow
+renewed_to until r = record r { until = until }
+
+reader_alike : (until : ℤ) (r : ReaderRow) (p : ℕ) → ltb p 2 ≡ true → column (reader_cells r) p ≡ column (reader_cells (renewed_to until r)) p
+reader_alike until r zero h = refl
+reader_alike until r (suc zero) h = refl
+reader_alike until r (suc (suc p)) h = absurd (omega (arith, ltb-true _ _ h))
+
+module _ (old new : State) (t : ℕ) (until : ℤ) (v : Version) (has : old.now.schema ≡ schema v) (r : Result Unit StoreFault) (ran : Ran set_last_day_text (Int (pos t) ∷ Int until ∷ []) old new r) where
+  pub set_last_day_only : OnOk r (OnlyTouches (0 ∷ []) old.now new.now)
+  set_last_day_only = update_only v 0 reader refl set_last_day_text _ (Int (pos t) ∷ Int until ∷ []) old new has (set_last_day_means v) r ran
+
+  module _ (xs : List ReaderRow) (stored : Holds reader reader_cells old xs) (counted : AreCounted (λ (x : ReaderRow). x.ticket) xs) where
+    abbrev source : ReaderRow → Row
+    source x = Int (pos x.ticket) ∷ Int (pos x.ticket) ∷ Null ∷ Text x.name ∷ Int until ∷ []
+
+    casts : (x : ReaderRow) → cast_row reader (drop 1 (source x)) ≡ reader_cells (renewed_to until x)
+    casts x = rw (cast_int (pos x.ticket), cast_null, cast_int until) refl
+
+    pub set_last_day_leaves : OnOk r (HasRows 0 (map reader_cells (renewed t until xs)) old.now new.now)
+    set_last_day_leaves =
+        update_leaves v 0 reader refl set_last_day_text with_its_number set_last_day_columns (Int (pos t) ∷ Int until ∷ []) (set_last_day_means v) old new has reader_cells (λ x. pos x.ticket) (λ _. refl) xs stored (counted_rises (λ (x : ReaderRow). x.ticket) 1 xs counted)
+        (λ (x : ReaderRow). nat_eq t x.ticket) (λ x. only (same_number x.ticket t)) source (λ _. refl) (λ _. refl) (renewed_to until) (λ _. refl) (λ x _ _. casts x) r ran
+
+    pub set_last_day_faults : IsUnlimited old → IsLive old → IfErr r (HasCause old new)
+    set_last_day_faults free live =
+        update_faults v 0 reader refl set_last_day_text with_its_number set_last_day_columns (Int (pos t) ∷ Int until ∷ []) (set_last_day_means v) old new has reader_cells (λ x. pos x.ticket) (λ _. refl) xs stored (counted_rises (λ (x : ReaderRow). x.ticket) 1 xs counted)
+        (λ (x : ReaderRow). nat_eq t x.ticket) (λ x. only (same_number x.ticket t)) source (λ _. refl) (λ _. refl) (renewed_to until) (λ _. refl) (λ x _ _. casts x)
+        kept_of_reader (reader_kept v) (reader_alike until) (λ _. refl) (λ _. refl) (λ _. refl) refl free live r ran
+
+-- ---- the greatest ticket
+
+abbrev pub last_ticket_text : List ℕ
+last_ticket_text = codes "SELECT ticket FROM reader ORDER BY ticket DESC LIMIT 1"
+
+abbrev pub last_ticket_command : Command
+last_ticket_command = Select (last_of reader) (codes "ticket" ∷ [])
+
+pub last_ticket_means : (v : Version) → Means v last_ticket_text 0 last_ticket_command
+unfolding understood everything
+last_ticket_means Links = record { is = refl; plain = (refl, refl); whole = (le_refl _, refl, refl); unlisted = refl }
+last_ticket_means Spans = record { is = refl; plain = (refl, refl); whole = (le_refl _, refl, refl); unlisted = refl }
+
+module _ (old new : State) (v : Version) (has : old.now.schema ≡ schema v) (xs : List ReaderRow) (stored : Holds reader reader_cells old xs) (counted : AreCounted (λ (x : ReaderRow). x.ticket) xs) (r : Result ℕ StoreFault) where
+  pub last_ticket_finds : IfOk r (FindsFirst last_ticket_text [] old new) → IfOk r (λ n. n ≡ length xs)
+  last_ticket_finds = last_finds (λ (x : ReaderRow). x.ticket) v reader last_ticket_text (codes "ticket" ∷ []) (last_ticket_means v) old new has reader_cells (λ _. refl) xs stored counted r
+
+  pub last_ticket_faults : length xs ≤ most_tickets → IsUnlimited old → IfErr r (Misses (λ n. Int (pos n) ∷ []) (λ n. n < 2 ^ 32) last_ticket_text [] old new) → IfErr r (HasCause old new)
+  last_ticket_faults few free = last_faults (λ (x : ReaderRow). x.ticket) v reader last_ticket_text (codes "ticket" ∷ []) (last_ticket_means v) old new has reader_cells (λ _. refl) xs stored counted refl (omega (arith, few)) free r
+
+-- a ticket that is renewed is the same ticket
+pub same_tickets : (t : ℕ) (until : ℤ) (r : ReaderRow) → (if nat_eq t r.ticket then renewed_to until r else r).ticket ≡ r.ticket
+same_tickets t until r = elim (nat_eq t r.ticket) as (λ b. (if b then renewed_to until r else r).ticket ≡ r.ticket) [ true ↦ refl | false ↦ refl ]

@@ -1,0 +1,56 @@
+-- A seat that is taken or freed, on the whole desk.
+use Rattle.std.proofs.Common.{◌≡◌, ℕ, ℤ, pos, List, [], ◌∷◌, map, filter, false, not, nat_eq, Some, None, Result, OnOk, refl, ap, ◌∙◌}
+use Rattle.std.specs.List.{list_any}
+use Rattle.sqlite.specs.Held.{Held, state}
+use Rattle.sqlite.specs.State.{State, HasCleanDisk}
+use Rattle.sqlite.specs.Tree.{put_row}
+use Rattle.sqlite_trees.proofs.ListLemmas.{ascending-filter}
+use Rattle.sqlite_trees.specs.declared.store.Store as store
+use Rattle.desk_core.specs.DeskRows.{SeatRow}
+use Rattle.office_tables.specs.Calls.{Makes}
+use Rattle.office_tables.specs.Changing.{Leaves}
+use Rattle.office_tables.specs.Faults.{Excused}
+use Rattle.office_tables.specs.Schema.{seat}
+use Rattle.office_tables.specs.Step.{Holds, HasRows, PutsRow, OnlyTouches}
+use Rattle.office_tables.specs.declared.fault.StoreFault.{StoreFault}
+use Rattle.office_tables.proofs.Calls.{on_ok_then}
+use Rattle.office_tables.proofs.Puts.{put_rows, put_rises}
+use Rattle.desk_store.specs.Rows.{seat_cells}
+use Rattle.desk_store.specs.Seats.{MayTake, with_seat}
+use Rattle.desk_store.specs.Shows.{AreByNumber, ShowsRoom, IsLegible}
+use Rattle.desk_store.proofs.Frames.{with_seats}
+
+abbrev seat_key : SeatRow → ℤ
+seat_key s = pos s.seat
+
+module _ {S : Type 0} (g : store.Ghosts S) (before after : Held S) (r : Result Unit StoreFault) where
+  abbrev old : State
+  old = state g before
+
+  abbrev new : State
+  new = state g after
+
+  pub takes : (n t : ℕ) → Leaves old new r → (HasCleanDisk new → OnOk r (PutsRow 1 (seat_cells (record { seat = n; ticket = t })) old.now new.now))
+      → ((xs : List SeatRow) → Holds seat seat_cells old xs → list_any (λ (s : SeatRow). nat_eq n s.seat) xs ≡ false → list_any (λ (s : SeatRow). nat_eq t s.ticket) xs ≡ false → Excused old new r)
+      → Makes g ShowsRoom IsLegible before after r (MayTake n (Some t)) (with_seat n (Some t)) (1 ∷ [])
+  takes n t leaves puts faults = record {
+    shows_made = λ clean beside d shown may. on_ok_then r _ _ (λ put.
+        with_seats old.now new.now d shown _ put.only
+        (put.rows ∙ ap (put_row (seat_cells (record { seat = n; ticket = t }))) shown.seats ∙ put_rows seat_cells seat_key (λ _. refl) (record { seat = n; ticket = t }) d.seats)
+        (put_rises seat_cells seat_key (λ _. refl) (record { seat = n; ticket = t }) d.seats shown.seats_rise)) (puts clean);
+    only = λ clean. on_ok_then r _ _ (λ put. put.only) (puts clean);
+    goes = leaves.goes;
+    cut = leaves.cut;
+    faults = λ beside d shown may kept. faults d.seats shown.seats may.0 may.1;
+  }
+
+  pub frees : (n : ℕ) → Leaves old new r → (HasCleanDisk new → (xs : List SeatRow) → Holds seat seat_cells old xs → AreByNumber (λ (s : SeatRow). s.seat) xs → OnOk r (HasRows 1 (map seat_cells (filter (λ (s : SeatRow). not (nat_eq n s.seat)) xs)) old.now new.now))
+      → Excused old new r → (HasCleanDisk new → OnOk r (OnlyTouches (1 ∷ []) old.now new.now)) → Makes g ShowsRoom IsLegible before after r (MayTake n None) (with_seat n None) (1 ∷ [])
+  frees n leaves rows faults only = record {
+    shows_made = λ clean beside d shown may. on_ok_then r _ _ (λ has.
+        with_seats old.now new.now d shown _ has.only has.are (ascending-filter _ (λ (s : SeatRow). not (nat_eq n s.seat)) d.seats shown.seats_rise)) (rows clean d.seats shown.seats shown.seats_rise);
+    only = only;
+    goes = leaves.goes;
+    cut = leaves.cut;
+    faults = λ beside d shown may kept. faults;
+  }

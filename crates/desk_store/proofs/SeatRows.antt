@@ -1,0 +1,214 @@
+-- The statements on the rows of seats: what their texts mean, what they leave or tell, and why they fail.
+use Rattle.std.proofs.Common.{◌≡◌, ◌<◌, ◌^◌, ℕ, pos, List, [], ◌∷◌, map, filter, codes, true, false, not, ◌&&◌, Result, OnOk, IfOk, IfErr, nat_eq, refl, ap, ◌∙◌}
+use Rattle.std.proofs.Math.Nat.{le_refl}
+use Rattle.std.specs.Cmp.{IsTotalOrder, on_total, int_cmp_total}
+use Rattle.std.specs.List.{AllByRecursion, list_any, list_all}
+use Rattle.std.specs.Ordering.{int_cmp}
+use Rattle.std.specs.declared.cmp.Ordering.{Ordering}
+use Rattle.sqlite.specs.declared.types.Value.TheVariants.{Null, Int}
+use Rattle.sqlite.specs.Order.{Row}
+use Rattle.sqlite.specs.Edit.{edit_of, is_taken}
+use Rattle.sqlite.specs.Effect.{value_rows}
+use Rattle.sqlite.specs.Rowids.TheVariants.{Chosen}
+use Rattle.sqlite.specs.Term.{Term, lit, col, op2}
+use Rattle.sqlite.specs.Collation.TheVariants.{Binary}
+use Rattle.sqlite.specs.Command.{Command}
+use Rattle.sqlite.specs.Command.TheVariants.{Insert, Delete, Select}
+use Rattle.sqlite.specs.Source.TheVariants.{Values}
+use Rattle.sqlite.specs.Listing.{understood}
+use Rattle.sqlite.specs.State.{State, IsLive}
+use Rattle.sqlite.specs.Tree.{Trees}
+use Rattle.sqlite_schema.specs.Names.{same_name}
+use Rattle.sqlite_schema.specs.Rules.{agree, guards, references_fit}
+use Rattle.sqlite_sql.specs.declared.ops.BinaryOp.TheVariants.{Compare}
+use Rattle.sqlite_sql.specs.declared.ops.CompareOp.TheVariants.{Eq}
+use Rattle.sqlite_tied.specs.Compute.{everything}
+use Rattle.sqlite_value.specs.declared.keys.Key.{Key}
+use Rattle.sqlite_value.specs.Keys.{ascending, joined, first_key, plain}
+use Rattle.tree_core.specs.Versions.{Version, Links, Spans}
+use Rattle.desk_core.specs.DeskRows.{SeatRow}
+use Rattle.office_tables.specs.Asking.{Finds, Misses}
+use Rattle.office_tables.specs.Changing.{Ran}
+use Rattle.office_tables.specs.Faults.{IsUnlimited, HasCause}
+use Rattle.office_tables.specs.Meaning.{Means}
+use Rattle.office_tables.specs.Order.{IsOrdered}
+use Rattle.office_tables.specs.Schema.{schema, seat}
+use Rattle.office_tables.specs.Step.{Holds, HasRows, OnlyTouches, PutsRow}
+use Rattle.office_tables.specs.declared.fault.StoreFault.{StoreFault}
+use Rattle.desk_store.specs.Rows.{seat_cells}
+use Rattle.desk_store.specs.Shows.{AreByNumber}
+use Rattle.desk_store.specs.declared.seating.TakenSeat.{TakenSeat}
+use Rattle.office_tables.proofs.Casts.{cast_int, cast_null}
+use Rattle.office_tables.proofs.DeleteOf.{removing, delete_leaves, delete_faults}
+use Rattle.office_tables.proofs.Fresh.{any_mapped, not_there}
+use Rattle.office_tables.proofs.InsertCauses.{IsWelcome}
+use Rattle.office_tables.proofs.InsertOf.{insert_puts, insert_faults}
+use Rattle.office_tables.proofs.SelectOf.{asking, select_finds, select_faults}
+use Rattle.office_tables.proofs.Steps.{is_referred_to}
+use Rattle.office_tables.proofs.Tests.{only, same_number, by_one_int}
+use Rattle.desk_store.proofs.OnlyOf.{delete_only}
+
+-- ---- a seat is taken
+
+abbrev pub insert_seat_text : List ℕ
+insert_seat_text = codes "INSERT INTO seat (seat, ticket) VALUES (?1, ?2)"
+
+abbrev pub insert_seat_terms : List Term
+insert_seat_terms = col 0 0 ∷ lit Null ∷ col 0 1 ∷ []
+
+abbrev pub insert_seat_command : Command
+insert_seat_command = Insert 1 (Values insert_seat_terms 3)
+
+pub insert_seat_means : (v : Version) → Means v insert_seat_text 2 insert_seat_command
+unfolding understood everything
+insert_seat_means Links = record { is = refl; plain = (refl, refl); whole = (le_refl _, refl, refl); unlisted = refl }
+insert_seat_means Spans = record { is = refl; plain = (refl, refl); whole = (le_refl _, refl, refl); unlisted = refl }
+
+same_ticket : (a b : SeatRow) → agree plain (2 ∷ []) (seat_cells a) (2 ∷ []) (seat_cells b) ≡ nat_eq b.ticket a.ticket
+unfolding first_key
+same_ticket a b = only (same_number a.ticket b.ticket)
+
+seat_alone : (v : Version) (db : Trees) (row : Row) → list_any (λ r. agree plain (2 ∷ []) r (2 ∷ []) row) (db 1) ≡ false
+    → list_all (λ i. not (guards i seat && list_any (λ r. agree i.order i.columns r i.columns row) (db 1))) (schema v).indexes ≡ true
+seat_alone Links db row h = rw h refl
+seat_alone Spans db row h = rw h refl
+
+seat_welcome : (s : SeatRow) (xs : List SeatRow) (v : Version) (db : Trees) → db 1 ≡ map seat_cells xs → list_any (λ (x : SeatRow). nat_eq s.seat x.seat) xs ≡ false → list_any (λ (x : SeatRow). nat_eq s.ticket x.ticket) xs ≡ false
+    → IsWelcome (schema v) db seat (seat_cells s)
+seat_welcome s xs v db stored none other = record {
+  keyed = refl;
+  free = ap (λ rows. is_taken rows (seat_cells s)) stored ∙ not_there seat_cells (λ x. x.seat) (λ _. refl) s.seat (seat_cells s) refl xs none;
+  typed = refl;
+  present = refl;
+  checked = refl;
+  alone = seat_alone v db (seat_cells s) (ap (list_any (λ r. agree plain (2 ∷ []) r (2 ∷ []) (seat_cells s))) stored ∙ any_mapped seat_cells _ (λ (x : SeatRow). nat_eq s.ticket x.ticket) (λ a. same_ticket a s) xs ∙ other);
+  referred = refl;
+  parents = refl;
+}
+
+module _ (old new : State) (s : SeatRow) (v : Version) (has : old.now.schema ≡ schema v) where
+  abbrev params : Row
+  params = Int (pos s.seat) ∷ Int (pos s.ticket) ∷ []
+
+  news : (edit_of old.now.trees seat [] Chosen 0 (value_rows params 3 1 insert_seat_terms)).news ≡ seat_cells s ∷ []
+  news = rw (cast_int (pos s.seat), cast_null, cast_int (pos s.ticket)) refl
+
+  pub insert_seat_puts : (r : Result Unit StoreFault) → Ran insert_seat_text params old new r → OnOk r (PutsRow 1 (seat_cells s) old.now new.now)
+  insert_seat_puts = insert_puts v 1 seat refl insert_seat_text insert_seat_terms 3 params (insert_seat_means v) old new has (seat_cells s) news
+
+  pub insert_seat_faults : (xs : List SeatRow) → Holds seat seat_cells old xs → list_any (λ (x : SeatRow). nat_eq s.seat x.seat) xs ≡ false → list_any (λ (x : SeatRow). nat_eq s.ticket x.ticket) xs ≡ false → IsUnlimited old → IsLive old
+      → (r : Result Unit StoreFault) → Ran insert_seat_text params old new r → IfErr r (HasCause old new)
+  insert_seat_faults xs stored none other =
+      insert_faults v 1 seat refl insert_seat_text insert_seat_terms 3 params (insert_seat_means v) old new has (seat_cells s) news refl (seat_welcome s xs v old.now.trees stored none other)
+
+-- ---- a seat is freed
+
+abbrev pub clear_seat_text : List ℕ
+clear_seat_text = codes "DELETE FROM seat WHERE seat = ?1"
+
+abbrev with_its_number : List Term
+with_its_number = op2 (Compare Eq Binary) (col 1 0) (col 0 0) ∷ []
+
+abbrev pub clear_seat_command : Command
+clear_seat_command = Delete 1 (removing seat with_its_number (col 1 0 ∷ []))
+
+pub clear_seat_means : (v : Version) → Means v clear_seat_text 1 clear_seat_command
+unfolding understood everything
+clear_seat_means Links = record { is = refl; plain = (refl, refl); whole = (le_refl _, refl, refl); unlisted = refl }
+clear_seat_means Spans = record { is = refl; plain = (refl, refl); whole = (le_refl _, refl, refl); unlisted = refl }
+
+seat_unreferred : (v : Version) → is_referred_to (schema v) 1 ≡ false
+unfolding joined same_name
+seat_unreferred Links = refl
+seat_unreferred Spans = refl
+
+seat_fits : (v : Version) → references_fit (schema v) seat false true ≡ true
+unfolding joined same_name
+seat_fits Links = refl
+seat_fits Spans = refl
+
+module _ (old new : State) (n : ℕ) (v : Version) (has : old.now.schema ≡ schema v) (r : Result Unit StoreFault) (ran : Ran clear_seat_text (Int (pos n) ∷ []) old new r) where
+  pub clear_seat_leaves : (xs : List SeatRow) → Holds seat seat_cells old xs → AreByNumber (λ (s : SeatRow). s.seat) xs → OnOk r (HasRows 1 (map seat_cells (filter (λ (s : SeatRow). not (nat_eq n s.seat)) xs)) old.now new.now)
+  clear_seat_leaves xs stored up =
+      delete_leaves v 1 seat refl (seat_unreferred v) clear_seat_text with_its_number (col 1 0 ∷ []) (Int (pos n) ∷ []) (clear_seat_means v) old new has seat_cells (λ s. pos s.seat) (λ _. refl) xs stored up
+      (λ (s : SeatRow). nat_eq n s.seat) (λ s. only (same_number s.seat n)) (λ s. Int (pos s.seat) ∷ []) (λ _. refl) (λ _. refl) r ran
+
+  pub clear_seat_only : OnOk r (OnlyTouches (1 ∷ []) old.now new.now)
+  clear_seat_only = delete_only v 1 seat refl clear_seat_text _ (Int (pos n) ∷ []) old new has (seat_unreferred v) (clear_seat_means v) r ran
+
+  pub clear_seat_faults : IsUnlimited old → IsLive old → IfErr r (HasCause old new)
+  clear_seat_faults free live =
+      delete_faults v 1 seat refl (seat_unreferred v) clear_seat_text with_its_number (col 1 0 ∷ []) (Int (pos n) ∷ []) (clear_seat_means v) old new has (seat_fits v) refl free live r ran
+
+-- ---- the seats that are taken
+
+abbrev pub by_seat : SeatRow → SeatRow → Ordering
+by_seat a b = int_cmp (pos a.seat) (pos b.seat)
+
+pub by_seat_total : IsTotalOrder by_seat
+by_seat_total = on_total (λ (s : SeatRow). pos s.seat) int_cmp_total
+
+abbrev pub taken : SeatRow → TakenSeat
+taken s = record { seat = s.seat; ticket = s.ticket }
+
+abbrev pub taken_cells : TakenSeat → Row
+taken_cells s = Int (pos s.seat) ∷ Int (pos s.ticket) ∷ []
+
+abbrev in_order : List (Term × Key)
+in_order = (col 1 0, ascending Binary) ∷ []
+
+abbrev taken_columns : List Term
+taken_columns = col 1 0 ∷ col 1 2 ∷ []
+
+abbrev taken_names : List (List ℕ)
+taken_names = codes "seat" ∷ codes "ticket" ∷ []
+
+abbrev pub seats_text : List ℕ
+seats_text = codes "SELECT seat, ticket FROM seat ORDER BY seat"
+
+abbrev pub seats_command : Command
+seats_command = Select (asking seat [] taken_columns in_order) taken_names
+
+pub seats_means : (v : Version) → Means v seats_text 0 seats_command
+unfolding understood everything
+seats_means Links = record { is = refl; plain = (refl, refl); whole = (le_refl _, refl, refl); unlisted = refl }
+seats_means Spans = record { is = refl; plain = (refl, refl); whole = (le_refl _, refl, refl); unlisted = refl }
+
+abbrev pub seats_with_text : List ℕ
+seats_with_text = codes "SELECT seat, ticket FROM seat WHERE ticket = ?1 ORDER BY seat"
+
+abbrev with_the_ticket : List Term
+with_the_ticket = op2 (Compare Eq Binary) (col 1 2) (col 0 0) ∷ []
+
+abbrev pub seats_with_command : Command
+seats_with_command = Select (asking seat with_the_ticket taken_columns in_order) taken_names
+
+pub seats_with_means : (v : Version) → Means v seats_with_text 1 seats_with_command
+unfolding understood everything
+seats_with_means Links = record { is = refl; plain = (refl, refl); whole = (le_refl _, refl, refl); unlisted = refl }
+seats_with_means Spans = record { is = refl; plain = (refl, refl); whole = (le_refl _, refl, refl); unlisted = refl }
+
+module _ (old new : State) (v : Version) (has : old.now.schema ≡ schema v) (xs : List SeatRow) (stored : Holds seat seat_cells old xs) {X : Type 0} (items : X → List TakenSeat) (r : Result X StoreFault) where
+  pub seats_finds : IfOk r (λ found. Finds taken_cells seats_text [] old new (items found)) → IfOk r (λ found. (ys : List SeatRow) × IsOrdered by_seat (filter (λ _. true) xs) ys × (items found ≡ map taken ys))
+  seats_finds =
+      select_finds v seat seats_text [] taken_columns in_order taken_names [] (seats_means v) old new has seat_cells xs stored
+      (λ _. true) (λ _. refl) (λ s. taken_cells (taken s)) (λ (s : SeatRow). Int (pos s.seat) ∷ []) (λ _. refl) by_seat (λ _. refl) (λ a b. by_one_int (pos a.seat) (pos b.seat))
+      taken_cells items taken (λ _. refl) r
+
+  pub seats_faults : AllByRecursion (λ (s : SeatRow). s.seat < 2 ^ 32) xs → IsUnlimited old → IfErr r (Misses taken_cells (λ s. s.seat < 2 ^ 32) seats_text [] old new) → IfErr r (HasCause old new)
+  seats_faults legible free =
+      select_faults v seat seats_text [] taken_columns in_order taken_names [] (seats_means v) old new has seat_cells xs stored
+      (λ _. true) (λ _. refl) (λ s. taken_cells (taken s)) (λ (s : SeatRow). Int (pos s.seat) ∷ []) (λ _. refl) by_seat (λ _. refl) (λ a b. by_one_int (pos a.seat) (pos b.seat))
+      taken_cells items taken (λ _. refl) (λ s. s.seat < 2 ^ 32) refl free legible r
+
+  pub seats_with_finds : (t : ℕ) → IfOk r (λ found. Finds taken_cells seats_with_text (Int (pos t) ∷ []) old new (items found)) → IfOk r (λ found. (ys : List SeatRow) × IsOrdered by_seat (filter (λ (s : SeatRow). nat_eq t s.ticket) xs) ys × (items found ≡ map taken ys))
+  seats_with_finds t =
+      select_finds v seat seats_with_text with_the_ticket taken_columns in_order taken_names (Int (pos t) ∷ []) (seats_with_means v) old new has seat_cells xs stored
+      (λ (s : SeatRow). nat_eq t s.ticket) (λ s. only (same_number s.ticket t)) (λ s. taken_cells (taken s)) (λ (s : SeatRow). Int (pos s.seat) ∷ []) (λ _. refl) by_seat (λ _. refl) (λ a b. by_one_int (pos a.seat) (pos b.seat))
+      taken_cells items taken (λ _. refl) r
+
+  pub seats_with_faults : (t : ℕ) → AllByRecursion (λ (s : SeatRow). s.seat < 2 ^ 32) xs → IsUnlimited old → IfErr r (Misses taken_cells (λ s. s.seat < 2 ^ 32) seats_with_text (Int (pos t) ∷ []) old new) → IfErr r (HasCause old new)
+  seats_with_faults t legible free =
+      select_faults v seat seats_with_text with_the_ticket taken_columns in_order taken_names (Int (pos t) ∷ []) (seats_with_means v) old new has seat_cells xs stored
+      (λ (s : SeatRow). nat_eq t s.ticket) (λ s. only (same_number s.ticket t)) (λ s. taken_cells (taken s)) (λ (s : SeatRow). Int (pos s.seat) ∷ []) (λ _. refl) by_seat (λ _. refl) (λ a b. by_one_int (pos a.seat) (pos b.seat))
+      taken_cells items taken (λ _. refl) (λ s. s.seat < 2 ^ 32) refl free legible r

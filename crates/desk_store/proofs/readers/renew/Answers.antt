@@ -1,0 +1,27 @@
+use Rattle.std.proofs.Common.{sym, subst, ◌≤◌}
+use Rattle.std.proofs.lemmas.List.{length-map}
+use Rattle.sqlite.specs.Held.{state}
+use Rattle.desk_core.specs.Checks.{most_tickets}
+use Rattle.desk_core.specs.DeskRows.{ReaderRow}
+use Rattle.office_tables.proofs.Calls.{on_ok_then}
+use Rattle.desk_store.proofs.Counted.{counted_again}
+use Rattle.desk_store.proofs.Frames.{with_readers}
+use Rattle.desk_store.proofs.ReaderRows.{same_tickets}
+use Rattle.desk_store.proofs.readers.renew.Goals as goal
+
+pub returns : goal.returns
+returns g c =
+    let old = state g.S.Store c.args.conn.now in
+    let new = state g.S.Store c.set_last_day.new.conn in
+    record {
+      makes = record {
+        shows_made = λ clean beside d shown may. on_ok_then c.set_last_day.result _ _ (λ has.
+            with_readers old.now new.now d shown _ has.only has.are
+            (counted_again (λ (r : ReaderRow). r.ticket) 1 _ (same_tickets c.args.ticket c.args.until) d.readers shown.tickets)
+            (subst (λ n. n ≤ most_tickets) (sym (length-map d.readers _)) shown.few_tickets)) (c.set_last_day.ensures.rows clean d.readers shown.readers shown.tickets);
+        only = c.set_last_day.ensures.only;
+        goes = c.set_last_day.ensures.leaves.goes;
+        cut = c.set_last_day.ensures.leaves.cut;
+        faults = λ beside d shown may kept. c.set_last_day.ensures.faults d.readers shown.readers shown.tickets;
+      };
+    }

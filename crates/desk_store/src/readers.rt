@@ -1,0 +1,121 @@
+//! Tickets and their readers.
+
+ghost use Rattle.std.specs.Prelude.{◌≡◌, ◌<◌, ◌≤◌, ◌^◌, ℕ, nat_eq, false, if◌then◌else◌, List, [], ◌∷◌, map, filter, length, OnOk, IfOk, IfSome, ⊤};
+ghost use Rattle.std.specs.List.{AllByRecursion, list_any};
+ghost use Rattle.sqlite.specs.Held.{state};
+ghost use Rattle.sqlite.specs.State.{HasCleanDisk};
+ghost use Rattle.desk_core.specs.Checks.{most_tickets};
+ghost use Rattle.desk_core.specs.DeskRows.{Desk, ReaderRow};
+ghost use Rattle.office_tables.specs.Asking.{Reads};
+ghost use Rattle.office_tables.specs.Calls.{Makes, Tells};
+ghost use Rattle.office_tables.specs.Changing.{Leaves};
+ghost use Rattle.office_tables.specs.Faults.{Excused};
+ghost use Rattle.office_tables.specs.Schema as tables;
+ghost use Rattle.office_tables.specs.Step.{InOffice, Holds, HasRows, OnlyTouches, PutsRow};
+ghost use Rattle.desk_store.specs.Readers.{next_ticket, with_reader, renewed, with_last_day};
+ghost use Rattle.desk_store.specs.Rows.{reader_cells};
+ghost use Rattle.desk_store.specs.Shows.{AreCounted, ShowsDesk, ShowsRoom, IsLegible};
+
+use isad_core::{Day, Text};
+use office_tables::value::{day, number, words};
+use office_tables::{StoreFault, change, find_number};
+use sqlite::{Alter, Connection};
+
+/// How many tickets there may ever be.
+const MOST_TICKETS: u32 = 1_000_000;
+
+/// How many tickets were given: the greatest of them, which is at the table's end.
+fn last_ticket<S: Alter>(conn: &mut Connection<S>) -> Result<u32, StoreFault>
+    requires inside { InOffice (state S.Store conn.old) }
+    ensures reads { Reads (state S.Store conn.old) (state S.Store conn.new) result }
+    ensures number { HasCleanDisk (state S.Store conn.new) → (xs : List ReaderRow) → Holds tables.reader reader_cells (state S.Store conn.old) xs → AreCounted (λ r. r.ticket) xs → IfOk result (λ n. n ≡ length xs) }
+    ensures faults { (xs : List ReaderRow) → Holds tables.reader reader_cells (state S.Store conn.old) xs → AreCounted (λ r. r.ticket) xs → length xs ≤ most_tickets → Excused (state S.Store conn.old) (state S.Store conn.new) result }
+{
+    find_number(
+        conn,
+        "SELECT ticket FROM reader ORDER BY ticket DESC LIMIT 1",
+        &[],
+    )
+}
+
+/// Adds a reader under a ticket that was not given.
+fn insert_reader<S: Alter>(
+    conn: &mut Connection<S>,
+    ticket: u64,
+    name: &Text,
+    until: Day,
+) -> Result<(), StoreFault>
+    requires inside { InOffice (state S.Store conn.old) }
+    requires small { ticket < 2 ^ 63 }
+    ensures leaves { Leaves (state S.Store conn.old) (state S.Store conn.new) result }
+    ensures puts { HasCleanDisk (state S.Store conn.new) → OnOk result (PutsRow tables.reader.tree (reader_cells (record { ticket = ticket; name = name.now; until = until })) (state S.Store conn.old).now (state S.Store conn.new).now) }
+    ensures faults { (xs : List ReaderRow) → Holds tables.reader reader_cells (state S.Store conn.old) xs → list_any (λ r. nat_eq ticket r.ticket) xs ≡ false → Excused (state S.Store conn.old) (state S.Store conn.new) result }
+{
+    change(
+        conn,
+        "INSERT INTO reader (ticket, name, until) VALUES (?1, ?2, ?3)",
+        &[number(ticket), words(name), day(until)],
+    )
+}
+
+/// Gives a ticket another last day. It is found by its number.
+fn set_last_day<S: Alter>(
+    conn: &mut Connection<S>,
+    ticket: u64,
+    until: Day,
+) -> Result<(), StoreFault>
+    requires inside { InOffice (state S.Store conn.old) }
+    requires small { ticket < 2 ^ 63 }
+    ensures leaves { Leaves (state S.Store conn.old) (state S.Store conn.new) result }
+    ensures rows { HasCleanDisk (state S.Store conn.new) → (xs : List ReaderRow) → Holds tables.reader reader_cells (state S.Store conn.old) xs → AreCounted (λ r. r.ticket) xs → OnOk result (HasRows tables.reader.tree (map reader_cells (renewed ticket until xs)) (state S.Store conn.old).now (state S.Store conn.new).now) }
+    ensures only { HasCleanDisk (state S.Store conn.new) → OnOk result (OnlyTouches (tables.reader.tree ∷ []) (state S.Store conn.old).now (state S.Store conn.new).now) }
+    ensures faults { (xs : List ReaderRow) → Holds tables.reader reader_cells (state S.Store conn.old) xs → AreCounted (λ r. r.ticket) xs → Excused (state S.Store conn.old) (state S.Store conn.new) result }
+{
+    change(
+        conn,
+        "UPDATE reader SET until = ?2 WHERE ticket = ?1",
+        &[number(ticket), day(until)],
+    )
+}
+
+/// Renews a ticket to another last day, earlier or later.
+pub fn renew<S: Alter>(conn: &mut Connection<S>, ticket: u64, until: Day) -> Result<(), StoreFault>
+    requires inside { InOffice (state S.Store conn.old) }
+    requires small { ticket < 2 ^ 63 }
+    ensures makes { Makes S.Store ShowsRoom IsLegible conn.old conn.new result (λ _. ⊤) (with_last_day ticket until) (tables.reader.tree ∷ []) }
+{
+    set_last_day(conn, ticket, until)
+}
+
+/// The next ticket, or none where none is left.
+fn next_number<S: Alter>(conn: &mut Connection<S>) -> Result<Option<u64>, StoreFault>
+    requires inside { InOffice (state S.Store conn.old) }
+    ensures reads { Reads (state S.Store conn.old) (state S.Store conn.new) result }
+    ensures number { HasCleanDisk (state S.Store conn.new) → (d : Desk) → ShowsDesk (state S.Store conn.old).now.trees d → IfOk result (λ ticket. ticket ≡ next_ticket d) }
+    ensures small { IfOk result (λ ticket. IfSome ticket (λ n. n < 2 ^ 63)) }
+    ensures faults { (d : Desk) → ShowsDesk (state S.Store conn.old).now.trees d → Excused (state S.Store conn.old) (state S.Store conn.new) result }
+{
+    let last = last_ticket(conn)?;
+    if last < MOST_TICKETS {
+        Ok(Some(u64::from(last) + 1))
+    } else {
+        Ok(None)
+    }
+}
+
+/// Adds a reader: the new ticket, or none where no ticket is left.
+pub fn add_reader<S: Alter>(
+    conn: &mut Connection<S>,
+    name: &Text,
+    until: Day,
+) -> Result<Option<u64>, StoreFault>
+    requires inside { InOffice (state S.Store conn.old) }
+    ensures number { HasCleanDisk (state S.Store conn.new) → (d : Desk) → ShowsDesk (state S.Store conn.old).now.trees d → IfOk result (λ ticket. ticket ≡ next_ticket d) }
+    ensures makes { Makes S.Store ShowsRoom IsLegible conn.old conn.new result (λ _. ⊤) (λ d. with_reader (next_ticket d) name.now until d) (tables.reader.tree ∷ []) }
+{
+    let Some(ticket) = next_number(conn)? else {
+        return Ok(None);
+    };
+    insert_reader(conn, ticket, name, until)?;
+    Ok(Some(ticket))
+}
