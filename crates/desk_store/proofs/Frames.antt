@@ -2,7 +2,7 @@
 use Rattle.std.proofs.Common.{◌≡◌, ◌≤◌, ℤ, List, [], ◌∷◌, map, length, refl, sym, subst, ◌∙◌}
 use Rattle.sqlite.specs.Effect.{Database}
 use Rattle.sqlite.specs.Order.{Row}
-use Rattle.desk_core.specs.Checks.{most_orders, most_tickets, most_runs}
+use Rattle.isad_core.specs.Limits.{most_orders, most_tickets, most_runs}
 use Rattle.desk_core.specs.DeskRows.{Desk, ReaderRow, SeatRow, OrderRow, HoldingRow, RunRow, RunLineRow, PermitRow}
 use Rattle.office_tables.specs.Step.{OnlyTouches}
 use Rattle.desk_store.specs.Rows.{reader_cells, seat_cells, order_cells, holding_cells, run_cells, run_line_cells, permit_cells}

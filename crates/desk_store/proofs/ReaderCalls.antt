@@ -11,7 +11,7 @@ use Rattle.sqlite.specs.Held.{Held, state}
 use Rattle.sqlite.specs.State.{State, HasCleanDisk}
 use Rattle.sqlite.specs.Tree.{put_row}
 use Rattle.sqlite_trees.specs.declared.store.Store as store
-use Rattle.desk_core.specs.Checks.{most_tickets}
+use Rattle.isad_core.specs.Limits.{most_tickets}
 use Rattle.desk_core.specs.DeskRows.{Desk, ReaderRow}
 use Rattle.office_tables.specs.Calls.{Makes}
 use Rattle.office_tables.specs.Faults.{IsUnlimited, HasCause}

@@ -24,7 +24,7 @@ use Rattle.sqlite_sql.specs.declared.ops.CompareOp.TheVariants.{Eq}
 use Rattle.sqlite_tied.specs.Compute.{everything}
 use Rattle.sqlite_value.specs.Keys.{joined}
 use Rattle.tree_core.specs.Versions.{Version, Links, Spans}
-use Rattle.desk_core.specs.Checks.{most_tickets}
+use Rattle.isad_core.specs.Limits.{most_tickets}
 use Rattle.desk_core.specs.DeskRows.{ReaderRow}
 use Rattle.office_tables.specs.Asking.{FindsFirst, Misses}
 use Rattle.office_tables.specs.Changing.{Ran}
