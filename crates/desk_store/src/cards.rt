@@ -1,7 +1,24 @@
 //! What the desk knows of a ticket.
 
+ghost use Rattle.std.specs.Prelude.{◌≡◌, ◌<◌, ◌≤◌, ◌^◌, ◌&&◌, nat_eq, List as Rows, length, IfOk};
+ghost use Rattle.std.specs.List.{count_by};
+ghost use Rattle.std.specs.Ordering.{int_eq};
+ghost use Rattle.sqlite.specs.Held.{state};
+ghost use Rattle.sqlite.specs.State.{HasCleanDisk};
+ghost use Rattle.desk_core.specs.Checks.{most_orders};
+ghost use Rattle.desk_core.specs.DeskRows.{OrderRow};
+ghost use Rattle.office_tables.specs.Asking.{Reads};
+ghost use Rattle.office_tables.specs.Faults.{Excused};
+ghost use Rattle.office_tables.specs.Schema as tables;
+ghost use Rattle.office_tables.specs.Step.{InOffice, Holds};
+ghost use Rattle.desk_store.specs.Rows.{order_cells};
+ghost use Rattle.desk_store.specs.Shows.{AreCounted};
+
 use desk_core::Reader;
-use isad_core::{List, Text};
+use isad_core::{Day, List, Text};
+use office_tables::value::{day, number};
+use office_tables::{StoreFault, find_number};
+use sqlite::{Alter, Connection};
 
 /// An order that waits or is out.
 #[derive(Debug, Clone, Copy, PartialEq, Eq)]
@@ -23,4 +40,34 @@ pub struct ReaderCard {
     pub placed: u32,
     /// How many orders there are, of all tickets.
     pub orders: u64,
+}
+
+/// How many orders there are, of all tickets: the greatest number, which is at the table's end.
+pub(crate) fn last_order<S: Alter>(conn: &mut Connection<S>) -> Result<u32, StoreFault>
+    requires inside { InOffice (state S.Store conn.old) }
+    ensures reads { Reads (state S.Store conn.old) (state S.Store conn.new) result }
+    ensures number { HasCleanDisk (state S.Store conn.new) → (xs : Rows OrderRow) → Holds tables.orders order_cells (state S.Store conn.old) xs → length xs ≤ most_orders → AreCounted (λ o. o.id) xs → IfOk result (λ n. n ≡ length xs) }
+    ensures faults { (xs : Rows OrderRow) → Holds tables.orders order_cells (state S.Store conn.old) xs → length xs ≤ most_orders → AreCounted (λ o. o.id) xs → Excused (state S.Store conn.old) (state S.Store conn.new) result }
+{
+    find_number(conn, "SELECT id FROM orders ORDER BY id DESC LIMIT 1", &[])
+}
+
+/// How many orders a ticket placed on a day, ended ones too. They are counted by the index of the
+/// orders by ticket and day, so that those of other days are not looked at.
+pub(crate) fn placed_on<S: Alter>(
+    conn: &mut Connection<S>,
+    ticket: u64,
+    on: Day,
+) -> Result<u32, StoreFault>
+    requires inside { InOffice (state S.Store conn.old) }
+    requires small { ticket < 2 ^ 63 }
+    ensures reads { Reads (state S.Store conn.old) (state S.Store conn.new) result }
+    ensures number { HasCleanDisk (state S.Store conn.new) → (xs : Rows OrderRow) → Holds tables.orders order_cells (state S.Store conn.old) xs → length xs ≤ most_orders → IfOk result (λ n. n ≡ count_by (λ (o : OrderRow). nat_eq ticket o.ticket && int_eq o.day on) xs) }
+    ensures faults { (xs : Rows OrderRow) → Holds tables.orders order_cells (state S.Store conn.old) xs → length xs ≤ most_orders → Excused (state S.Store conn.old) (state S.Store conn.new) result }
+{
+    find_number(
+        conn,
+        "SELECT count(*) FROM orders WHERE ticket = ?1 AND day = ?2",
+        &[number(ticket), day(on)],
+    )
 }
