@@ -4,6 +4,8 @@ pub mod SeatRows
 pub mod Frames
 pub mod Counted
 pub mod LastOf
+pub mod CountOf
+pub mod CardRows
 pub mod ReaderRows
 pub mod ReaderCalls
 pub mod SeatCalls

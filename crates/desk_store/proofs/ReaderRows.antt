@@ -1,9 +1,15 @@
 -- The statements on the rows of readers: what their texts mean, what they leave or tell, and why they fail.
-use Rattle.std.proofs.Common.{◌≡◌, ◌≤◌, ◌<◌, ◌^◌, ℕ, zero, suc, ℤ, pos, List, [], ◌∷◌, map, length, drop, codes, Bool, true, false, not, ◌&&◌, if◌then◌else◌, ltb, Result, OnOk, IfOk, IfErr, nat_eq, refl, ap, ◌∙◌, arith}
+use Rattle.std.proofs.Common.{◌≡◌, ◌≤◌, ◌<◌, ◌^◌, ℕ, zero, suc, ℤ, pos, List, [], ◌∷◌, map, filter, length, drop, codes, Bool, true, false, not, ◌&&◌, if◌then◌else◌, ltb, Result, OnOk, IfOk, IfErr, nat_eq, refl, ap, ◌∙◌, arith}
 use Rattle.std.proofs.Math.Nat.{le_refl}
 use Rattle.std.proofs.lemmas.Bool.{ltb-true}
 use Rattle.std.specs.List.{list_any, list_all}
 use Rattle.sqlite.specs.declared.types.Value.TheVariants.{Null, Int, Text}
+use Rattle.std.specs.Prelude.{IsUtf8}
+use Rattle.std.specs.Cmp.{IsTotalOrder, on_total, int_cmp_total}
+use Rattle.std.specs.List.{AllByRecursion}
+use Rattle.std.specs.Ordering.{int_cmp}
+use Rattle.std.specs.declared.cmp.Ordering.{Ordering}
+use Rattle.isad_core.specs.Days.{is_day_number}
 use Rattle.sqlite.specs.Order.{Row, column}
 use Rattle.sqlite.specs.Cast.{cast_row}
 use Rattle.sqlite.specs.Edit.{edit_of, is_taken}
@@ -22,25 +28,30 @@ use Rattle.sqlite_schema.specs.Rules.{agree, guards}
 use Rattle.sqlite_sql.specs.declared.ops.BinaryOp.TheVariants.{Compare}
 use Rattle.sqlite_sql.specs.declared.ops.CompareOp.TheVariants.{Eq}
 use Rattle.sqlite_tied.specs.Compute.{everything}
-use Rattle.sqlite_value.specs.Keys.{joined}
+use Rattle.sqlite_trees.proofs.ListLemmas.{all_weaker}
+use Rattle.sqlite_value.specs.declared.keys.Key.{Key}
+use Rattle.sqlite_value.specs.Keys.{ascending, joined}
 use Rattle.tree_core.specs.Versions.{Version, Links, Spans}
 use Rattle.isad_core.specs.Limits.{most_tickets}
 use Rattle.desk_core.specs.DeskRows.{ReaderRow}
-use Rattle.office_tables.specs.Asking.{FindsFirst, Misses}
+use Rattle.office_tables.specs.Asking.{Finds, FindsFirst, Misses}
 use Rattle.office_tables.specs.Changing.{Ran}
 use Rattle.office_tables.specs.Faults.{IsUnlimited, HasCause}
 use Rattle.office_tables.specs.Meaning.{Means}
+use Rattle.office_tables.specs.Order.{IsOrdered}
 use Rattle.office_tables.specs.Schema.{schema, reader}
 use Rattle.office_tables.specs.Step.{Holds, HasRows, OnlyTouches, PutsRow}
 use Rattle.office_tables.specs.declared.fault.StoreFault.{StoreFault}
 use Rattle.desk_store.specs.Readers.{renewed}
 use Rattle.desk_store.specs.Rows.{reader_cells}
-use Rattle.desk_store.specs.Shows.{AreCounted}
+use Rattle.desk_store.specs.Shows.{AreCounted, IsLegibleReader}
+use Rattle.desk_store.specs.declared.readers.NamedReader.{NamedReader}
 use Rattle.office_tables.proofs.Casts.{cast_int, cast_null}
 use Rattle.office_tables.proofs.Fresh.{not_there}
 use Rattle.office_tables.proofs.InsertCauses.{IsWelcome}
 use Rattle.office_tables.proofs.InsertOf.{insert_puts, insert_faults}
-use Rattle.office_tables.proofs.Tests.{only, same_number}
+use Rattle.office_tables.proofs.SelectOf.{asking, select_finds, select_faults}
+use Rattle.office_tables.proofs.Tests.{only, same_number, by_one_int}
 use Rattle.office_tables.proofs.UpdateCauses.{KeepsTable}
 use Rattle.office_tables.proofs.UpdateOf.{changing, update_leaves, update_faults}
 use Rattle.desk_store.proofs.Counted.{counted_rises}
@@ -151,6 +162,56 @@ module _ (old new : State) (t : ℕ) (until : ℤ) (v : Version) (has : old.now.
         update_faults v 0 reader refl set_last_day_text with_its_number set_last_day_columns (Int (pos t) ∷ Int until ∷ []) (set_last_day_means v) old new has reader_cells (λ x. pos x.ticket) (λ _. refl) xs stored (counted_rises (λ (x : ReaderRow). x.ticket) 1 xs counted)
         (λ (x : ReaderRow). nat_eq t x.ticket) (λ x. only (same_number x.ticket t)) source (λ _. refl) (λ _. refl) (renewed_to until) (λ _. refl) (λ x _ _. casts x)
         kept_of_reader (reader_kept v) (reader_alike until) (λ _. refl) (λ _. refl) (λ _. refl) refl free live r ran
+
+-- ---- the reader with a ticket
+
+abbrev pub by_ticket : ReaderRow → ReaderRow → Ordering
+by_ticket a b = int_cmp (pos a.ticket) (pos b.ticket)
+
+pub by_ticket_total : IsTotalOrder by_ticket
+by_ticket_total = on_total (λ (r : ReaderRow). pos r.ticket) int_cmp_total
+
+abbrev pub named : ReaderRow → NamedReader
+named r = record { name = r.name; until = r.until }
+
+abbrev pub named_cells : NamedReader → Row
+named_cells r = Text r.name ∷ Int r.until ∷ []
+
+abbrev pub IsNamed : NamedReader → Type 0
+IsNamed r = IsUtf8 r.name × (is_day_number r.until ≡ true)
+
+abbrev in_order : List (Term × Key)
+in_order = (col 1 0, ascending Binary) ∷ []
+
+abbrev named_columns : List Term
+named_columns = col 1 2 ∷ col 1 3 ∷ []
+
+abbrev named_names : List (List ℕ)
+named_names = codes "name" ∷ codes "until" ∷ []
+
+abbrev pub readers_with_text : List ℕ
+readers_with_text = codes "SELECT name, until FROM reader WHERE ticket = ?1 ORDER BY ticket"
+
+abbrev pub readers_with_command : Command
+readers_with_command = Select (asking reader with_its_number named_columns in_order) named_names
+
+pub readers_with_means : (v : Version) → Means v readers_with_text 1 readers_with_command
+unfolding understood everything
+readers_with_means Links = record { is = refl; plain = (refl, refl); whole = (le_refl _, refl, refl); unlisted = refl }
+readers_with_means Spans = record { is = refl; plain = (refl, refl); whole = (le_refl _, refl, refl); unlisted = refl }
+
+module _ (old new : State) (t : ℕ) (v : Version) (has : old.now.schema ≡ schema v) (xs : List ReaderRow) (stored : Holds reader reader_cells old xs) {X : Type 0} (items : X → List NamedReader) (r : Result X StoreFault) where
+  pub readers_with_finds : IfOk r (λ found. Finds named_cells readers_with_text (Int (pos t) ∷ []) old new (items found)) → IfOk r (λ found. (ys : List ReaderRow) × IsOrdered by_ticket (filter (λ (x : ReaderRow). nat_eq t x.ticket) xs) ys × (items found ≡ map named ys))
+  readers_with_finds =
+      select_finds v reader readers_with_text with_its_number named_columns in_order named_names (Int (pos t) ∷ []) (readers_with_means v) old new has reader_cells xs stored
+      (λ (x : ReaderRow). nat_eq t x.ticket) (λ x. only (same_number x.ticket t)) (λ x. named_cells (named x)) (λ (x : ReaderRow). Int (pos x.ticket) ∷ []) (λ _. refl) by_ticket (λ _. refl) (λ a b. by_one_int (pos a.ticket) (pos b.ticket))
+      named_cells items named (λ _. refl) r
+
+  pub readers_with_faults : AllByRecursion IsLegibleReader xs → IsUnlimited old → IfErr r (Misses named_cells IsNamed readers_with_text (Int (pos t) ∷ []) old new) → IfErr r (HasCause old new)
+  readers_with_faults legible free =
+      select_faults v reader readers_with_text with_its_number named_columns in_order named_names (Int (pos t) ∷ []) (readers_with_means v) old new has reader_cells xs stored
+      (λ (x : ReaderRow). nat_eq t x.ticket) (λ x. only (same_number x.ticket t)) (λ x. named_cells (named x)) (λ (x : ReaderRow). Int (pos x.ticket) ∷ []) (λ _. refl) by_ticket (λ _. refl) (λ a b. by_one_int (pos a.ticket) (pos b.ticket))
+      named_cells items named (λ _. refl) IsNamed refl free (all_weaker IsLegibleReader (λ x. IsNamed (named x)) (λ x h. (h.name, h.until)) xs legible) r
 
 -- ---- the greatest ticket
 

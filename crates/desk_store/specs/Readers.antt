@@ -51,7 +51,7 @@ held_with t d = count_by (λ (o : OrderRow). nat_eq t o.ticket && nat_eq o.state
 
 -- how many orders the ticket placed on a day, ended ones too
 abbrev pub placed_on : ℕ → ℤ → Desk → ℕ
-placed_on t day d = count_by (λ (o : OrderRow). nat_eq t o.ticket && int_eq day o.day) d.orders
+placed_on t day d = count_by (λ (o : OrderRow). nat_eq t o.ticket && int_eq o.day day) d.orders
 
 -- the reader's card on a day
 abbrev pub card_of : ℕ → ℤ → Desk → Option ReaderCard

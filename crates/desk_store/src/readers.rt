@@ -14,15 +14,66 @@ ghost use Rattle.office_tables.specs.Schema as tables;
 ghost use Rattle.office_tables.specs.Step.{InOffice, Holds, HasRows, OnlyTouches, PutsRow};
 ghost use Rattle.desk_store.specs.Readers.{next_ticket, with_reader, renewed, with_last_day};
 ghost use Rattle.desk_store.specs.Rows.{reader_cells};
-ghost use Rattle.desk_store.specs.Shows.{AreCounted, ShowsDesk, ShowsRoom, IsLegible};
+ghost use Rattle.desk_store.specs.Shows.{AreCounted, IsLegibleReader, ShowsDesk, ShowsRoom, IsLegible};
 
 use isad_core::{Day, Text};
+use office_tables::answer::FromRow;
 use office_tables::value::{day, number, words};
-use office_tables::{StoreFault, change, find_number};
-use sqlite::{Alter, Connection};
+use office_tables::{StoreFault, change, find, find_number};
+use sqlite::{Alter, Connection, Row};
+use std::alloc::Global;
 
 /// How many tickets there may ever be.
 const MOST_TICKETS: u32 = 1_000_000;
+
+/// What the table tells of a ticket.
+#[derive(Debug, Drop)]
+pub(crate) struct NamedReader {
+    pub name: Text,
+    /// The last day of the ticket.
+    pub until: Day,
+}
+
+impl FromRow for NamedReader {
+    ghost use Rattle.std.specs.Prelude.{◌≡◌, [], ◌∷◌, true, IsUtf8};
+    ghost use Rattle.sqlite.specs.declared.types.Value.TheVariants.{Int, Text as words_cell};
+    ghost use Rattle.isad_core.specs.Days.{is_day_number};
+
+    ghost cells = { λ r. words_cell r.name ∷ Int r.until ∷ [] };
+
+    ghost is_legible = { λ r. IsUtf8 r.name × (is_day_number r.until ≡ true) };
+
+    fn read(row: &Row) -> Result<NamedReader, StoreFault> {
+        let number: i32 = row.get(1)?;
+        let Some(until) = Day::from_number(number) else {
+            return Err(StoreFault::Schema);
+        };
+        Ok(NamedReader {
+            name: Text(row.get(0)?),
+            until,
+        })
+    }
+}
+
+/// The reader with a ticket: one, or none. A ticket is the number of its row.
+pub(crate) fn readers_with<S: Alter>(
+    alloc: Global,
+    conn: &mut Connection<S>,
+    ticket: u64,
+) -> Result<Vec<NamedReader>, StoreFault>
+    requires inside { InOffice (state S.Store conn.old) }
+    requires small { ticket < 2 ^ 63 }
+    ensures reads { Reads (state S.Store conn.old) (state S.Store conn.new) result }
+    ensures rows { HasCleanDisk (state S.Store conn.new) → (xs : List ReaderRow) → Holds tables.reader reader_cells (state S.Store conn.old) xs → AreCounted (λ r. r.ticket) xs → IfOk result (λ found. found.items ≡ map (λ (r : ReaderRow). record { name = r.name; until = r.until }) (filter (λ r. nat_eq ticket r.ticket) xs)) }
+    ensures faults { (xs : List ReaderRow) → Holds tables.reader reader_cells (state S.Store conn.old) xs → AllByRecursion IsLegibleReader xs → Excused (state S.Store conn.old) (state S.Store conn.new) result }
+{
+    find(
+        alloc,
+        conn,
+        "SELECT name, until FROM reader WHERE ticket = ?1 ORDER BY ticket",
+        &[number(ticket)],
+    )
+}
 
 /// How many tickets were given: the greatest of them, which is at the table's end.
 fn last_ticket<S: Alter>(conn: &mut Connection<S>) -> Result<u32, StoreFault>
