@@ -32,7 +32,7 @@ use Rattle.sqlite_sql.specs.declared.ops.BinaryOp.TheVariants.{Compare}
 use Rattle.sqlite_sql.specs.declared.ops.CompareOp.TheVariants.{Eq}
 use Rattle.sqlite_tied.specs.Compute.{everything}
 use Rattle.tree_core.specs.Versions.{Version, Links, Spans}
-use Rattle.desk_core.specs.Checks.{most_orders}
+use Rattle.isad_core.specs.Limits.{most_orders}
 use Rattle.desk_core.specs.DeskRows.{OrderRow}
 use Rattle.office_tables.specs.Asking.{FindsFirst, Misses}
 use Rattle.office_tables.specs.Faults.{IsUnlimited, HasCause}
