@@ -5,12 +5,14 @@ pub mod Statuses
 pub mod Parts
 pub mod Finding
 pub mod UnitWrites
+pub mod ElementStatements
+pub mod ContainerStatements
+pub mod HousingStatements
 pub mod UnitQueries
 pub mod Inserts
 pub mod Selects
 pub mod Changes
 pub mod LinkChanges
-pub mod UnitReads
 pub mod OfficeChanges
 pub mod BoxNumbers
 pub mod Numbered
@@ -35,4 +37,3 @@ pub mod DeleteFaults
 pub mod UnitFaults
 pub mod LinkReadCauses
 pub mod Untold
-pub mod BoxCauses
