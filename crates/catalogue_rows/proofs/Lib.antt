@@ -5,12 +5,14 @@ pub mod Statuses
 pub mod Parts
 pub mod Finding
 pub mod UnitWrites
+pub mod ElementStatements
+pub mod ContainerStatements
+pub mod HousingStatements
 pub mod UnitQueries
 pub mod Inserts
 pub mod Selects
 pub mod Changes
 pub mod LinkWrites
-pub mod UnitReads
 pub mod OfficeChanges
 pub mod BoxNumbers
 pub mod Numbered
@@ -30,7 +32,5 @@ pub mod ReadCauses
 pub mod LinkQueries
 pub mod InsertFaults
 pub mod ChangeCauses
-pub mod DeleteFaults
 pub mod UnitFaults
 pub mod Untold
-pub mod BoxCauses

@@ -23,7 +23,7 @@ use Rattle.office_tables.proofs.Puts.{put_rows}
 use Rattle.office_tables.proofs.Rows.{had}
 use Rattle.office_tables.proofs.Sorted.{only_order, head_below}
 use Rattle.catalogue_rows.proofs.Offices.{length-counted}
-use Rattle.catalogue_rows.proofs.UnitReads.{from_the_last}
+use Rattle.catalogue_rows.proofs.ContainerStatements.{from_the_last}
 
 pub below_less : (m n : ℕ) → m < n → int_cmp (pos m) (pos n) ≡ Less
 below_less m n h = rw (lt-ltb m n h) refl

@@ -40,7 +40,8 @@ use Rattle.office_tables.specs.Schema.{schema, unit, element, housing, permit, t
 use Rattle.office_tables.specs.Step.{OnlyTouches}
 use Rattle.catalogue_core.specs.Units.{Unit}
 use Rattle.office_tables.proofs.Cascades.{IsCascade, three_works, cascade_rows, cascade_apart}
-use Rattle.catalogue_rows.proofs.Changes.{element_alone, housing_alone}
+use Rattle.catalogue_rows.proofs.ElementStatements.{element_alone}
+use Rattle.catalogue_rows.proofs.HousingStatements.{housing_alone}
 use Rattle.catalogue_rows.proofs.Moves.{other_number}
 use Rattle.office_tables.proofs.Queries.{plain_query, answers}
 use Rattle.office_tables.proofs.Rows.{tests as tests_of}

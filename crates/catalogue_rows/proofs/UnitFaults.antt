@@ -41,9 +41,9 @@ use Rattle.tree_core.specs.Versions.{Version, Links, Spans}
 use Rattle.office_tables.specs.Schema.{schema, place_table, unit, element, housing, permit, to_unit}
 use Rattle.catalogue_core.specs.Units.{Unit}
 use Rattle.office_tables.proofs.Causes.{none_refuse, sums_nothing}
-use Rattle.catalogue_rows.proofs.Changes.{element_alone, housing_alone}
+use Rattle.catalogue_rows.proofs.ElementStatements.{element_alone, element_fits}
+use Rattle.catalogue_rows.proofs.HousingStatements.{housing_alone, housing_fits}
 use Rattle.office_tables.proofs.DeleteCauses.{IsLeaf, delete_cause}
-use Rattle.catalogue_rows.proofs.DeleteFaults.{element_fits, housing_fits}
 use Rattle.office_tables.specs.Meaning.{Means}
 use Rattle.catalogue_rows.proofs.FoundUnits.{none_left, empty}
 use Rattle.catalogue_rows.proofs.Moves.{id_of}

@@ -1,47 +1,23 @@
-use Rattle.std.proofs.Common.{rules, refl}
+use Rattle.std.proofs.Common.{refl}
 use Rattle.sqlite.specs.Held.{state}
-use Rattle.sqlite.specs.State.{HasCleanDisk}
-use Rattle.office_tables.specs.Step.{IsCut}
-use Rattle.office_tables.proofs.Calls.{early, in_office, write_cut, write_went}
-use Rattle.catalogue_rows.proofs.Changes.{clear_housings_text, clear_housings_command, clear_housings_is, clear_housings_plain, clear_housings_done, clear_housings_rows, clear_housings_touches}
-use Rattle.catalogue_rows.proofs.DeleteFaults.{clear_housings_cause}
-use Rattle.office_tables.proofs.WriteCauses.{write_disk}
+use Rattle.office_tables.proofs.Calls.{early}
+use Rattle.office_tables.proofs.RowWrites.{ours}
+use Rattle.catalogue_rows.proofs.HousingStatements.{clear_housings_text, clear_housings_command, clear_housings_means, clear_housings_leaves, clear_housings_faults}
 use Rattle.catalogue_rows.proofs.containers.clear_housings.Goals as goal
 
-pub returns-in_err-execute-clause-cut : goal.returns-in_err-execute-clause-cut
-returns-in_err-execute-clause-cut g c =
-    let old = state g.S.Store c.args.conn.now in
-    let new = state g.S.Store c.execute.new.self in
-    let cut : IsCut old new = write_cut clear_housings_text _ old new clear_housings_command refl (in_office clear_housings_text clear_housings_command old (c.requires.inside) clear_housings_is clear_housings_plain) c.in_err-execute.field-0.0 c.in_err-execute.ensures.runs c.execute.ensures.survives in
-    search (rules, cut)
-
-pub returns-clause-goes : goal.returns-clause-goes
-returns-clause-goes g c =
-    let old = state g.S.Store c.args.conn.now in
-    let new = state g.S.Store c.execute.new.self in
-    let ran = λ (clean : HasCleanDisk new). rw (c.number.ensures) at (c.in_ok-execute.ensures.runs clean) in
-    let at = λ (clean : HasCleanDisk new). c.requires.inside (early old new _ c.execute.ensures.survives clean) in
-    write_went clear_housings_text _ old new clear_housings_command refl (in_office clear_housings_text clear_housings_command old (c.requires.inside) clear_housings_is clear_housings_plain) (λ clean. ((at clean).0, (at clean).1, (clear_housings_done old new c.args.unit c.in_ok-execute.field-0 (at clean).0 (at clean).1 (ran clean)).0, (clear_housings_done old new c.args.unit c.in_ok-execute.field-0 (at clean).0 (at clean).1 (ran clean)).1)) c.execute.ensures.survives
+pub change-requires : goal.change-requires
+change-requires g c = ours clear_housings_text 1 clear_housings_command (state g.S.Store c.args.conn.now) refl clear_housings_means c.requires.inside
 
 pub returns-clause-rows : goal.returns-clause-rows
 returns-clause-rows g c clean xs stored up =
     let old = state g.S.Store c.args.conn.now in
-    let new = state g.S.Store c.execute.new.self in
-    let ran = λ (clean : HasCleanDisk new). rw (c.number.ensures) at (c.in_ok-execute.ensures.runs clean) in
-    let at = λ (clean : HasCleanDisk new). c.requires.inside (early old new _ c.execute.ensures.survives clean) in
-    record { are = clear_housings_rows old new c.args.unit c.in_ok-execute.field-0 (at clean).0 (at clean).1 (ran clean) xs stored up; only = clear_housings_touches old new c.args.unit c.in_ok-execute.field-0 (at clean).0 (at clean).1 (ran clean) }
+    let new = state g.S.Store c.change.new.conn in
+    let at = c.requires.inside (early old new _ c.change.ensures.leaves.crash clean) in
+    clear_housings_leaves old new c.args.unit at.0 at.1 xs stored up c.change.result (rw c.number.ensures at (c.change.ensures.ran clean))
 
-pub returns-in_err-execute-clause-disk : goal.returns-in_err-execute-clause-disk
-returns-in_err-execute-clause-disk g c clean =
+pub returns-clause-faults : goal.returns-clause-faults
+returns-clause-faults g c xs stored up clean free =
     let old = state g.S.Store c.args.conn.now in
-    let new = state g.S.Store c.execute.new.self in
-    let fair = write_disk clear_housings_text _ old new clear_housings_command refl (in_office clear_housings_text clear_housings_command old (c.requires.inside) clear_housings_is clear_housings_plain (early old new _ c.execute.ensures.survives clean)) c.in_err-execute.field-0.0 (c.in_err-execute.ensures.runs clean) in
-    search (rules, fair)
-
-pub returns-in_err-execute-clause-faults : goal.returns-in_err-execute-clause-faults
-returns-in_err-execute-clause-faults g c clean free xs stored up =
-    let old = state g.S.Store c.args.conn.now in
-    let new = state g.S.Store c.execute.new.self in
-    let at = c.requires.inside (early old new _ c.execute.ensures.survives clean) in
-    let why = clear_housings_cause old new c.args.unit at.0 at.1 c.schema.ensures.live free c.in_err-execute.field-0.0 (rw (c.number.ensures) at (c.in_err-execute.ensures.runs clean)) in
-    search (rules, why)
+    let new = state g.S.Store c.change.new.conn in
+    let at = c.requires.inside (early old new _ c.change.ensures.leaves.crash clean) in
+    clear_housings_faults old new c.args.unit at.0 at.1 free c.change.ensures.live c.change.result (rw c.number.ensures at (c.change.ensures.ran clean))

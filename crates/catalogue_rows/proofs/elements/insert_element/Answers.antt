@@ -1,48 +1,24 @@
-use Rattle.std.proofs.Common.{rules, refl}
+use Rattle.std.proofs.Common.{refl}
 use Rattle.sqlite.specs.Held.{state}
-use Rattle.sqlite.specs.State.{HasCleanDisk}
-use Rattle.office_tables.specs.Step.{IsCut}
-use Rattle.office_tables.proofs.Calls.{early, in_office, write_cut, write_went}
-use Rattle.catalogue_rows.proofs.Inserts.{insert_element_text, insert_element_command, insert_element_is, insert_element_plain, insert_element_done, insert_element_rows, insert_element_touches, insert_element_fresh}
-use Rattle.office_tables.proofs.WriteCauses.{write_disk}
-use Rattle.catalogue_rows.proofs.InsertFaults.{insert_element_cause}
+use Rattle.office_tables.proofs.Calls.{early}
+use Rattle.office_tables.proofs.RowWrites.{ours}
+use Rattle.catalogue_rows.proofs.ElementStatements.{insert_element_text, insert_element_command, insert_element_means, insert_element_puts, insert_element_faults}
 use Rattle.catalogue_rows.proofs.elements.insert_element.Goals as goal
 
-pub returns-in_err-execute-clause-cut : goal.returns-in_err-execute-clause-cut
-returns-in_err-execute-clause-cut g c =
-    let old = state g.S.Store c.args.conn.now in
-    let new = state g.S.Store c.execute.new.self in
-    let cut : IsCut old new = write_cut insert_element_text _ old new insert_element_command refl (in_office insert_element_text insert_element_command old (c.requires.inside) insert_element_is insert_element_plain) c.in_err-execute.field-0.0 c.in_err-execute.ensures.runs c.execute.ensures.survives in
-    search (rules, cut)
-
-pub returns-clause-goes : goal.returns-clause-goes
-returns-clause-goes g c =
-    let old = state g.S.Store c.args.conn.now in
-    let new = state g.S.Store c.execute.new.self in
-    let ran = λ (clean : HasCleanDisk new). rw (c.number.ensures, c.number-2.ensures, c.words.ensures) at (c.in_ok-execute.ensures.runs clean) in
-    let at = λ (clean : HasCleanDisk new). c.requires.inside (early old new _ c.execute.ensures.survives clean) in
-    write_went insert_element_text _ old new insert_element_command refl (in_office insert_element_text insert_element_command old (c.requires.inside) insert_element_is insert_element_plain) (λ clean. ((at clean).0, (at clean).1, (insert_element_done old new c.args.unit c.args.k c.args.value.now c.in_ok-execute.field-0 (at clean).0 (at clean).1 (ran clean)).0, (insert_element_done old new c.args.unit c.args.k c.args.value.now c.in_ok-execute.field-0 (at clean).0 (at clean).1 (ran clean)).1)) c.execute.ensures.survives
+pub change-requires : goal.change-requires
+change-requires g c = ours insert_element_text 3 insert_element_command (state g.S.Store c.args.conn.now) refl insert_element_means c.requires.inside
 
 pub returns-clause-puts : goal.returns-clause-puts
 returns-clause-puts g c clean =
     let old = state g.S.Store c.args.conn.now in
-    let new = state g.S.Store c.execute.new.self in
-    let ran = λ (clean : HasCleanDisk new). rw (c.number.ensures, c.number-2.ensures, c.words.ensures) at (c.in_ok-execute.ensures.runs clean) in
-    let at = λ (clean : HasCleanDisk new). c.requires.inside (early old new _ c.execute.ensures.survives clean) in
-    record { rows = insert_element_rows old new c.args.unit c.args.k c.args.value.now c.in_ok-execute.field-0 (at clean).0 (at clean).1 (ran clean); only = insert_element_touches old new c.args.unit c.args.k c.args.value.now c.in_ok-execute.field-0 (at clean).0 (at clean).1 (ran clean); fresh = insert_element_fresh old new c.args.unit c.args.k c.args.value.now c.in_ok-execute.field-0 (at clean).0 (at clean).1 (ran clean) }
+    let new = state g.S.Store c.change.new.conn in
+    let at = c.requires.inside (early old new _ c.change.ensures.leaves.crash clean) in
+    insert_element_puts old new c.args.unit c.args.k c.args.value.now at.0 at.1 c.change.result (rw (c.number.ensures, c.number-2.ensures, c.words.ensures) at (c.change.ensures.ran clean))
 
-pub returns-in_err-execute-clause-disk : goal.returns-in_err-execute-clause-disk
-returns-in_err-execute-clause-disk g c clean =
+pub returns-clause-faults : goal.returns-clause-faults
+returns-clause-faults g c known xs texts none clean free =
     let old = state g.S.Store c.args.conn.now in
-    let new = state g.S.Store c.execute.new.self in
-    let fair = write_disk insert_element_text _ old new insert_element_command refl (in_office insert_element_text insert_element_command old (c.requires.inside) insert_element_is insert_element_plain (early old new _ c.execute.ensures.survives clean)) c.in_err-execute.field-0.0 (c.in_err-execute.ensures.runs clean) in
-    search (rules, fair)
-
-pub returns-in_err-execute-clause-faults : goal.returns-in_err-execute-clause-faults
-returns-in_err-execute-clause-faults g c clean free us units known xs rows none =
-    let old = state g.S.Store c.args.conn.now in
-    let new = state g.S.Store c.execute.new.self in
-    let ran = rw (c.number.ensures, c.number-2.ensures, c.words.ensures) at (c.in_err-execute.ensures.runs clean) in
-    let at = c.requires.inside (early old new _ c.execute.ensures.survives clean) in
-    let cause = insert_element_cause old new c.args.unit c.args.k c.args.value.now us xs at.0 at.1 c.schema.ensures.live free units known rows none c.in_err-execute.field-0.0 ran in
-    search (rules, cause)
+    let new = state g.S.Store c.change.new.conn in
+    let at = c.requires.inside (early old new _ c.change.ensures.leaves.crash clean) in
+    insert_element_faults old new c.args.unit c.args.k c.args.value.now at.0 at.1 known xs texts none free c.change.ensures.live c.change.result
+    (rw (c.number.ensures, c.number-2.ensures, c.words.ensures) at (c.change.ensures.ran clean))

@@ -1,3 +1,4 @@
+use Rattle.office_tables.specs.Schema as tables
 use Rattle.std.proofs.Common.{◌≡◌, List, [], ◌∷◌, ap, sym, subst, option_copied, false, nat_eq, ◌&&◌}
 use Rattle.std.specs.List.{list_any}
 use Rattle.sqlite.specs.Held.{state}
@@ -16,15 +17,15 @@ returns-in-Some-clause-adds g c clean xs at =
     let b = state g.S.Store c.insert_element.new.conn in
     let value = c.in-Some.text.now in
     let unit = c.args.unit in
-    let row : ElementRow = record { row = next_rowid (a.now.trees 16); unit = unit; k = c.element_number.result; value = value } in
+    let row : ElementRow = record { row = next_rowid (a.now.trees tables.element.tree); unit = unit; k = c.element_number.result; value = value } in
     let e : text_cells c.args.place (option_copied c.args.text) ≡ (element_number c.args.place, value) ∷ [] = ap (λ t. text_cells c.args.place (option_copied t)) c.in-Some.is in
-    on_ok_then c.insert_element.result (PutsRow 16 (element_row row) a.now b.now) ((ys : List ElementRow) × AreElements b.now.trees ys × WithTexts unit (text_cells c.args.place (option_copied c.args.text)) xs ys)
+    on_ok_then c.insert_element.result (PutsRow tables.element.tree (element_row row) a.now b.now) ((ys : List ElementRow) × AreElements b.now.trees ys × WithTexts unit (text_cells c.args.place (option_copied c.args.text)) xs ys)
     (λ puts.
     let it = one_element a.now b.now unit c.element_number.result value xs at puts in
     (it.0, it.1, subst (λ cells. WithTexts unit cells xs it.0) (sym e) (subst (λ k. WithTexts unit ((k, value) ∷ []) xs it.0) c.element_number.ensures.number it.2)))
     (c.insert_element.ensures.puts clean)
 
 pub returns-in-Some-clause-faults : goal.returns-in-Some-clause-faults
-returns-in-Some-clause-faults g c clean free known xs at none =
+returns-in-Some-clause-faults g c known xs at none clean free =
     let none_yet = subst (λ k. list_any (λ (e : ElementRow). nat_eq c.args.unit e.unit && nat_eq k e.k) xs ≡ false) (sym c.element_number.ensures.number) none in
-    c.insert_element.ensures.faults clean free known.units known.rows known.there xs at none_yet
+    c.insert_element.ensures.faults known xs at none_yet clean free

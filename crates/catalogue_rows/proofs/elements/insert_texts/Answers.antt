@@ -34,7 +34,7 @@ loop-text-preserved g c =
         (
           goes_then a b d invariant.1.1.0 last,
           (
-            λ clean. touched_again (16 ∷ []) a.now b.now d.now (invariant.1.1.1.0 (early b d _ last.on.crash clean)) (c.in_ok-insert_text.ensures.only clean),
+            λ clean. touched_again (tables.element.tree ∷ []) a.now b.now d.now (invariant.1.1.1.0 (early b d _ last.on.crash clean)) (c.in_ok-insert_text.ensures.only clean),
             λ clean xs at.
                 let before = invariant.1.1.1.1 (early b d _ last.on.crash clean) xs at in
                 let one = c.in_ok-insert_text.ensures.adds clean before.0 before.1 in
@@ -45,7 +45,7 @@ loop-text-preserved g c =
     )
 
 pub returns-in_err-insert_text-clause-faults : goal.returns-in_err-insert_text-clause-faults
-returns-in_err-insert_text-clause-faults g c clean free known xs at none long =
+returns-in_err-insert_text-clause-faults g c known xs at none long clean free =
     let a = state g.S.Store c.args.conn.now in
     let b = state g.S.Store c.loop-text.conn in
     let d = state g.S.Store c.insert_text.new.conn in
@@ -60,10 +60,10 @@ returns-in_err-insert_text-clause-faults g c clean free known xs at none long =
     let low : i < length texts = subst (λ (l : List (Option Bytes)). i < length l) c.as_slice-text-items.ensures c.loop-text-test.true in
     let next = text_free unit i texts xs told.0 (omega (arith, low)) told.2 none in
     let none_yet = subst (λ k. list_any (λ (e : ElementRow). nat_eq unit e.unit && nat_eq (element_number k) e.k) told.0 ≡ false) (sym invariant.0) next in
-    let why = c.in_err-insert_text.ensures.faults clean (still_unlimited a b so_far.on free) here told.0 told.1 none_yet in
+    let why = c.in_err-insert_text.ensures.faults here told.0 told.1 none_yet clean (still_unlimited a b so_far.on free) in
     let whole = cause_then a b d so_far.on before _ why in
     search (rules, whole)
 
 pub returns-then-place-ge25-clause-faults : goal.returns-then-place-ge25-clause-faults
-returns-then-place-ge25-clause-faults g c clean free known xs at none long =
+returns-then-place-ge25-clause-faults g c known xs at none long clean free =
     absurd (omega (arith, c.if-place-ge25.true, c.loop-text-test.true, c.loop-text.invariant.0, ap length c.as_slice-text-items.ensures, long))

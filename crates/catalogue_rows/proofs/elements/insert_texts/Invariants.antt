@@ -1,3 +1,4 @@
+use Rattle.office_tables.specs.Schema as tables
 use Rattle.std.proofs.Common.{◌≡◌, List, [], ◌∷◌}
 use Rattle.sqlite.specs.Held.{state}
 use Rattle.sqlite.specs.State.{HasCleanDisk}
@@ -12,6 +13,6 @@ invariant-loop-text g l =
     (l.place ≡ l.text-index)
     × (InOffice (state g.S.Store l.initial.conn)
     × (Goes (state g.S.Store l.initial.conn) (state g.S.Store l.conn)
-    × ((HasCleanDisk (state g.S.Store l.conn) → OnlyTouches (16 ∷ []) (state g.S.Store l.initial.conn).now (state g.S.Store l.conn).now)
+    × ((HasCleanDisk (state g.S.Store l.conn) → OnlyTouches (tables.element.tree ∷ []) (state g.S.Store l.initial.conn).now (state g.S.Store l.conn).now)
     × (HasCleanDisk (state g.S.Store l.conn) → (xs : List ElementRow) → AreElements (state g.S.Store l.initial.conn).now.trees xs
     → (ys : List ElementRow) × AreElements (state g.S.Store l.conn).now.trees ys × WithTexts l.unit (first_cells l.text-index l.values.texts) xs ys))))

@@ -38,7 +38,7 @@ loop-key-preserved g c =
         (
           goes_then a b d invariant.1.1.0 last,
           (
-            λ clean. touched_again (18 ∷ 20 ∷ []) a.now b.now d.now (invariant.1.1.1.0 (early b d _ last.on.crash clean)) (c.in_ok-house.ensures.only clean),
+            λ clean. touched_again (tables.container.tree ∷ tables.housing.tree ∷ []) a.now b.now d.now (invariant.1.1.1.0 (early b d _ last.on.crash clean)) (c.in_ok-house.ensures.only clean),
             λ clean boxes xs at.
                 let before = invariant.1.1.1.1 (early b d _ last.on.crash clean) boxes xs at in
                 let now = with_boxes boxes seen in
@@ -54,7 +54,7 @@ loop-key-preserved g c =
     )
 
 pub returns-in_err-house-clause-faults : goal.returns-in_err-house-clause-faults
-returns-in_err-house-clause-faults g c clean free known boxes xs at small once none =
+returns-in_err-house-clause-faults g c known boxes xs at small once none clean free =
     let a = state g.S.Store c.args.conn.now in
     let b = state g.S.Store c.loop-key.conn in
     let d = state g.S.Store c.house.new.conn in
@@ -74,6 +74,6 @@ returns-in_err-house-clause-faults g c clean free known boxes xs at small once n
     let few : length now < 2 ^ 63 = omega (arith, small, boxes_within boxes seen, length-take-le i told (omega (arith, low)), c.as_slice-key-items.type_inv, c.loop-key-test.true) in
     let place_free = subst (λ n. list_any (λ (h : HousingRow). nat_eq unit h.unit && nat_eq (n + 1) h.ord) housed.0 ≡ false) (sym invariant.0) (housing_place unit i boxes told key xs housed.0 at.apart low housed.2 none) in
     let number_free = housing_number unit i boxes told key xs housed.0 at.apart low housed.2 none (not_seen told i key low is once) in
-    let why = c.in_err-house.ensures.faults clean (still_unlimited a b so_far.on free) here now housed.0 housed.1 few place_free number_free in
+    let why = c.in_err-house.ensures.faults here now housed.0 housed.1 few place_free number_free clean (still_unlimited a b so_far.on free) in
     let whole = cause_then a b d so_far.on before _ why in
     search (rules, whole)

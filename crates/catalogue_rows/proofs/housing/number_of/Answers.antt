@@ -1,3 +1,4 @@
+use Rattle.office_tables.specs.Schema as tables
 use Rattle.std.proofs.Common.{arith, ◌≡◌, ◌+◌, ◌++◌, ◌∷◌, [], ℕ, List, length, slice_get, sym, ap, subst, ◌∙◌, None, Some}
 use Rattle.std.proofs.lemmas.Result.{IfOk-weaker}
 use Rattle.sqlite.specs.Effect.{Database}
@@ -29,7 +30,7 @@ returns-in_default-clause-numbers g c clean boxes at apart =
     let got = c.in_ok-found.ensures.rows before (counted_from 1 boxes) at in
     let none : number_in boxes key ≡ None =
     sym (number_read boxes key got.0 got.1) ∙ sym (c.copied.ensures ∙ c.first.ensures.value ∙ ap (λ (l : List ℕ). slice_get l 0) (c.deref.ensures.value ∙ got.2)) ∙ c.in_default.is in
-    let there : ShowsContainers b.now.trees boxes = ap (λ (db : Database). db.trees 18) (c.in_ok-found.ensures.looks.same before) ∙ at in
+    let there : ShowsContainers b.now.trees boxes = ap (λ (db : Database). db.trees tables.container.tree) (c.in_ok-found.ensures.reads.looks.same before) ∙ at in
     let all : boxes ++ key ∷ [] ≡ with_boxes boxes (key ∷ []) = sym (with_new boxes key apart (unknown_unnumbered boxes key none)) in
     IfOk-weaker c.add_container.result (λ n. (n ≡ length boxes + 1) × ShowsContainers d.now.trees (boxes ++ key ∷ [])) result
     (λ n it. (it.0 ∙ box_number_new boxes key apart none, subst (ShowsContainers d.now.trees) all it.1))
@@ -43,25 +44,25 @@ returns-clause-numbers g c clean boxes at apart =
     let got = c.in_ok-found.ensures.rows clean (counted_from 1 boxes) at in
     let some : number_in boxes key ≡ Some c.in-Some.number =
     sym (number_read boxes key got.0 got.1) ∙ sym (c.copied.ensures ∙ c.first.ensures.value ∙ ap (λ (l : List ℕ). slice_get l 0) (c.deref.ensures.value ∙ got.2)) ∙ c.in-Some.is in
-    let there : ShowsContainers b.now.trees boxes = ap (λ (db : Database). db.trees 18) (c.in_ok-found.ensures.looks.same clean) ∙ at in
+    let there : ShowsContainers b.now.trees boxes = ap (λ (db : Database). db.trees tables.container.tree) (c.in_ok-found.ensures.reads.looks.same clean) ∙ at in
     (box_number_known boxes key c.in-Some.number apart some, subst (ShowsContainers b.now.trees) (sym (with_known boxes key apart (known_numbered boxes key c.in-Some.number some))) there)
 
 pub returns-in_default-clause-faults : goal.returns-in_default-clause-faults
-returns-in_default-clause-faults g c clean free boxes at small =
+returns-in_default-clause-faults g c boxes at small clean free =
     let a = state g.S.Store c.args.conn.now in
     let b = state g.S.Store c.container_number.new.conn in
     let d = state g.S.Store c.add_container.new.conn in
     let key = c.args.key.now in
-    let looked = c.in_ok-found.ensures.looks in
+    let looked = c.in_ok-found.ensures.reads.looks in
     last_cause a b d looked.goes.on c.add_container.result c.add_container.ensures.cut clean (λ before.
     let got = c.in_ok-found.ensures.rows before (counted_from 1 boxes) at in
     let none : number_in boxes key ≡ None =
     sym (number_read boxes key got.0 got.1) ∙ sym (c.copied.ensures ∙ c.first.ensures.value ∙ ap (λ (l : List ℕ). slice_get l 0) (c.deref.ensures.value ∙ got.2)) ∙ c.in_default.is in
-    let there : ShowsContainers b.now.trees boxes = ap (λ (db : Database). db.trees 18) (looked.same before) ∙ at in
-    c.add_container.ensures.faults clean (still_unlimited a b looked.goes.on free) boxes there (unknown_unnumbered boxes key none))
+    let there : ShowsContainers b.now.trees boxes = ap (λ (db : Database). db.trees tables.container.tree) (looked.same before) ∙ at in
+    c.add_container.ensures.faults boxes there (unknown_unnumbered boxes key none) clean (still_unlimited a b looked.goes.on free))
 
 pub returns-then-number-ge-NO_NUMBER-clause-faults : goal.returns-then-number-ge-NO_NUMBER-clause-faults
-returns-then-number-ge-NO_NUMBER-clause-faults g c clean free boxes at small =
+returns-then-number-ge-NO_NUMBER-clause-faults g c boxes at small clean free =
     let key = c.args.key.now in
     let got = c.in_ok-found.ensures.rows clean (counted_from 1 boxes) at in
     let some : number_in boxes key ≡ Some c.in-Some.number =

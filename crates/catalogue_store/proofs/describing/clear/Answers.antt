@@ -29,4 +29,4 @@ returns-clause-clears g c clean boxes xs hs texts housed =
       record { containers = then.only tables.container.tree refl refl ∙ here.containers; apart = here.apart; rows = then.are; rise = housings_rise unit hs here.rise },
     ))
     (c.clear_housings.ensures.rows clean hs here.rows here.rise))
-    c.clear_housings.ensures.goes
+    c.clear_housings.ensures.leaves.goes

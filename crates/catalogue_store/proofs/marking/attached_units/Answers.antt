@@ -13,5 +13,5 @@ returns-clause-answers g c clean k units housings =
 
 pub returns-in_err-ids-clause-faults : goal.returns-in_err-ids-clause-faults
 returns-in_err-ids-clause-faults g c clean free k housings =
-    let why = c.in_err-ids.ensures.faults clean free housings.housings housings.rows in
+    let why = c.in_err-ids.ensures.faults housings.housings housings.rows clean free in
     search (rules, why)

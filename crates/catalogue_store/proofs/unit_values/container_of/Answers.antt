@@ -18,7 +18,7 @@ returns-then-number-ge-NO_NUMBER-clause-faults g c clean free boxes at legible f
 
 pub returns-in_err-found-clause-faults : goal.returns-in_err-found-clause-faults
 returns-in_err-found-clause-faults g c clean free boxes at legible few b known is =
-    let why = c.in_err-found.ensures.faults clean free (counted_from 1 boxes) at (legible_counted 1 boxes legible) in
+    let why = c.in_err-found.ensures.faults (counted_from 1 boxes) at (legible_counted 1 boxes legible) clean free in
     search (rules, why)
 
 pub returns-in_default-clause-faults : goal.returns-in_default-clause-faults

@@ -19,5 +19,5 @@ returns-clause-answers g c clean xs stored boxes values tell =
 
 pub returns-in_err-found-clause-faults : goal.returns-in_err-found-clause-faults
 returns-in_err-found-clause-faults g c clean free xs stored =
-    let why = c.in_err-found.ensures.faults clean free xs stored in
+    let why = c.in_err-found.ensures.faults xs stored clean free in
     search (rules, why)

@@ -20,7 +20,7 @@ returns-clause-answers g c clean xs stored values long tell =
 
 pub returns-in_err-found-clause-faults : goal.returns-in_err-found-clause-faults
 returns-in_err-found-clause-faults g c clean free xs stored legible values long tell =
-    let why = c.in_err-found.ensures.faults clean free xs stored legible in
+    let why = c.in_err-found.ensures.faults xs stored legible clean free in
     search (rules, why)
 
 pub returns-clause-faults : goal.returns-clause-faults
