@@ -8,6 +8,7 @@ pub mod UnitWrites
 pub mod ElementStatements
 pub mod ContainerStatements
 pub mod HousingStatements
+pub mod OfficeStatements
 pub mod UnitQueries
 pub mod Inserts
 pub mod Selects

@@ -1,23 +1,25 @@
 //! The row of the office: its settings, its day and its next unit number.
 
-ghost use Rattle.std.specs.Prelude.{◌≡◌, ◌<◌, ◌^◌, ℕ, List, [], ◌∷◌, map, length, OnOk, OnErr, IfOk, IfErr};
-ghost use Rattle.catalogue_rows.specs.Settings.{AreLegibleSettings};
+ghost use Rattle.std.specs.Prelude.{◌≡◌, ◌<◌, ◌^◌, ℕ, List, [], ◌∷◌, length, OnOk, IfOk};
+ghost use Rattle.isad_core.specs.declared.values.BoxKey.{BoxKey};
 ghost use Rattle.sqlite.specs.Held.{state};
 ghost use Rattle.sqlite.specs.State.{HasCleanDisk};
-ghost use Rattle.isad_core.specs.declared.values.BoxKey.{BoxKey};
-ghost use Rattle.office_tables.specs.Faults.{IsUnlimited, HasCause};
-ghost use Rattle.office_tables.specs.Counting.{capped};
-ghost use Rattle.catalogue_rows.specs.Rows.{container_row, office_row as row_of_office, unit_row};
 ghost use Rattle.tree_core.specs.Versions.{Version};
-ghost use Rattle.catalogue_rows.specs.Shows.{ShowsOffice};
 ghost use Rattle.catalogue_core.specs.Units.{«Unit» as Described};
+ghost use Rattle.office_tables.specs.Asking.{Reads};
+ghost use Rattle.office_tables.specs.Changing.{Leaves};
+ghost use Rattle.office_tables.specs.Counting.{capped};
+ghost use Rattle.office_tables.specs.Faults.{Excused};
+ghost use Rattle.office_tables.specs.Schema as tables;
+ghost use Rattle.office_tables.specs.Step.{InOffice, Holds, HasRows};
+ghost use Rattle.catalogue_rows.specs.Rows.{container_row, office_row as row_of_office, unit_row};
+ghost use Rattle.catalogue_rows.specs.Settings.{AreLegibleSettings};
+ghost use Rattle.catalogue_rows.specs.Shows.{ShowsOffice};
 ghost use Rattle.catalogue_rows.specs.declared.office.OfficeRow.{OfficeRow};
-ghost use Rattle.office_tables.specs.Step.{InOffice, Goes, Looks, IsCut, HasRows};
 
 use isad_core::{Day, Text};
-use office_tables::StoreFault;
-use office_tables::answer::read_all;
-use office_tables::value::{day, number};
+use office_tables::value::number;
+use office_tables::{StoreFault, change, find};
 use sqlite::{Alter, Connection};
 use std::alloc::Global;
 
@@ -46,18 +48,19 @@ pub struct OfficeRow {
 pub fn set_next_unit<S: Alter>(conn: &mut Connection<S>, next: u64) -> Result<(), StoreFault>
     requires inside { InOffice (state S.Store conn.old) }
     requires small { next < 2 ^ 63 }
-    ensures goes { OnOk result (Goes (state S.Store conn.old) (state S.Store conn.new)) }
-    ensures rows { HasCleanDisk (state S.Store conn.new) → (version : Version) (o : OfficeRow) → ShowsOffice version (state S.Store conn.old).now.trees o → OnOk result (HasRows 13 (row_of_office version (record o { next_unit = next }) ∷ []) (state S.Store conn.old).now (state S.Store conn.new).now) }
-    ensures faults { HasCleanDisk (state S.Store conn.new) → IsUnlimited (state S.Store conn.old) → (version : Version) (o : OfficeRow) → ShowsOffice version (state S.Store conn.old).now.trees o → IfErr result (HasCause (state S.Store conn.old) (state S.Store conn.new)) }
-    ensures cut { OnErr result (IsCut (state S.Store conn.old) (state S.Store conn.new)) }
+    ensures leaves { Leaves (state S.Store conn.old) (state S.Store conn.new) result }
+    ensures rows { HasCleanDisk (state S.Store conn.new)
+        → (version : Version) (o : OfficeRow) → ShowsOffice version (state S.Store conn.old).now.trees o
+        → OnOk result (HasRows tables.office.tree (row_of_office version (record o { next_unit = next }) ∷ [])
+        (state S.Store conn.old).now (state S.Store conn.new).now) }
+    ensures faults { (version : Version) (o : OfficeRow) → ShowsOffice version (state S.Store conn.old).now.trees o
+        → Excused (state S.Store conn.old) (state S.Store conn.new) result }
 {
-    // An open connection's rows keep the rules of its tables.
-    let _ = conn.schema();
-    conn.execute(
+    change(
+        conn,
         "UPDATE office SET next_unit = ?1 WHERE one = 1",
         &[number(next)],
-    )?;
-    Ok(())
+    )
 }
 
 /// The rows of the table: one.
@@ -66,16 +69,20 @@ pub fn office_rows<S: Alter>(
     conn: &mut Connection<S>,
 ) -> Result<Vec<OfficeRow>, StoreFault>
     requires inside { InOffice (state S.Store conn.old) }
-    ensures rows { HasCleanDisk (state S.Store conn.new) → (version : Version) (o : OfficeRow) → ShowsOffice version (state S.Store conn.old).now.trees o → IfOk result (λ found. found.items ≡ o ∷ []) }
-    ensures faults { HasCleanDisk (state S.Store conn.new) → IsUnlimited (state S.Store conn.old) → (version : Version) (o : OfficeRow) → ShowsOffice version (state S.Store conn.old).now.trees o → AreLegibleSettings o → IfErr result (HasCause (state S.Store conn.old) (state S.Store conn.new)) }
-    ensures looks { OnOk result (Looks (state S.Store conn.old) (state S.Store conn.new)) }
-    ensures cut { OnErr result (IsCut (state S.Store conn.old) (state S.Store conn.new)) }
+    ensures reads { Reads (state S.Store conn.old) (state S.Store conn.new) result }
+    ensures rows { HasCleanDisk (state S.Store conn.new)
+        → (version : Version) (o : OfficeRow) → ShowsOffice version (state S.Store conn.old).now.trees o
+        → IfOk result (λ found. found.items ≡ o ∷ []) }
+    ensures faults { (version : Version) (o : OfficeRow) → ShowsOffice version (state S.Store conn.old).now.trees o
+        → AreLegibleSettings o
+        → Excused (state S.Store conn.old) (state S.Store conn.new) result }
 {
-    let rows = conn.query_all(
+    find(
+        alloc,
+        conn,
         "SELECT country, repo, seats, daily, hands, run_size, day, next_unit FROM office ORDER BY one",
         &[],
-    )?;
-    read_all(alloc, &rows)
+    )
 }
 
 /// How many units there are.
@@ -84,13 +91,14 @@ pub fn count_units<S: Alter>(
     conn: &mut Connection<S>,
 ) -> Result<Vec<u64>, StoreFault>
     requires inside { InOffice (state S.Store conn.old) }
-    ensures rows { HasCleanDisk (state S.Store conn.new) → (xs : List Described) → (state S.Store conn.old).now.trees 14 ≡ map unit_row xs → IfOk result (λ found. found.items ≡ capped (length xs) ∷ []) }
-    ensures faults { HasCleanDisk (state S.Store conn.new) → IsUnlimited (state S.Store conn.old) → (xs : List Described) → (state S.Store conn.old).now.trees 14 ≡ map unit_row xs → IfErr result (HasCause (state S.Store conn.old) (state S.Store conn.new)) }
-    ensures looks { OnOk result (Looks (state S.Store conn.old) (state S.Store conn.new)) }
-    ensures cut { OnErr result (IsCut (state S.Store conn.old) (state S.Store conn.new)) }
+    ensures reads { Reads (state S.Store conn.old) (state S.Store conn.new) result }
+    ensures rows { HasCleanDisk (state S.Store conn.new)
+        → (xs : List Described) → Holds tables.unit unit_row (state S.Store conn.old) xs
+        → IfOk result (λ found. found.items ≡ capped (length xs) ∷ []) }
+    ensures faults { (xs : List Described) → Holds tables.unit unit_row (state S.Store conn.old) xs
+        → Excused (state S.Store conn.old) (state S.Store conn.new) result }
 {
-    let rows = conn.query_all("SELECT count(*) FROM unit", &[])?;
-    read_all(alloc, &rows)
+    find(alloc, conn, "SELECT count(*) FROM unit", &[])
 }
 
 /// How many containers there are.
@@ -99,11 +107,12 @@ pub fn count_containers<S: Alter>(
     conn: &mut Connection<S>,
 ) -> Result<Vec<u64>, StoreFault>
     requires inside { InOffice (state S.Store conn.old) }
-    ensures rows { HasCleanDisk (state S.Store conn.new) → (xs : List (ℕ × BoxKey)) → (state S.Store conn.old).now.trees 18 ≡ map container_row xs → IfOk result (λ found. found.items ≡ capped (length xs) ∷ []) }
-    ensures faults { HasCleanDisk (state S.Store conn.new) → IsUnlimited (state S.Store conn.old) → (xs : List (ℕ × BoxKey)) → (state S.Store conn.old).now.trees 18 ≡ map container_row xs → IfErr result (HasCause (state S.Store conn.old) (state S.Store conn.new)) }
-    ensures looks { OnOk result (Looks (state S.Store conn.old) (state S.Store conn.new)) }
-    ensures cut { OnErr result (IsCut (state S.Store conn.old) (state S.Store conn.new)) }
+    ensures reads { Reads (state S.Store conn.old) (state S.Store conn.new) result }
+    ensures rows { HasCleanDisk (state S.Store conn.new)
+        → (xs : List (ℕ × BoxKey)) → Holds tables.container container_row (state S.Store conn.old) xs
+        → IfOk result (λ found. found.items ≡ capped (length xs) ∷ []) }
+    ensures faults { (xs : List (ℕ × BoxKey)) → Holds tables.container container_row (state S.Store conn.old) xs
+        → Excused (state S.Store conn.old) (state S.Store conn.new) result }
 {
-    let rows = conn.query_all("SELECT count(*) FROM container", &[])?;
-    read_all(alloc, &rows)
+    find(alloc, conn, "SELECT count(*) FROM container", &[])
 }

@@ -55,7 +55,7 @@ returns-clause-cut g c =
     let e = state g.S.Store c.describe.new.conn in
     let h = state g.S.Store c.set_next_unit.new.conn in
     let so_far = goes_then a d e (goes_then a b d c.in_ok-insert_unit.ensures.leaves.goes c.in_ok-add.ensures.goes) c.in_ok-describe.ensures.goes in
-    on_err_then c.set_next_unit.result (IsCut e h) (IsCut a h) (λ last. cut_then a e h so_far.on last) c.set_next_unit.ensures.cut
+    on_err_then c.set_next_unit.result (IsCut e h) (IsCut a h) (λ last. cut_then a e h so_far.on last) c.set_next_unit.ensures.leaves.cut
 
 pub returns-clause-only : goal.returns-clause-only
 returns-clause-only g c clean o k it =
@@ -77,7 +77,7 @@ returns-clause-only g c clean o k it =
     on_ok_then c.set_next_unit.result (HasRows 13 (office_row g.P.Places.version (record o { next_unit = c.args.unit.now.id + 1 }) ∷ []) e.now h.now) result
     (λ wrote. touched_wider (14 ∷ 24 ∷ 16 ∷ 18 ∷ 20 ∷ 13 ∷ []) (13 ∷ 14 ∷ 16 ∷ 18 ∷ 20 ∷ 24 ∷ []) a.now h.now refl (touched_then (14 ∷ 24 ∷ 16 ∷ 18 ∷ 20 ∷ []) (13 ∷ []) a.now e.now h.now (touched_then (14 ∷ 24 ∷ []) (16 ∷ 18 ∷ 20 ∷ []) a.now d.now e.now (touched_then (14 ∷ []) (24 ∷ []) a.now b.now d.now kept aside) told) wrote.only))
     (c.set_next_unit.ensures.rows clean g.P.Places.version o office))
-    c.set_next_unit.ensures.goes
+    c.set_next_unit.ensures.leaves.goes
 
 pub returns-clause-shows : goal.returns-clause-shows
 returns-clause-shows g c clean o k it knows next there =
@@ -122,7 +122,7 @@ returns-clause-shows g c clean o k it knows next there =
       shown = same e.now.trees h.now.trees (add nat_eq parent u.id ids) (wrote.only tables.link.tree refl refl) (same d.now.trees e.now.trees (add nat_eq parent u.id ids) (told tables.link.tree refl refl) placed);
     }))
     (c.set_next_unit.ensures.rows clean v o office))
-    c.set_next_unit.ensures.goes
+    c.set_next_unit.ensures.leaves.goes
 
 pub returns-in_err-insert_unit-clause-faults : goal.returns-in_err-insert_unit-clause-faults
 returns-in_err-insert_unit-clause-faults g c clean free o k it kept knows there new_id new_source once long =
@@ -181,11 +181,11 @@ returns-clause-faults g c clean free o k it kept knows there new_id new_source o
     let e = state g.S.Store c.describe.new.conn in
     let h = state g.S.Store c.set_next_unit.new.conn in
     let went = goes_then a d e (goes_then a b d c.in_ok-insert_unit.ensures.leaves.goes c.in_ok-add.ensures.goes) c.in_ok-describe.ensures.goes in
-    last_cause a e h went.on c.set_next_unit.result c.set_next_unit.ensures.cut clean (λ before_e.
+    last_cause a e h went.on c.set_next_unit.result c.set_next_unit.ensures.leaves.cut clean (λ before_e.
     let before_d = early d e _ c.in_ok-describe.ensures.goes.on.crash before_e in
     let before_b = early b d _ c.in_ok-add.ensures.goes.on.crash before_d in
     let only = (c.in_ok-insert_unit.ensures.puts before_b).only in
     let aside = c.in_ok-add.ensures.only before_d in
     let told = c.in_ok-describe.ensures.only before_e in
     let office = told tables.office.tree refl refl ∙ aside tables.office.tree refl refl ∙ only tables.office.tree refl refl ∙ it.catalogue.office in
-    c.set_next_unit.ensures.faults clean (still_unlimited a e went.on free) g.P.Places.version o office)
+    c.set_next_unit.ensures.faults g.P.Places.version o office clean (still_unlimited a e went.on free))

@@ -20,14 +20,14 @@ pub count_units-requires : goal.count_units-requires
 count_units-requires g c =
     let a = state g.S.Store c.args.conn.now in
     let b = state g.S.Store c.office_rows.new.conn in
-    record { inside = still_office a b (office_of g.P.Places.version a c.requires.inside) c.in_ok-rows.ensures.looks.goes }
+    record { inside = still_office a b (office_of g.P.Places.version a c.requires.inside) c.in_ok-rows.ensures.reads.looks.goes }
 
 pub count_containers-requires : goal.count_containers-requires
 count_containers-requires g c =
     let a = state g.S.Store c.args.conn.now in
     let b = state g.S.Store c.office_rows.new.conn in
     let d = state g.S.Store c.count_units.new.conn in
-    record { inside = still_office a d (office_of g.P.Places.version a c.requires.inside) (goes_then a b d c.in_ok-rows.ensures.looks.goes c.in_ok-units.ensures.looks.goes) }
+    record { inside = still_office a d (office_of g.P.Places.version a c.requires.inside) (goes_then a b d c.in_ok-rows.ensures.reads.looks.goes c.in_ok-units.ensures.reads.looks.goes) }
 
 pub returns-in_err-containers-clause-cut : goal.returns-in_err-containers-clause-cut
 returns-in_err-containers-clause-cut g c =
@@ -35,7 +35,7 @@ returns-in_err-containers-clause-cut g c =
     let b = state g.S.Store c.office_rows.new.conn in
     let d = state g.S.Store c.count_units.new.conn in
     let e = state g.S.Store c.count_containers.new.conn in
-    let all : IsCut a e = cut_then a d e (goes_then a b d c.in_ok-rows.ensures.looks.goes c.in_ok-units.ensures.looks.goes).on c.in_err-containers.ensures.cut in
+    let all : IsCut a e = cut_then a d e (goes_then a b d c.in_ok-rows.ensures.reads.looks.goes c.in_ok-units.ensures.reads.looks.goes).on c.in_err-containers.ensures.reads.cut in
     search (rules, all)
 
 pub returns-clause-looks : goal.returns-clause-looks
@@ -44,7 +44,7 @@ returns-clause-looks g c =
     let b = state g.S.Store c.office_rows.new.conn in
     let d = state g.S.Store c.count_units.new.conn in
     let e = state g.S.Store c.count_containers.new.conn in
-    looks_then a d e (looks_then a b d c.in_ok-rows.ensures.looks c.in_ok-units.ensures.looks) c.in_ok-containers.ensures.looks
+    looks_then a d e (looks_then a b d c.in_ok-rows.ensures.reads.looks c.in_ok-units.ensures.reads.looks) c.in_ok-containers.ensures.reads.looks
 
 pub returns-clause-answers : goal.returns-clause-answers
 returns-clause-answers g c clean o k it =
@@ -52,10 +52,10 @@ returns-clause-answers g c clean o k it =
     let b = state g.S.Store c.office_rows.new.conn in
     let d = state g.S.Store c.count_units.new.conn in
     let e = state g.S.Store c.count_containers.new.conn in
-    let at_d = early d e _ c.in_ok-containers.ensures.looks.goes.on.crash clean in
-    let at_b = early b d _ c.in_ok-units.ensures.looks.goes.on.crash at_d in
-    let same_b : b.now ≡ a.now = c.in_ok-rows.ensures.looks.same at_b in
-    let same_d : d.now ≡ a.now = c.in_ok-units.ensures.looks.same at_d ∙ same_b in
+    let at_d = early d e _ c.in_ok-containers.ensures.reads.looks.goes.on.crash clean in
+    let at_b = early b d _ c.in_ok-units.ensures.reads.looks.goes.on.crash at_d in
+    let same_b : b.now ≡ a.now = c.in_ok-rows.ensures.reads.looks.same at_b in
+    let same_d : d.now ≡ a.now = c.in_ok-units.ensures.reads.looks.same at_d ∙ same_b in
     let at = it.catalogue in
     let row = last_of c.pop.new.self.items c.in-Some.row o (sym (c.in_ok-rows.ensures.rows at_b g.P.Places.version o at.office) ∙ c.in-Some.ensures.items) in
     let counted = c.in_ok-units.ensures.rows at_d at.units.units (ap (λ (db : Database). db.trees 14) same_b ∙ at.units.rows) in
@@ -67,7 +67,7 @@ returns-clause-answers g c clean o k it =
 
 pub returns-in_err-rows-clause-faults : goal.returns-in_err-rows-clause-faults
 returns-in_err-rows-clause-faults g c clean free o k it legible =
-    let why = c.in_err-rows.ensures.faults clean free g.P.Places.version o it.catalogue.office legible in
+    let why = c.in_err-rows.ensures.faults g.P.Places.version o it.catalogue.office legible clean free in
     search (rules, why)
 
 pub returns-in_err-units-clause-faults : goal.returns-in_err-units-clause-faults
@@ -75,11 +75,11 @@ returns-in_err-units-clause-faults g c clean free o k it legible =
     let a = state g.S.Store c.args.conn.now in
     let b = state g.S.Store c.office_rows.new.conn in
     let d = state g.S.Store c.count_units.new.conn in
-    let looked = c.in_ok-rows.ensures.looks in
-    let before = early b d _ c.in_err-units.ensures.cut.crash clean in
+    let looked = c.in_ok-rows.ensures.reads.looks in
+    let before = early b d _ c.in_err-units.ensures.reads.cut.crash clean in
     let free_b : IsUnlimited b = still_unlimited a b looked.goes.on free in
     let at = it.catalogue.units in
-    let why = c.in_err-units.ensures.faults clean free_b at.units (ap (λ (db : Database). db.trees 14) (looked.same before) ∙ at.rows) in
+    let why = c.in_err-units.ensures.faults at.units (ap (λ (db : Database). db.trees 14) (looked.same before) ∙ at.rows) clean free_b in
     let whole = cause_then a b d looked.goes.on before _ why in
     search (rules, whole)
 
@@ -89,10 +89,10 @@ returns-in_err-containers-clause-faults g c clean free o k it legible =
     let b = state g.S.Store c.office_rows.new.conn in
     let d = state g.S.Store c.count_units.new.conn in
     let e = state g.S.Store c.count_containers.new.conn in
-    let looked = looks_then a b d c.in_ok-rows.ensures.looks c.in_ok-units.ensures.looks in
-    let before = early d e _ c.in_err-containers.ensures.cut.crash clean in
+    let looked = looks_then a b d c.in_ok-rows.ensures.reads.looks c.in_ok-units.ensures.reads.looks in
+    let before = early d e _ c.in_err-containers.ensures.reads.cut.crash clean in
     let free_d : IsUnlimited d = still_unlimited a d looked.goes.on free in
-    let why = c.in_err-containers.ensures.faults clean free_d (counted_from 1 k.containers) (ap (λ (db : Database). db.trees 18) (looked.same before) ∙ it.catalogue.containers) in
+    let why = c.in_err-containers.ensures.faults (counted_from 1 k.containers) (ap (λ (db : Database). db.trees 18) (looked.same before) ∙ it.catalogue.containers) clean free_d in
     let whole = cause_then a d e looked.goes.on before _ why in
     search (rules, whole)
 
@@ -102,7 +102,7 @@ returns-in_err-only_number-clause-cut g c =
     let b = state g.S.Store c.office_rows.new.conn in
     let d = state g.S.Store c.count_units.new.conn in
     let e = state g.S.Store c.count_containers.new.conn in
-    let all : IsCut a e = cut_after a e (looks_then a d e (looks_then a b d c.in_ok-rows.ensures.looks c.in_ok-units.ensures.looks) c.in_ok-containers.ensures.looks).goes.on in
+    let all : IsCut a e = cut_after a e (looks_then a d e (looks_then a b d c.in_ok-rows.ensures.reads.looks c.in_ok-units.ensures.reads.looks) c.in_ok-containers.ensures.reads.looks).goes.on in
     search (rules, all)
 
 pub returns-in_err-only_number-2-clause-cut : goal.returns-in_err-only_number-2-clause-cut
@@ -111,7 +111,7 @@ returns-in_err-only_number-2-clause-cut g c =
     let b = state g.S.Store c.office_rows.new.conn in
     let d = state g.S.Store c.count_units.new.conn in
     let e = state g.S.Store c.count_containers.new.conn in
-    let all : IsCut a e = cut_after a e (looks_then a d e (looks_then a b d c.in_ok-rows.ensures.looks c.in_ok-units.ensures.looks) c.in_ok-containers.ensures.looks).goes.on in
+    let all : IsCut a e = cut_after a e (looks_then a d e (looks_then a b d c.in_ok-rows.ensures.reads.looks c.in_ok-units.ensures.reads.looks) c.in_ok-containers.ensures.reads.looks).goes.on in
     search (rules, all)
 
 pub returns-in_default-clause-faults : goal.returns-in_default-clause-faults
@@ -120,8 +120,8 @@ returns-in_default-clause-faults g c clean free o k it legible =
     let b = state g.S.Store c.office_rows.new.conn in
     let d = state g.S.Store c.count_units.new.conn in
     let e = state g.S.Store c.count_containers.new.conn in
-    let at_d = early d e _ c.in_ok-containers.ensures.looks.goes.on.crash clean in
-    let at_b = early b d _ c.in_ok-units.ensures.looks.goes.on.crash at_d in
+    let at_d = early d e _ c.in_ok-containers.ensures.reads.looks.goes.on.crash clean in
+    let at_b = early b d _ c.in_ok-units.ensures.reads.looks.goes.on.crash at_d in
     omega (arith, ap length (c.in_ok-rows.ensures.rows at_b g.P.Places.version o it.catalogue.office), c.in_default.ensures.cases.0)
 
 pub returns-in_err-only_number-clause-faults : goal.returns-in_err-only_number-clause-faults
@@ -130,9 +130,9 @@ returns-in_err-only_number-clause-faults g c clean free o k it legible =
     let b = state g.S.Store c.office_rows.new.conn in
     let d = state g.S.Store c.count_units.new.conn in
     let e = state g.S.Store c.count_containers.new.conn in
-    let at_d = early d e _ c.in_ok-containers.ensures.looks.goes.on.crash clean in
-    let at_b = early b d _ c.in_ok-units.ensures.looks.goes.on.crash at_d in
-    let same_b : b.now ≡ a.now = c.in_ok-rows.ensures.looks.same at_b in
+    let at_d = early d e _ c.in_ok-containers.ensures.reads.looks.goes.on.crash clean in
+    let at_b = early b d _ c.in_ok-units.ensures.reads.looks.goes.on.crash at_d in
+    let same_b : b.now ≡ a.now = c.in_ok-rows.ensures.reads.looks.same at_b in
     let at = it.catalogue.units in
     let counted = c.in_ok-units.ensures.rows at_d at.units (ap (λ (db : Database). db.trees 14) same_b ∙ at.rows) in
     absurd (not_refused (c.in_err-only_number.ensures (capped (length at.units)) (c.deref.ensures.value ∙ counted)))
@@ -143,9 +143,9 @@ returns-in_err-only_number-2-clause-faults g c clean free o k it legible =
     let b = state g.S.Store c.office_rows.new.conn in
     let d = state g.S.Store c.count_units.new.conn in
     let e = state g.S.Store c.count_containers.new.conn in
-    let at_d = early d e _ c.in_ok-containers.ensures.looks.goes.on.crash clean in
-    let at_b = early b d _ c.in_ok-units.ensures.looks.goes.on.crash at_d in
-    let same_b : b.now ≡ a.now = c.in_ok-rows.ensures.looks.same at_b in
-    let same_d : d.now ≡ a.now = c.in_ok-units.ensures.looks.same at_d ∙ same_b in
+    let at_d = early d e _ c.in_ok-containers.ensures.reads.looks.goes.on.crash clean in
+    let at_b = early b d _ c.in_ok-units.ensures.reads.looks.goes.on.crash at_d in
+    let same_b : b.now ≡ a.now = c.in_ok-rows.ensures.reads.looks.same at_b in
+    let same_d : d.now ≡ a.now = c.in_ok-units.ensures.reads.looks.same at_d ∙ same_b in
     let boxes = c.in_ok-containers.ensures.rows clean (counted_from 1 k.containers) (ap (λ (db : Database). db.trees 18) same_d ∙ it.catalogue.containers) in
     absurd (not_refused (c.in_err-only_number-2.ensures (capped (length (counted_from 1 k.containers))) (c.deref-2.ensures.value ∙ boxes)))
