@@ -11,10 +11,7 @@ pub mod HousingStatements
 pub mod OfficeStatements
 pub mod UnitQueries
 pub mod Inserts
-pub mod Selects
-pub mod Changes
 pub mod LinkWrites
-pub mod OfficeChanges
 pub mod BoxNumbers
 pub mod Numbered
 pub mod LinkGaps
@@ -29,9 +26,7 @@ pub mod FoundUnits
 pub mod Moves
 pub mod UnitDeletes
 pub mod Removals
-pub mod ReadCauses
 pub mod LinkQueries
 pub mod InsertFaults
-pub mod ChangeCauses
 pub mod UnitFaults
 pub mod Untold

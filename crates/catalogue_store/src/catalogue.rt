@@ -31,12 +31,23 @@ pub fn create<P: Places, S: Alter>(
     row: &OfficeRow,
 ) -> Result<(), StoreFault>
     requires { row.now.next_unit < 2 ^ 63 }
-    ensures shows { (start : Database) → IsMaking desk_tables desk_schema start (state S.Store conn.old) → HasCleanDisk (state S.Store conn.new) → OnOk result (Shows P.shows P.version (state S.Store conn.new).now row.now (record { forest = Empty; containers = []; next = row.now.next_unit })) }
-    ensures desk { (start : Database) → IsMaking desk_tables desk_schema start (state S.Store conn.old) → HasCleanDisk (state S.Store conn.new) → OnOk result (KeepsRows desk_tables start.trees (state S.Store conn.new).now.trees) }
-    ensures goes { (start : Database) → IsMaking desk_tables desk_schema start (state S.Store conn.old) → OnOk result (Continues (state S.Store conn.old) (state S.Store conn.new)) }
-    ensures disk { (start : Database) → IsMaking desk_tables desk_schema start (state S.Store conn.old) → HasCleanDisk (state S.Store conn.new) → IfErr result (BlamesDisk (state S.Store conn.old) (state S.Store conn.new)) }
-    ensures faults { (start : Database) → IsMaking desk_tables desk_schema start (state S.Store conn.old) → HasCleanDisk (state S.Store conn.new) → IsUnlimited (state S.Store conn.old) → IfErr result (HasCause (state S.Store conn.old) (state S.Store conn.new)) }
-    ensures cut { (start : Database) → IsMaking desk_tables desk_schema start (state S.Store conn.old) → OnErr result (IsCut (state S.Store conn.old) (state S.Store conn.new)) }
+    ensures shows { (start : Database) → IsMaking desk_tables desk_schema start (state S.Store conn.old)
+        → HasCleanDisk (state S.Store conn.new)
+        → OnOk result (Shows P.shows P.version (state S.Store conn.new).now row.now
+        (record { forest = Empty; containers = []; next = row.now.next_unit })) }
+    ensures desk { (start : Database) → IsMaking desk_tables desk_schema start (state S.Store conn.old)
+        → HasCleanDisk (state S.Store conn.new)
+        → OnOk result (KeepsRows desk_tables start.trees (state S.Store conn.new).now.trees) }
+    ensures goes { (start : Database) → IsMaking desk_tables desk_schema start (state S.Store conn.old)
+        → OnOk result (Continues (state S.Store conn.old) (state S.Store conn.new)) }
+    ensures disk { (start : Database) → IsMaking desk_tables desk_schema start (state S.Store conn.old)
+        → HasCleanDisk (state S.Store conn.new)
+        → IfErr result (BlamesDisk (state S.Store conn.old) (state S.Store conn.new)) }
+    ensures faults { (start : Database) → IsMaking desk_tables desk_schema start (state S.Store conn.old)
+        → HasCleanDisk (state S.Store conn.new) → IsUnlimited (state S.Store conn.old)
+        → IfErr result (HasCause (state S.Store conn.old) (state S.Store conn.new)) }
+    ensures cut { (start : Database) → IsMaking desk_tables desk_schema start (state S.Store conn.old)
+        → OnErr result (IsCut (state S.Store conn.old) (state S.Store conn.new)) }
 {
     create_units(conn)?;
     create_containers(conn)?;
@@ -52,8 +63,11 @@ pub fn known<S: Alter>(
     legacy: &Text,
 ) -> Result<Option<u64>, StoreFault>
     requires inside { InOffice (state S.Store conn.old) }
-    ensures finds { HasCleanDisk (state S.Store conn.new) → (f : Forest Described) → ShowsUnits (state S.Store conn.old).now.trees f → IfOk result (Finds (is_from source.now legacy.now) f) }
-    ensures faults { HasCleanDisk (state S.Store conn.new) → IsUnlimited (state S.Store conn.old) → (f : Forest Described) → ShowsUnits (state S.Store conn.old).now.trees f → IfErr result (HasCause (state S.Store conn.old) (state S.Store conn.new)) }
+    ensures finds { HasCleanDisk (state S.Store conn.new) → (f : Forest Described)
+        → ShowsUnits (state S.Store conn.old).now.trees f → IfOk result (Finds (is_from source.now legacy.now) f) }
+    ensures faults { HasCleanDisk (state S.Store conn.new) → IsUnlimited (state S.Store conn.old)
+        → (f : Forest Described) → ShowsUnits (state S.Store conn.old).now.trees f
+        → IfErr result (HasCause (state S.Store conn.old) (state S.Store conn.new)) }
     ensures looks { OnOk result (Looks (state S.Store conn.old) (state S.Store conn.new)) }
     ensures cut { OnErr result (IsCut (state S.Store conn.old) (state S.Store conn.new)) }
 {

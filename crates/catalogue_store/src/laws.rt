@@ -23,6 +23,8 @@ pub fn worked_catalogue()
 
 /// A catalogue that knows its containers knows them after a unit is added or takes other values.
 pub fn containers_known()
-    ensures added { (c : Catalogue) (parent : Option ℕ) (unit : Described) → KnowsItsContainers c → KnowsItsContainers (with_unit parent unit c) }
-    ensures valued { (c : Catalogue) (id : ℕ) (values : Values) → KnowsItsContainers c → KnowsItsContainers (with_values id values c) }
+    ensures added { (c : Catalogue) (parent : Option ℕ) (unit : Described) → KnowsItsContainers c
+        → KnowsItsContainers (with_unit parent unit c) }
+    ensures valued { (c : Catalogue) (id : ℕ) (values : Values) → KnowsItsContainers c
+        → KnowsItsContainers (with_values id values c) }
 {}

@@ -28,11 +28,18 @@ pub fn insert_office<P: Places, S: Alter>(
     row: &OfficeRow,
 ) -> Result<(), StoreFault>
     requires { row.now.next_unit < 2 ^ 63 }
-    ensures goes { InTransaction P.version (state S.Store conn.old) → OnOk result (Goes (state S.Store conn.old) (state S.Store conn.new)) }
-    ensures puts { InTransaction P.version (state S.Store conn.old) → HasCleanDisk (state S.Store conn.new) → OnOk result (PutsRow 13 (row_of_office P.version row.now) (state S.Store conn.old).now (state S.Store conn.new).now) }
-    ensures disk { InTransaction P.version (state S.Store conn.old) → HasCleanDisk (state S.Store conn.new) → IfErr result (BlamesDisk (state S.Store conn.old) (state S.Store conn.new)) }
-    ensures faults { InTransaction P.version (state S.Store conn.old) → HasCleanDisk (state S.Store conn.new) → IsUnlimited (state S.Store conn.old) → (state S.Store conn.old).now.trees 13 ≡ [] → IfErr result (HasCause (state S.Store conn.old) (state S.Store conn.new)) }
-    ensures cut { InTransaction P.version (state S.Store conn.old) → OnErr result (IsCut (state S.Store conn.old) (state S.Store conn.new)) }
+    ensures goes { InTransaction P.version (state S.Store conn.old)
+        → OnOk result (Goes (state S.Store conn.old) (state S.Store conn.new)) }
+    ensures puts { InTransaction P.version (state S.Store conn.old) → HasCleanDisk (state S.Store conn.new)
+        → OnOk result (PutsRow 13 (row_of_office P.version row.now) (state S.Store conn.old).now
+        (state S.Store conn.new).now) }
+    ensures disk { InTransaction P.version (state S.Store conn.old) → HasCleanDisk (state S.Store conn.new)
+        → IfErr result (BlamesDisk (state S.Store conn.old) (state S.Store conn.new)) }
+    ensures faults { InTransaction P.version (state S.Store conn.old) → HasCleanDisk (state S.Store conn.new)
+        → IsUnlimited (state S.Store conn.old) → (state S.Store conn.old).now.trees 13 ≡ []
+        → IfErr result (HasCause (state S.Store conn.old) (state S.Store conn.new)) }
+    ensures cut { InTransaction P.version (state S.Store conn.old)
+        → OnErr result (IsCut (state S.Store conn.old) (state S.Store conn.new)) }
 {
     let version = P::number();
     // An open connection's rows keep the rules of its tables.
@@ -70,8 +77,13 @@ pub fn office_row<P: Places, S: Alter>(
     conn: &mut Connection<S>,
 ) -> Result<Office, StoreFault>
     requires inside { InTransaction P.version (state S.Store conn.old) }
-    ensures answers { HasCleanDisk (state S.Store conn.new) → (o : OfficeRow) (c : Catalogue) → Shows P.shows P.version (state S.Store conn.old).now o c → IfOk result (λ office. office ≡ record { row = o; units = capped (size c.forest); containers = capped (length c.containers) }) }
-    ensures faults { HasCleanDisk (state S.Store conn.new) → IsUnlimited (state S.Store conn.old) → (o : OfficeRow) (c : Catalogue) → Shows P.shows P.version (state S.Store conn.old).now o c → AreLegibleSettings o → IfErr result (HasCause (state S.Store conn.old) (state S.Store conn.new)) }
+    ensures answers { HasCleanDisk (state S.Store conn.new) → (o : OfficeRow) (c : Catalogue)
+        → Shows P.shows P.version (state S.Store conn.old).now o c
+        → IfOk result (λ office. office
+        ≡ record { row = o; units = capped (size c.forest); containers = capped (length c.containers) }) }
+    ensures faults { HasCleanDisk (state S.Store conn.new) → IsUnlimited (state S.Store conn.old)
+        → (o : OfficeRow) (c : Catalogue) → Shows P.shows P.version (state S.Store conn.old).now o c
+        → AreLegibleSettings o → IfErr result (HasCause (state S.Store conn.old) (state S.Store conn.new)) }
     ensures looks { OnOk result (Looks (state S.Store conn.old) (state S.Store conn.new)) }
     ensures cut { OnErr result (IsCut (state S.Store conn.old) (state S.Store conn.new)) }
 {

@@ -1,6 +1,7 @@
 //! The values of a unit, read from its rows.
 
-ghost use Rattle.std.specs.Prelude.{◌≡◌, ◌≢◌, ◌<◌, ◌^◌, ℕ, List, length, map, true, IsPermutation, IsOk, OnOk, OnErr, IfOk, IfErr, IfSome, IfNone, IsUtf8};
+ghost use Rattle.std.specs.Prelude.{◌≡◌, ◌≢◌, ◌<◌, ◌^◌, ℕ, List, length, map, true, IsPermutation, IsOk, OnOk};
+ghost use Rattle.std.specs.Prelude.{OnErr, IfOk, IfErr, IfSome, IfNone, IsUtf8};
 ghost use Rattle.std.specs.List.{AllByRecursion, list_any, list_all};
 ghost use Rattle.sqlite.specs.Held.{state};
 ghost use Rattle.sqlite.specs.State.{HasCleanDisk};
@@ -15,7 +16,9 @@ ghost use Rattle.isad_core.specs.Legible.{IsLegibleBox};
 ghost use Rattle.catalogue_core.specs.Merging.{Catalogue, box_number};
 ghost use Rattle.catalogue_rows.specs.Rows.{ElementRow, element_row, HousingRow, housing_row};
 ghost use Rattle.tree_core.specs.Versions.{Version};
-ghost use Rattle.catalogue_rows.specs.Shows.{ShowsCatalogue, ShowsContainers, element_cells, element_number as number_of_place, elements_of as texts_among, housing_cells, housings_of as containers_among};
+ghost use Rattle.catalogue_rows.specs.Shows.{ShowsCatalogue, ShowsContainers, element_cells};
+ghost use Rattle.catalogue_rows.specs.Shows.{element_number as number_of_place, elements_of as texts_among};
+ghost use Rattle.catalogue_rows.specs.Shows.{housing_cells, housings_of as containers_among};
 ghost use Rattle.office_tables.specs.Step.{InOffice, Looks, IsCut};
 ghost use Rattle.catalogue_rows.specs.declared.answer.Element.{Element};
 ghost use Rattle.catalogue_rows.specs.declared.answer.Housing.{Housing};
@@ -54,8 +57,11 @@ fn place_of(k: u64) -> Option<usize>
 
 /// These texts at the places of their elements.
 fn placed(elements: Vec<Element>) -> Result<[Option<Text>; 25], StoreFault>
-    ensures value { (values : Description) → length values.texts ≡ 25 → map (λ (e : Element). (e.k, e.value)) elements.items ≡ element_cells values → IfOk result (λ texts. texts ≡ values.texts) }
-    ensures places { (values : Description) → length values.texts ≡ 25 → map (λ (e : Element). (e.k, e.value)) elements.items ≡ element_cells values → IsOk result }
+    ensures value { (values : Description) → length values.texts ≡ 25
+        → map (λ (e : Element). (e.k, e.value)) elements.items ≡ element_cells values
+        → IfOk result (λ texts. texts ≡ values.texts) }
+    ensures places { (values : Description) → length values.texts ≡ 25
+        → map (λ (e : Element). (e.k, e.value)) elements.items ≡ element_cells values → IsOk result }
 {
     let mut texts = array::from_fn(|_| None);
     for element in elements {
@@ -75,9 +81,16 @@ fn texts_of<S: Alter>(
 ) -> Result<[Option<Text>; 25], StoreFault>
     requires inside { InOffice (state S.Store conn.old) }
     requires small { unit < 2 ^ 63 }
-    ensures answers { HasCleanDisk (state S.Store conn.new) → (xs : List ElementRow) → (state S.Store conn.old).now.trees 16 ≡ map element_row xs → (values : Description) → length values.texts ≡ 25 → IsPermutation (element_cells values) (texts_among unit xs) → IfOk result (λ texts. texts ≡ values.texts) }
+    ensures answers { HasCleanDisk (state S.Store conn.new) → (xs : List ElementRow)
+        → (state S.Store conn.old).now.trees 16 ≡ map element_row xs → (values : Description)
+        → length values.texts ≡ 25 → IsPermutation (element_cells values) (texts_among unit xs)
+        → IfOk result (λ texts. texts ≡ values.texts) }
     ensures looks { OnOk result (Looks (state S.Store conn.old) (state S.Store conn.new)) }
-    ensures faults { HasCleanDisk (state S.Store conn.new) → IsUnlimited (state S.Store conn.old) → (xs : List ElementRow) → (state S.Store conn.old).now.trees 16 ≡ map element_row xs → AllByRecursion (λ e. IsUtf8 e.value) xs → (values : Description) → length values.texts ≡ 25 → IsPermutation (element_cells values) (texts_among unit xs) → IfErr result (HasCause (state S.Store conn.old) (state S.Store conn.new)) }
+    ensures faults { HasCleanDisk (state S.Store conn.new) → IsUnlimited (state S.Store conn.old)
+        → (xs : List ElementRow) → (state S.Store conn.old).now.trees 16 ≡ map element_row xs
+        → AllByRecursion (λ e. IsUtf8 e.value) xs → (values : Description) → length values.texts ≡ 25
+        → IsPermutation (element_cells values) (texts_among unit xs)
+        → IfErr result (HasCause (state S.Store conn.old) (state S.Store conn.new)) }
     ensures cut { OnErr result (IsCut (state S.Store conn.old) (state S.Store conn.new)) }
 {
     let found = elements_of(alloc, conn, unit)?;
@@ -103,9 +116,14 @@ fn containers_of<S: Alter>(
 ) -> Result<List<u64>, StoreFault>
     requires inside { InOffice (state S.Store conn.old) }
     requires small { unit < 2 ^ 63 }
-    ensures answers { HasCleanDisk (state S.Store conn.new) → (xs : List HousingRow) → (state S.Store conn.old).now.trees 20 ≡ map housing_row xs → (boxes : List BoxKey) (values : Description) → IsPermutation (housing_cells boxes values) (containers_among unit xs) → IfOk result (λ numbers. numbers ≡ map (box_number boxes) values.boxes) }
+    ensures answers { HasCleanDisk (state S.Store conn.new) → (xs : List HousingRow)
+        → (state S.Store conn.old).now.trees 20 ≡ map housing_row xs → (boxes : List BoxKey) (values : Description)
+        → IsPermutation (housing_cells boxes values) (containers_among unit xs)
+        → IfOk result (λ numbers. numbers ≡ map (box_number boxes) values.boxes) }
     ensures looks { OnOk result (Looks (state S.Store conn.old) (state S.Store conn.new)) }
-    ensures faults { HasCleanDisk (state S.Store conn.new) → IsUnlimited (state S.Store conn.old) → (xs : List HousingRow) → (state S.Store conn.old).now.trees 20 ≡ map housing_row xs → IfErr result (HasCause (state S.Store conn.old) (state S.Store conn.new)) }
+    ensures faults { HasCleanDisk (state S.Store conn.new) → IsUnlimited (state S.Store conn.old)
+        → (xs : List HousingRow) → (state S.Store conn.old).now.trees 20 ≡ map housing_row xs
+        → IfErr result (HasCause (state S.Store conn.old) (state S.Store conn.new)) }
     ensures cut { OnErr result (IsCut (state S.Store conn.old) (state S.Store conn.new)) }
 {
     let found = housings_of(alloc, conn, unit)?;
@@ -119,9 +137,15 @@ fn container_of<S: Alter>(
     number: u64,
 ) -> Result<BoxKey, StoreFault>
     requires inside { InOffice (state S.Store conn.old) }
-    ensures answers { HasCleanDisk (state S.Store conn.new) → (boxes : List BoxKey) → ShowsContainers (state S.Store conn.old).now.trees boxes → (b : BoxKey) → number ≡ box_number boxes b → IfOk result (λ key. key ≡ b) }
+    ensures answers { HasCleanDisk (state S.Store conn.new) → (boxes : List BoxKey)
+        → ShowsContainers (state S.Store conn.old).now.trees boxes → (b : BoxKey) → number ≡ box_number boxes b
+        → IfOk result (λ key. key ≡ b) }
     ensures looks { OnOk result (Looks (state S.Store conn.old) (state S.Store conn.new)) }
-    ensures faults { HasCleanDisk (state S.Store conn.new) → IsUnlimited (state S.Store conn.old) → (boxes : List BoxKey) → ShowsContainers (state S.Store conn.old).now.trees boxes → AllByRecursion IsLegibleBox boxes → length boxes < 2 ^ 62 → (b : BoxKey) → list_any (is_same_box b) boxes ≡ true → number ≡ box_number boxes b → IfErr result (HasCause (state S.Store conn.old) (state S.Store conn.new)) }
+    ensures faults { HasCleanDisk (state S.Store conn.new) → IsUnlimited (state S.Store conn.old)
+        → (boxes : List BoxKey) → ShowsContainers (state S.Store conn.old).now.trees boxes
+        → AllByRecursion IsLegibleBox boxes → length boxes < 2 ^ 62 → (b : BoxKey)
+        → list_any (is_same_box b) boxes ≡ true → number ≡ box_number boxes b
+        → IfErr result (HasCause (state S.Store conn.old) (state S.Store conn.new)) }
     ensures cut { OnErr result (IsCut (state S.Store conn.old) (state S.Store conn.new)) }
 {
     if number >= NO_NUMBER {
@@ -141,9 +165,15 @@ fn boxes_of<S: Alter>(
     numbers: &[u64],
 ) -> Result<List<BoxKey>, StoreFault>
     requires inside { InOffice (state S.Store conn.old) }
-    ensures answers { HasCleanDisk (state S.Store conn.new) → (boxes : List BoxKey) → ShowsContainers (state S.Store conn.old).now.trees boxes → (bs : List BoxKey) → numbers.now ≡ map (box_number boxes) bs → IfOk result (λ keys. keys ≡ bs) }
+    ensures answers { HasCleanDisk (state S.Store conn.new) → (boxes : List BoxKey)
+        → ShowsContainers (state S.Store conn.old).now.trees boxes → (bs : List BoxKey)
+        → numbers.now ≡ map (box_number boxes) bs → IfOk result (λ keys. keys ≡ bs) }
     ensures looks { OnOk result (Looks (state S.Store conn.old) (state S.Store conn.new)) }
-    ensures faults { HasCleanDisk (state S.Store conn.new) → IsUnlimited (state S.Store conn.old) → (boxes : List BoxKey) → ShowsContainers (state S.Store conn.old).now.trees boxes → AllByRecursion IsLegibleBox boxes → length boxes < 2 ^ 62 → (bs : List BoxKey) → list_all (λ b. list_any (is_same_box b) boxes) bs ≡ true → numbers.now ≡ map (box_number boxes) bs → IfErr result (HasCause (state S.Store conn.old) (state S.Store conn.new)) }
+    ensures faults { HasCleanDisk (state S.Store conn.new) → IsUnlimited (state S.Store conn.old)
+        → (boxes : List BoxKey) → ShowsContainers (state S.Store conn.old).now.trees boxes
+        → AllByRecursion IsLegibleBox boxes → length boxes < 2 ^ 62 → (bs : List BoxKey)
+        → list_all (λ b. list_any (is_same_box b) boxes) bs ≡ true → numbers.now ≡ map (box_number boxes) bs
+        → IfErr result (HasCause (state S.Store conn.old) (state S.Store conn.new)) }
     ensures cut { OnErr result (IsCut (state S.Store conn.old) (state S.Store conn.new)) }
 {
     let mut keys = List::new(alloc);
@@ -161,9 +191,14 @@ pub fn values<S: Alter>(
 ) -> Result<Option<UnitValues>, StoreFault>
     requires inside { InOffice (state S.Store conn.old) }
     requires small { unit < 2 ^ 63 }
-    ensures answers { HasCleanDisk (state S.Store conn.new) → (version : Version) (o : OfficeRow) (c : Catalogue) → ShowsCatalogue version (state S.Store conn.old).now o c → HasAllPlaces c → IfOk result (λ found. found ≡ values_of unit c) }
+    ensures answers { HasCleanDisk (state S.Store conn.new) → (version : Version) (o : OfficeRow) (c : Catalogue)
+        → ShowsCatalogue version (state S.Store conn.old).now o c → HasAllPlaces c
+        → IfOk result (λ found. found ≡ values_of unit c) }
     ensures looks { OnOk result (Looks (state S.Store conn.old) (state S.Store conn.new)) }
-    ensures faults { HasCleanDisk (state S.Store conn.new) → IsUnlimited (state S.Store conn.old) → (version : Version) (o : OfficeRow) (c : Catalogue) → ShowsCatalogue version (state S.Store conn.old).now o c → HasAllPlaces c → KnowsItsContainers c → IsKept c → IfErr result (HasCause (state S.Store conn.old) (state S.Store conn.new)) }
+    ensures faults { HasCleanDisk (state S.Store conn.new) → IsUnlimited (state S.Store conn.old)
+        → (version : Version) (o : OfficeRow) (c : Catalogue)
+        → ShowsCatalogue version (state S.Store conn.old).now o c → HasAllPlaces c → KnowsItsContainers c → IsKept c
+        → IfErr result (HasCause (state S.Store conn.old) (state S.Store conn.new)) }
     ensures cut { OnErr result (IsCut (state S.Store conn.old) (state S.Store conn.new)) }
 {
     let mut levels = levels_of(alloc, conn, unit)?;

@@ -81,8 +81,13 @@ pub(crate) fn live_lines<S: Alter>(
     requires inside { InOffice (state S.Store conn.old) }
     requires small { ticket < 2 ^ 63 }
     ensures reads { Reads (state S.Store conn.old) (state S.Store conn.new) result }
-    ensures rows { HasCleanDisk (state S.Store conn.new) → (xs : Rows OrderRow) → Holds tables.orders order_cells (state S.Store conn.old) xs → AreCounted (λ o. o.id) xs → IfOk result (λ found. found.items ≡ map (λ (o : OrderRow). record { order = o.id; container = o.container; state = o.state }) (filter (λ o. nat_eq ticket o.ticket && is_live o) xs)) }
-    ensures faults { (xs : Rows OrderRow) → Holds tables.orders order_cells (state S.Store conn.old) xs → Excused (state S.Store conn.old) (state S.Store conn.new) result }
+    ensures rows { HasCleanDisk (state S.Store conn.new) → (xs : Rows OrderRow)
+        → Holds tables.orders order_cells (state S.Store conn.old) xs → AreCounted (λ o. o.id) xs
+        → IfOk result (λ found. found.items ≡ map
+        (λ (o : OrderRow). record { order = o.id; container = o.container; state = o.state })
+        (filter (λ o. nat_eq ticket o.ticket && is_live o) xs)) }
+    ensures faults { (xs : Rows OrderRow) → Holds tables.orders order_cells (state S.Store conn.old) xs
+        → Excused (state S.Store conn.old) (state S.Store conn.new) result }
 {
     find(
         alloc,
@@ -96,8 +101,12 @@ pub(crate) fn live_lines<S: Alter>(
 pub(crate) fn last_order<S: Alter>(conn: &mut Connection<S>) -> Result<u32, StoreFault>
     requires inside { InOffice (state S.Store conn.old) }
     ensures reads { Reads (state S.Store conn.old) (state S.Store conn.new) result }
-    ensures number { HasCleanDisk (state S.Store conn.new) → (xs : Rows OrderRow) → Holds tables.orders order_cells (state S.Store conn.old) xs → length xs ≤ most_orders → AreCounted (λ o. o.id) xs → IfOk result (λ n. n ≡ length xs) }
-    ensures faults { (xs : Rows OrderRow) → Holds tables.orders order_cells (state S.Store conn.old) xs → length xs ≤ most_orders → AreCounted (λ o. o.id) xs → Excused (state S.Store conn.old) (state S.Store conn.new) result }
+    ensures number { HasCleanDisk (state S.Store conn.new) → (xs : Rows OrderRow)
+        → Holds tables.orders order_cells (state S.Store conn.old) xs → length xs ≤ most_orders
+        → AreCounted (λ o. o.id) xs → IfOk result (λ n. n ≡ length xs) }
+    ensures faults { (xs : Rows OrderRow) → Holds tables.orders order_cells (state S.Store conn.old) xs
+        → length xs ≤ most_orders → AreCounted (λ o. o.id) xs
+        → Excused (state S.Store conn.old) (state S.Store conn.new) result }
 {
     find_number(conn, "SELECT id FROM orders ORDER BY id DESC LIMIT 1", &[])
 }
@@ -112,8 +121,11 @@ pub(crate) fn placed_on<S: Alter>(
     requires inside { InOffice (state S.Store conn.old) }
     requires small { ticket < 2 ^ 63 }
     ensures reads { Reads (state S.Store conn.old) (state S.Store conn.new) result }
-    ensures number { HasCleanDisk (state S.Store conn.new) → (xs : Rows OrderRow) → Holds tables.orders order_cells (state S.Store conn.old) xs → length xs ≤ most_orders → IfOk result (λ n. n ≡ count_by (λ (o : OrderRow). nat_eq ticket o.ticket && int_eq o.day on) xs) }
-    ensures faults { (xs : Rows OrderRow) → Holds tables.orders order_cells (state S.Store conn.old) xs → length xs ≤ most_orders → Excused (state S.Store conn.old) (state S.Store conn.new) result }
+    ensures number { HasCleanDisk (state S.Store conn.new) → (xs : Rows OrderRow)
+        → Holds tables.orders order_cells (state S.Store conn.old) xs → length xs ≤ most_orders
+        → IfOk result (λ n. n ≡ count_by (λ (o : OrderRow). nat_eq ticket o.ticket && int_eq o.day on) xs) }
+    ensures faults { (xs : Rows OrderRow) → Holds tables.orders order_cells (state S.Store conn.old) xs
+        → length xs ≤ most_orders → Excused (state S.Store conn.old) (state S.Store conn.new) result }
 {
     find_number(
         conn,

@@ -16,9 +16,14 @@ use sqlite::{Alter, Connection};
 
 /// Makes the tables of the readers and of the seats that are taken.
 fn create_readers<S: Alter>(conn: &mut Connection<S>) -> Result<(), StoreFault>
-    ensures made { (start : Database) → IsMaking [] no_schema start (state S.Store conn.old) → OnOk result (Continues (state S.Store conn.old) (state S.Store conn.new) × IsMaking [] reader_schema start (state S.Store conn.new)) }
-    ensures faults { (start : Database) → IsMaking [] no_schema start (state S.Store conn.old) → HasCleanDisk (state S.Store conn.new) → IfErr result (HasCause (state S.Store conn.old) (state S.Store conn.new)) }
-    ensures cut { (start : Database) → IsMaking [] no_schema start (state S.Store conn.old) → OnErr result (IsCut (state S.Store conn.old) (state S.Store conn.new)) }
+    ensures made { (start : Database) → IsMaking [] no_schema start (state S.Store conn.old)
+        → OnOk result (Continues (state S.Store conn.old) (state S.Store conn.new) × IsMaking [] reader_schema start
+        (state S.Store conn.new)) }
+    ensures faults { (start : Database) → IsMaking [] no_schema start (state S.Store conn.old)
+        → HasCleanDisk (state S.Store conn.new)
+        → IfErr result (HasCause (state S.Store conn.old) (state S.Store conn.new)) }
+    ensures cut { (start : Database) → IsMaking [] no_schema start (state S.Store conn.old)
+        → OnErr result (IsCut (state S.Store conn.old) (state S.Store conn.new)) }
 {
     create_table(
         conn,
@@ -32,9 +37,14 @@ fn create_readers<S: Alter>(conn: &mut Connection<S>) -> Result<(), StoreFault>
 
 /// Makes the table of the orders.
 fn create_orders<S: Alter>(conn: &mut Connection<S>) -> Result<(), StoreFault>
-    ensures made { (start : Database) → IsMaking [] reader_schema start (state S.Store conn.old) → OnOk result (Continues (state S.Store conn.old) (state S.Store conn.new) × IsMaking [] order_schema start (state S.Store conn.new)) }
-    ensures faults { (start : Database) → IsMaking [] reader_schema start (state S.Store conn.old) → HasCleanDisk (state S.Store conn.new) → IfErr result (HasCause (state S.Store conn.old) (state S.Store conn.new)) }
-    ensures cut { (start : Database) → IsMaking [] reader_schema start (state S.Store conn.old) → OnErr result (IsCut (state S.Store conn.old) (state S.Store conn.new)) }
+    ensures made { (start : Database) → IsMaking [] reader_schema start (state S.Store conn.old)
+        → OnOk result (Continues (state S.Store conn.old) (state S.Store conn.new) × IsMaking [] order_schema start
+        (state S.Store conn.new)) }
+    ensures faults { (start : Database) → IsMaking [] reader_schema start (state S.Store conn.old)
+        → HasCleanDisk (state S.Store conn.new)
+        → IfErr result (HasCause (state S.Store conn.old) (state S.Store conn.new)) }
+    ensures cut { (start : Database) → IsMaking [] reader_schema start (state S.Store conn.old)
+        → OnErr result (IsCut (state S.Store conn.old) (state S.Store conn.new)) }
 {
     create_table(
         conn,
@@ -52,9 +62,14 @@ fn create_orders<S: Alter>(conn: &mut Connection<S>) -> Result<(), StoreFault>
 
 /// Makes the tables of the containers that are not on the shelf, and of the runs.
 fn create_runs<S: Alter>(conn: &mut Connection<S>) -> Result<(), StoreFault>
-    ensures made { (start : Database) → IsMaking [] order_schema start (state S.Store conn.old) → OnOk result (Continues (state S.Store conn.old) (state S.Store conn.new) × IsMaking [] run_schema start (state S.Store conn.new)) }
-    ensures faults { (start : Database) → IsMaking [] order_schema start (state S.Store conn.old) → HasCleanDisk (state S.Store conn.new) → IfErr result (HasCause (state S.Store conn.old) (state S.Store conn.new)) }
-    ensures cut { (start : Database) → IsMaking [] order_schema start (state S.Store conn.old) → OnErr result (IsCut (state S.Store conn.old) (state S.Store conn.new)) }
+    ensures made { (start : Database) → IsMaking [] order_schema start (state S.Store conn.old)
+        → OnOk result (Continues (state S.Store conn.old) (state S.Store conn.new) × IsMaking [] run_schema start
+        (state S.Store conn.new)) }
+    ensures faults { (start : Database) → IsMaking [] order_schema start (state S.Store conn.old)
+        → HasCleanDisk (state S.Store conn.new)
+        → IfErr result (HasCause (state S.Store conn.old) (state S.Store conn.new)) }
+    ensures cut { (start : Database) → IsMaking [] order_schema start (state S.Store conn.old)
+        → OnErr result (IsCut (state S.Store conn.old) (state S.Store conn.new)) }
 {
     create_table(
         conn,
@@ -72,9 +87,14 @@ fn create_runs<S: Alter>(conn: &mut Connection<S>) -> Result<(), StoreFault>
 
 /// Makes the table of the permits.
 fn create_permits<S: Alter>(conn: &mut Connection<S>) -> Result<(), StoreFault>
-    ensures made { (start : Database) → IsMaking [] run_schema start (state S.Store conn.old) → OnOk result (Continues (state S.Store conn.old) (state S.Store conn.new) × IsMaking [] desk_schema start (state S.Store conn.new)) }
-    ensures faults { (start : Database) → IsMaking [] run_schema start (state S.Store conn.old) → HasCleanDisk (state S.Store conn.new) → IfErr result (HasCause (state S.Store conn.old) (state S.Store conn.new)) }
-    ensures cut { (start : Database) → IsMaking [] run_schema start (state S.Store conn.old) → OnErr result (IsCut (state S.Store conn.old) (state S.Store conn.new)) }
+    ensures made { (start : Database) → IsMaking [] run_schema start (state S.Store conn.old)
+        → OnOk result (Continues (state S.Store conn.old) (state S.Store conn.new) × IsMaking [] desk_schema start
+        (state S.Store conn.new)) }
+    ensures faults { (start : Database) → IsMaking [] run_schema start (state S.Store conn.old)
+        → HasCleanDisk (state S.Store conn.new)
+        → IfErr result (HasCause (state S.Store conn.old) (state S.Store conn.new)) }
+    ensures cut { (start : Database) → IsMaking [] run_schema start (state S.Store conn.old)
+        → OnErr result (IsCut (state S.Store conn.old) (state S.Store conn.new)) }
 {
     create_table(
         conn,
@@ -85,9 +105,14 @@ fn create_permits<S: Alter>(conn: &mut Connection<S>) -> Result<(), StoreFault>
 
 /// Makes the desk's tables, where there are none.
 fn make_desk<S: Alter>(conn: &mut Connection<S>) -> Result<(), StoreFault>
-    ensures made { (start : Database) → IsMaking [] no_schema start (state S.Store conn.old) → OnOk result (Continues (state S.Store conn.old) (state S.Store conn.new) × IsMaking [] desk_schema start (state S.Store conn.new)) }
-    ensures faults { (start : Database) → IsMaking [] no_schema start (state S.Store conn.old) → HasCleanDisk (state S.Store conn.new) → IfErr result (HasCause (state S.Store conn.old) (state S.Store conn.new)) }
-    ensures cut { (start : Database) → IsMaking [] no_schema start (state S.Store conn.old) → OnErr result (IsCut (state S.Store conn.old) (state S.Store conn.new)) }
+    ensures made { (start : Database) → IsMaking [] no_schema start (state S.Store conn.old)
+        → OnOk result (Continues (state S.Store conn.old) (state S.Store conn.new) × IsMaking [] desk_schema start
+        (state S.Store conn.new)) }
+    ensures faults { (start : Database) → IsMaking [] no_schema start (state S.Store conn.old)
+        → HasCleanDisk (state S.Store conn.new)
+        → IfErr result (HasCause (state S.Store conn.old) (state S.Store conn.new)) }
+    ensures cut { (start : Database) → IsMaking [] no_schema start (state S.Store conn.old)
+        → OnErr result (IsCut (state S.Store conn.old) (state S.Store conn.new)) }
 {
     create_readers(conn)?;
     create_orders(conn)?;
@@ -98,10 +123,16 @@ fn make_desk<S: Alter>(conn: &mut Connection<S>) -> Result<(), StoreFault>
 /// Makes the desk's tables in a store that has nothing yet; any other store is left as it is. They
 /// come before the catalogue's.
 pub fn create_desk<S: Alter>(conn: &mut Connection<S>) -> Result<(), StoreFault>
-    ensures there { ((state S.Store conn.old).now.schema ≡ no_schema → ⊥) → (result ≡ Err StoreFault.Schema) × (conn.new ≡ conn.old) }
-    ensures made { (start : Database) → IsMaking [] no_schema start (state S.Store conn.old) → OnOk result (Continues (state S.Store conn.old) (state S.Store conn.new) × IsMaking [] desk_schema start (state S.Store conn.new)) }
-    ensures faults { (start : Database) → IsMaking [] no_schema start (state S.Store conn.old) → HasCleanDisk (state S.Store conn.new) → IfErr result (HasCause (state S.Store conn.old) (state S.Store conn.new)) }
-    ensures cut { (start : Database) → IsMaking [] no_schema start (state S.Store conn.old) → OnErr result (IsCut (state S.Store conn.old) (state S.Store conn.new)) }
+    ensures there { ((state S.Store conn.old).now.schema ≡ no_schema → ⊥)
+        → (result ≡ Err StoreFault.Schema) × (conn.new ≡ conn.old) }
+    ensures made { (start : Database) → IsMaking [] no_schema start (state S.Store conn.old)
+        → OnOk result (Continues (state S.Store conn.old) (state S.Store conn.new) × IsMaking [] desk_schema start
+        (state S.Store conn.new)) }
+    ensures faults { (start : Database) → IsMaking [] no_schema start (state S.Store conn.old)
+        → HasCleanDisk (state S.Store conn.new)
+        → IfErr result (HasCause (state S.Store conn.old) (state S.Store conn.new)) }
+    ensures cut { (start : Database) → IsMaking [] no_schema start (state S.Store conn.old)
+        → OnErr result (IsCut (state S.Store conn.old) (state S.Store conn.new)) }
 {
     if !is_blank(conn) {
         return Err(StoreFault::Schema);

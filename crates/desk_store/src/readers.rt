@@ -1,6 +1,7 @@
 //! Tickets and their readers.
 
-ghost use Rattle.std.specs.Prelude.{◌≡◌, ◌<◌, ◌≤◌, ◌^◌, ℕ, nat_eq, false, if◌then◌else◌, List, [], ◌∷◌, map, filter, length, OnOk, IfOk, IfSome, ⊤};
+ghost use Rattle.std.specs.Prelude.{◌≡◌, ◌<◌, ◌≤◌, ◌^◌, ℕ, nat_eq, false, if◌then◌else◌, List, [], ◌∷◌, map};
+ghost use Rattle.std.specs.Prelude.{filter, length, OnOk, IfOk, IfSome, ⊤};
 ghost use Rattle.std.specs.List.{AllByRecursion, list_any};
 ghost use Rattle.sqlite.specs.Held.{state};
 ghost use Rattle.sqlite.specs.State.{HasCleanDisk};
@@ -64,8 +65,12 @@ pub(crate) fn readers_with<S: Alter>(
     requires inside { InOffice (state S.Store conn.old) }
     requires small { ticket < 2 ^ 63 }
     ensures reads { Reads (state S.Store conn.old) (state S.Store conn.new) result }
-    ensures rows { HasCleanDisk (state S.Store conn.new) → (xs : List ReaderRow) → Holds tables.reader reader_cells (state S.Store conn.old) xs → AreCounted (λ r. r.ticket) xs → IfOk result (λ found. found.items ≡ map (λ (r : ReaderRow). record { name = r.name; until = r.until }) (filter (λ r. nat_eq ticket r.ticket) xs)) }
-    ensures faults { (xs : List ReaderRow) → Holds tables.reader reader_cells (state S.Store conn.old) xs → AllByRecursion IsLegibleReader xs → Excused (state S.Store conn.old) (state S.Store conn.new) result }
+    ensures rows { HasCleanDisk (state S.Store conn.new) → (xs : List ReaderRow)
+        → Holds tables.reader reader_cells (state S.Store conn.old) xs → AreCounted (λ r. r.ticket) xs
+        → IfOk result (λ found. found.items ≡ map (λ (r : ReaderRow). record { name = r.name; until = r.until })
+        (filter (λ r. nat_eq ticket r.ticket) xs)) }
+    ensures faults { (xs : List ReaderRow) → Holds tables.reader reader_cells (state S.Store conn.old) xs
+        → AllByRecursion IsLegibleReader xs → Excused (state S.Store conn.old) (state S.Store conn.new) result }
 {
     find(
         alloc,
@@ -79,8 +84,12 @@ pub(crate) fn readers_with<S: Alter>(
 fn last_ticket<S: Alter>(conn: &mut Connection<S>) -> Result<u32, StoreFault>
     requires inside { InOffice (state S.Store conn.old) }
     ensures reads { Reads (state S.Store conn.old) (state S.Store conn.new) result }
-    ensures number { HasCleanDisk (state S.Store conn.new) → (xs : List ReaderRow) → Holds tables.reader reader_cells (state S.Store conn.old) xs → AreCounted (λ r. r.ticket) xs → IfOk result (λ n. n ≡ length xs) }
-    ensures faults { (xs : List ReaderRow) → Holds tables.reader reader_cells (state S.Store conn.old) xs → AreCounted (λ r. r.ticket) xs → length xs ≤ most_tickets → Excused (state S.Store conn.old) (state S.Store conn.new) result }
+    ensures number { HasCleanDisk (state S.Store conn.new) → (xs : List ReaderRow)
+        → Holds tables.reader reader_cells (state S.Store conn.old) xs → AreCounted (λ r. r.ticket) xs
+        → IfOk result (λ n. n ≡ length xs) }
+    ensures faults { (xs : List ReaderRow) → Holds tables.reader reader_cells (state S.Store conn.old) xs
+        → AreCounted (λ r. r.ticket) xs → length xs ≤ most_tickets
+        → Excused (state S.Store conn.old) (state S.Store conn.new) result }
 {
     find_number(
         conn,
@@ -99,8 +108,13 @@ fn insert_reader<S: Alter>(
     requires inside { InOffice (state S.Store conn.old) }
     requires small { ticket < 2 ^ 63 }
     ensures leaves { Leaves (state S.Store conn.old) (state S.Store conn.new) result }
-    ensures puts { HasCleanDisk (state S.Store conn.new) → OnOk result (PutsRow tables.reader.tree (reader_cells (record { ticket = ticket; name = name.now; until = until })) (state S.Store conn.old).now (state S.Store conn.new).now) }
-    ensures faults { (xs : List ReaderRow) → Holds tables.reader reader_cells (state S.Store conn.old) xs → list_any (λ r. nat_eq ticket r.ticket) xs ≡ false → Excused (state S.Store conn.old) (state S.Store conn.new) result }
+    ensures puts { HasCleanDisk (state S.Store conn.new)
+        → OnOk result (PutsRow tables.reader.tree
+        (reader_cells (record { ticket = ticket; name = name.now; until = until })) (state S.Store conn.old).now
+        (state S.Store conn.new).now) }
+    ensures faults { (xs : List ReaderRow) → Holds tables.reader reader_cells (state S.Store conn.old) xs
+        → list_any (λ r. nat_eq ticket r.ticket) xs ≡ false
+        → Excused (state S.Store conn.old) (state S.Store conn.new) result }
 {
     change(
         conn,
@@ -118,9 +132,15 @@ fn set_last_day<S: Alter>(
     requires inside { InOffice (state S.Store conn.old) }
     requires small { ticket < 2 ^ 63 }
     ensures leaves { Leaves (state S.Store conn.old) (state S.Store conn.new) result }
-    ensures rows { HasCleanDisk (state S.Store conn.new) → (xs : List ReaderRow) → Holds tables.reader reader_cells (state S.Store conn.old) xs → AreCounted (λ r. r.ticket) xs → OnOk result (HasRows tables.reader.tree (map reader_cells (renewed ticket until xs)) (state S.Store conn.old).now (state S.Store conn.new).now) }
-    ensures only { HasCleanDisk (state S.Store conn.new) → OnOk result (OnlyTouches (tables.reader.tree ∷ []) (state S.Store conn.old).now (state S.Store conn.new).now) }
-    ensures faults { (xs : List ReaderRow) → Holds tables.reader reader_cells (state S.Store conn.old) xs → AreCounted (λ r. r.ticket) xs → Excused (state S.Store conn.old) (state S.Store conn.new) result }
+    ensures rows { HasCleanDisk (state S.Store conn.new) → (xs : List ReaderRow)
+        → Holds tables.reader reader_cells (state S.Store conn.old) xs → AreCounted (λ r. r.ticket) xs
+        → OnOk result (HasRows tables.reader.tree (map reader_cells (renewed ticket until xs))
+        (state S.Store conn.old).now (state S.Store conn.new).now) }
+    ensures only { HasCleanDisk (state S.Store conn.new)
+        → OnOk result (OnlyTouches (tables.reader.tree ∷ []) (state S.Store conn.old).now
+        (state S.Store conn.new).now) }
+    ensures faults { (xs : List ReaderRow) → Holds tables.reader reader_cells (state S.Store conn.old) xs
+        → AreCounted (λ r. r.ticket) xs → Excused (state S.Store conn.old) (state S.Store conn.new) result }
 {
     change(
         conn,
@@ -133,7 +153,8 @@ fn set_last_day<S: Alter>(
 pub fn renew<S: Alter>(conn: &mut Connection<S>, ticket: u64, until: Day) -> Result<(), StoreFault>
     requires inside { InOffice (state S.Store conn.old) }
     requires small { ticket < 2 ^ 63 }
-    ensures makes { Makes S.Store ShowsRoom IsLegible conn.old conn.new result (λ _. ⊤) (with_last_day ticket until) (tables.reader.tree ∷ []) }
+    ensures makes { Makes S.Store ShowsRoom IsLegible conn.old conn.new result (λ _. ⊤) (with_last_day ticket until)
+        (tables.reader.tree ∷ []) }
 {
     set_last_day(conn, ticket, until)
 }
@@ -142,9 +163,11 @@ pub fn renew<S: Alter>(conn: &mut Connection<S>, ticket: u64, until: Day) -> Res
 fn next_number<S: Alter>(conn: &mut Connection<S>) -> Result<Option<u64>, StoreFault>
     requires inside { InOffice (state S.Store conn.old) }
     ensures reads { Reads (state S.Store conn.old) (state S.Store conn.new) result }
-    ensures number { HasCleanDisk (state S.Store conn.new) → (d : Desk) → ShowsDesk (state S.Store conn.old).now.trees d → IfOk result (λ ticket. ticket ≡ next_ticket d) }
+    ensures number { HasCleanDisk (state S.Store conn.new) → (d : Desk)
+        → ShowsDesk (state S.Store conn.old).now.trees d → IfOk result (λ ticket. ticket ≡ next_ticket d) }
     ensures small { IfOk result (λ ticket. IfSome ticket (λ n. n < 2 ^ 63)) }
-    ensures faults { (d : Desk) → ShowsDesk (state S.Store conn.old).now.trees d → Excused (state S.Store conn.old) (state S.Store conn.new) result }
+    ensures faults { (d : Desk) → ShowsDesk (state S.Store conn.old).now.trees d
+        → Excused (state S.Store conn.old) (state S.Store conn.new) result }
 {
     let last = last_ticket(conn)?;
     if last < MOST_TICKETS {
@@ -161,8 +184,10 @@ pub fn add_reader<S: Alter>(
     until: Day,
 ) -> Result<Option<u64>, StoreFault>
     requires inside { InOffice (state S.Store conn.old) }
-    ensures number { HasCleanDisk (state S.Store conn.new) → (d : Desk) → ShowsDesk (state S.Store conn.old).now.trees d → IfOk result (λ ticket. ticket ≡ next_ticket d) }
-    ensures makes { Makes S.Store ShowsRoom IsLegible conn.old conn.new result (λ _. ⊤) (λ d. with_reader (next_ticket d) name.now until d) (tables.reader.tree ∷ []) }
+    ensures number { HasCleanDisk (state S.Store conn.new) → (d : Desk)
+        → ShowsDesk (state S.Store conn.old).now.trees d → IfOk result (λ ticket. ticket ≡ next_ticket d) }
+    ensures makes { Makes S.Store ShowsRoom IsLegible conn.old conn.new result (λ _. ⊤)
+        (λ d. with_reader (next_ticket d) name.now until d) (tables.reader.tree ∷ []) }
 {
     let Some(ticket) = next_number(conn)? else {
         return Ok(None);

@@ -1,6 +1,7 @@
 //! Who sits where.
 
-ghost use Rattle.std.specs.Prelude.{◌≡◌, ◌<◌, ◌^◌, ℕ, not, nat_eq, false, true, List, [], ◌∷◌, map, filter, OnOk, IfOk, IfSome, ⊤};
+ghost use Rattle.std.specs.Prelude.{◌≡◌, ◌<◌, ◌^◌, ℕ, not, nat_eq, false, true, List, [], ◌∷◌, map, filter, OnOk};
+ghost use Rattle.std.specs.Prelude.{IfOk, IfSome, ⊤};
 ghost use Rattle.std.specs.List.{AllByRecursion, list_any};
 ghost use Rattle.sqlite.specs.Held.{state};
 ghost use Rattle.sqlite.specs.State.{HasCleanDisk};
@@ -51,7 +52,8 @@ pub fn seats<S: Alter>(
     conn: &mut Connection<S>,
 ) -> Result<Vec<TakenSeat>, StoreFault>
     requires inside { InOffice (state S.Store conn.old) }
-    ensures tells { Tells S.Store ShowsRoom IsLegible conn.old conn.new result (λ _. ⊤) (λ _ d all. all.items ≡ taken_seats d) }
+    ensures tells { Tells S.Store ShowsRoom IsLegible conn.old conn.new result (λ _. ⊤)
+        (λ _ d all. all.items ≡ taken_seats d) }
 {
     find(
         alloc,
@@ -70,8 +72,13 @@ pub(crate) fn seats_with<S: Alter>(
     requires inside { InOffice (state S.Store conn.old) }
     requires small { ticket < 2 ^ 63 }
     ensures reads { Reads (state S.Store conn.old) (state S.Store conn.new) result }
-    ensures rows { HasCleanDisk (state S.Store conn.new) → (xs : List SeatRow) → Holds tables.seat seat_cells (state S.Store conn.old) xs → AreByNumber (λ s. s.seat) xs → IfOk result (λ found. found.items ≡ map (λ (s : SeatRow). record { seat = s.seat; ticket = s.ticket }) (filter (λ s. nat_eq ticket s.ticket) xs)) }
-    ensures faults { (xs : List SeatRow) → Holds tables.seat seat_cells (state S.Store conn.old) xs → AllByRecursion (λ s. s.seat < 2 ^ 32) xs → Excused (state S.Store conn.old) (state S.Store conn.new) result }
+    ensures rows { HasCleanDisk (state S.Store conn.new) → (xs : List SeatRow)
+        → Holds tables.seat seat_cells (state S.Store conn.old) xs → AreByNumber (λ s. s.seat) xs
+        → IfOk result (λ found. found.items ≡ map (λ (s : SeatRow). record { seat = s.seat; ticket = s.ticket })
+        (filter (λ s. nat_eq ticket s.ticket) xs)) }
+    ensures faults { (xs : List SeatRow) → Holds tables.seat seat_cells (state S.Store conn.old) xs
+        → AllByRecursion (λ s. s.seat < 2 ^ 32) xs
+        → Excused (state S.Store conn.old) (state S.Store conn.new) result }
 {
     find(
         alloc,
@@ -87,8 +94,12 @@ fn insert_seat<S: Alter>(conn: &mut Connection<S>, seat: u64, ticket: u64) -> Re
     requires number { seat < 2 ^ 63 }
     requires small { ticket < 2 ^ 63 }
     ensures leaves { Leaves (state S.Store conn.old) (state S.Store conn.new) result }
-    ensures puts { HasCleanDisk (state S.Store conn.new) → OnOk result (PutsRow tables.seat.tree (seat_cells (record { seat = seat; ticket = ticket })) (state S.Store conn.old).now (state S.Store conn.new).now) }
-    ensures faults { (xs : List SeatRow) → Holds tables.seat seat_cells (state S.Store conn.old) xs → list_any (λ s. nat_eq seat s.seat) xs ≡ false → list_any (λ s. nat_eq ticket s.ticket) xs ≡ false → Excused (state S.Store conn.old) (state S.Store conn.new) result }
+    ensures puts { HasCleanDisk (state S.Store conn.new)
+        → OnOk result (PutsRow tables.seat.tree (seat_cells (record { seat = seat; ticket = ticket }))
+        (state S.Store conn.old).now (state S.Store conn.new).now) }
+    ensures faults { (xs : List SeatRow) → Holds tables.seat seat_cells (state S.Store conn.old) xs
+        → list_any (λ s. nat_eq seat s.seat) xs ≡ false → list_any (λ s. nat_eq ticket s.ticket) xs ≡ false
+        → Excused (state S.Store conn.old) (state S.Store conn.new) result }
 {
     change(
         conn,
@@ -102,8 +113,13 @@ fn clear_seat<S: Alter>(conn: &mut Connection<S>, seat: u64) -> Result<(), Store
     requires inside { InOffice (state S.Store conn.old) }
     requires number { seat < 2 ^ 63 }
     ensures leaves { Leaves (state S.Store conn.old) (state S.Store conn.new) result }
-    ensures rows { HasCleanDisk (state S.Store conn.new) → (xs : List SeatRow) → Holds tables.seat seat_cells (state S.Store conn.old) xs → AreByNumber (λ s. s.seat) xs → OnOk result (HasRows tables.seat.tree (map seat_cells (filter (λ s. not (nat_eq seat s.seat)) xs)) (state S.Store conn.old).now (state S.Store conn.new).now) }
-    ensures only { HasCleanDisk (state S.Store conn.new) → OnOk result (OnlyTouches (tables.seat.tree ∷ []) (state S.Store conn.old).now (state S.Store conn.new).now) }
+    ensures rows { HasCleanDisk (state S.Store conn.new) → (xs : List SeatRow)
+        → Holds tables.seat seat_cells (state S.Store conn.old) xs → AreByNumber (λ s. s.seat) xs
+        → OnOk result (HasRows tables.seat.tree (map seat_cells (filter (λ s. not (nat_eq seat s.seat)) xs))
+        (state S.Store conn.old).now (state S.Store conn.new).now) }
+    ensures only { HasCleanDisk (state S.Store conn.new)
+        → OnOk result (OnlyTouches (tables.seat.tree ∷ []) (state S.Store conn.old).now
+        (state S.Store conn.new).now) }
     ensures faults { Excused (state S.Store conn.old) (state S.Store conn.new) result }
 {
     change(conn, "DELETE FROM seat WHERE seat = ?1", &[number(seat)])
@@ -117,7 +133,8 @@ pub fn set_seat<S: Alter>(
 ) -> Result<(), StoreFault>
     requires inside { InOffice (state S.Store conn.old) }
     requires small { IfSome who (λ ticket. ticket < 2 ^ 63) }
-    ensures makes { Makes S.Store ShowsRoom IsLegible conn.old conn.new result (MayTake seat who) (with_seat seat who) (tables.seat.tree ∷ []) }
+    ensures makes { Makes S.Store ShowsRoom IsLegible conn.old conn.new result (MayTake seat who)
+        (with_seat seat who) (tables.seat.tree ∷ []) }
 {
     match who {
         Some(ticket) => insert_seat(conn, u64::from(seat), ticket),

@@ -106,7 +106,8 @@ impl FromRow for Link {
 /// Reads all rows of an answer.
 pub fn read_all<T: FromRow + Drop>(alloc: Global, rows: &[Row]) -> Result<Vec<T>, StoreFault>
     ensures value { (xs : List T) → rows.now ≡ map T.cells xs → IfOk result (λ all. all.items ≡ xs) }
-    ensures faults { (xs : List T) → rows.now ≡ map T.cells xs → AllByRecursion T.is_legible xs → IfErr result (λ e. e ≡ StoreFault.Memory) }
+    ensures faults { (xs : List T) → rows.now ≡ map T.cells xs → AllByRecursion T.is_legible xs
+        → IfErr result (λ e. e ≡ StoreFault.Memory) }
 {
     let mut all = Vec::new(alloc);
     for row in rows {
@@ -127,8 +128,10 @@ pub fn only_number(numbers: &[u64]) -> Result<u64, StoreFault>
 
 /// The number in the first row, or 0 where there is none.
 pub fn first_or_zero(rows: &[Row]) -> Result<u32, StoreFault>
-    ensures value { (xs : List ℕ) → rows.now ≡ map (λ n. Int (pos n) ∷ []) xs → IfOk result (λ n. n ≡ slice_index_or xs 0 0) }
-    ensures faults { (xs : List ℕ) → rows.now ≡ map (λ n. Int (pos n) ∷ []) xs → AllByRecursion (λ n. n < 2 ^ 32) xs → IfErr result (λ e. e ≡ StoreFault.Memory) }
+    ensures value { (xs : List ℕ) → rows.now ≡ map (λ n. Int (pos n) ∷ []) xs
+        → IfOk result (λ n. n ≡ slice_index_or xs 0 0) }
+    ensures faults { (xs : List ℕ) → rows.now ≡ map (λ n. Int (pos n) ∷ []) xs → AllByRecursion (λ n. n < 2 ^ 32) xs
+        → IfErr result (λ e. e ≡ StoreFault.Memory) }
 {
     match rows.first() {
         Some(row) => Ok(row.get(0)?),

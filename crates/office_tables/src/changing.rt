@@ -17,7 +17,8 @@ pub fn change<S: Alter>(
 ) -> Result<(), StoreFault>
     requires { IsOurs sql.now (state S.Store conn.old) }
     ensures leaves { Leaves (state S.Store conn.old) (state S.Store conn.new) result }
-    ensures ran { HasCleanDisk (state S.Store conn.new) → Ran sql.now (bound params.now) (state S.Store conn.old) (state S.Store conn.new) result }
+    ensures ran { HasCleanDisk (state S.Store conn.new)
+        → Ran sql.now (bound params.now) (state S.Store conn.old) (state S.Store conn.new) result }
     ensures live { IsLive (state S.Store conn.old) }
 {
     // An open connection's rows keep the rules of its tables.

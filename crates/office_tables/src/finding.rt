@@ -22,8 +22,12 @@ pub fn find<T: FromRow + Drop, S: Alter>(
 ) -> Result<Vec<T>, StoreFault>
     requires { IsOurQuery sql.now (state S.Store conn.old) }
     ensures reads { Reads (state S.Store conn.old) (state S.Store conn.new) result }
-    ensures found { HasCleanDisk (state S.Store conn.new) → IfOk result (λ found. Finds T.cells sql.now (bound params.now) (state S.Store conn.old) (state S.Store conn.new) found.items) }
-    ensures missed { HasCleanDisk (state S.Store conn.new) → IfErr result (Misses T.cells T.is_legible sql.now (bound params.now) (state S.Store conn.old) (state S.Store conn.new)) }
+    ensures found { HasCleanDisk (state S.Store conn.new)
+        → IfOk result (λ found. Finds T.cells sql.now (bound params.now) (state S.Store conn.old)
+        (state S.Store conn.new) found.items) }
+    ensures missed { HasCleanDisk (state S.Store conn.new)
+        → IfErr result (Misses T.cells T.is_legible sql.now (bound params.now) (state S.Store conn.old)
+        (state S.Store conn.new)) }
 {
     let rows = conn.query_all(sql, params)?;
     read_all(alloc, &rows)
@@ -37,8 +41,11 @@ pub fn find_number<S: Alter>(
 ) -> Result<u32, StoreFault>
     requires { IsOurQuery sql.now (state S.Store conn.old) }
     ensures reads { Reads (state S.Store conn.old) (state S.Store conn.new) result }
-    ensures found { HasCleanDisk (state S.Store conn.new) → IfOk result (FindsFirst sql.now (bound params.now) (state S.Store conn.old) (state S.Store conn.new)) }
-    ensures missed { HasCleanDisk (state S.Store conn.new) → IfErr result (Misses (λ n. Int (pos n) ∷ []) (λ n. n < 2 ^ 32) sql.now (bound params.now) (state S.Store conn.old) (state S.Store conn.new)) }
+    ensures found { HasCleanDisk (state S.Store conn.new)
+        → IfOk result (FindsFirst sql.now (bound params.now) (state S.Store conn.old) (state S.Store conn.new)) }
+    ensures missed { HasCleanDisk (state S.Store conn.new)
+        → IfErr result (Misses (λ n. Int (pos n) ∷ []) (λ n. n < 2 ^ 32) sql.now (bound params.now)
+        (state S.Store conn.old) (state S.Store conn.new)) }
 {
     let rows = conn.query_all(sql, params)?;
     first_or_zero(&rows)

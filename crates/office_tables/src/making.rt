@@ -16,10 +16,21 @@ use sqlite::{Alter, Connection};
 
 /// Makes one table.
 pub fn create_table<S: Alter>(conn: &mut Connection<S>, text: &str) -> Result<(), StoreFault>
-    ensures made { (there : List Table) (start : Database) (before after : Schema) → IsMaking there before start (state S.Store conn.old) → DefinesTable there before text.now after → OnOk result (Continues (state S.Store conn.old) (state S.Store conn.new) × IsMaking there after start (state S.Store conn.new)) }
-    ensures disk { (there : List Table) (start : Database) (before after : Schema) → IsMaking there before start (state S.Store conn.old) → DefinesTable there before text.now after → HasCleanDisk (state S.Store conn.new) → IfErr result (BlamesDisk (state S.Store conn.old) (state S.Store conn.new)) }
-    ensures faults { (there : List Table) (start : Database) (before after : Schema) → IsMaking there before start (state S.Store conn.old) → DefinesTable there before text.now after → HasCleanDisk (state S.Store conn.new) → IfErr result (HasCause (state S.Store conn.old) (state S.Store conn.new)) }
-    ensures cut { (there : List Table) (start : Database) (before after : Schema) → IsMaking there before start (state S.Store conn.old) → DefinesTable there before text.now after → OnErr result (IsCut (state S.Store conn.old) (state S.Store conn.new)) }
+    ensures made { (there : List Table) (start : Database) (before after : Schema)
+        → IsMaking there before start (state S.Store conn.old) → DefinesTable there before text.now after
+        → OnOk result (Continues (state S.Store conn.old) (state S.Store conn.new) × IsMaking there after start
+        (state S.Store conn.new)) }
+    ensures disk { (there : List Table) (start : Database) (before after : Schema)
+        → IsMaking there before start (state S.Store conn.old) → DefinesTable there before text.now after
+        → HasCleanDisk (state S.Store conn.new)
+        → IfErr result (BlamesDisk (state S.Store conn.old) (state S.Store conn.new)) }
+    ensures faults { (there : List Table) (start : Database) (before after : Schema)
+        → IsMaking there before start (state S.Store conn.old) → DefinesTable there before text.now after
+        → HasCleanDisk (state S.Store conn.new)
+        → IfErr result (HasCause (state S.Store conn.old) (state S.Store conn.new)) }
+    ensures cut { (there : List Table) (start : Database) (before after : Schema)
+        → IsMaking there before start (state S.Store conn.old) → DefinesTable there before text.now after
+        → OnErr result (IsCut (state S.Store conn.old) (state S.Store conn.new)) }
 {
     conn.execute(text, &[])?;
     Ok(())
@@ -27,10 +38,21 @@ pub fn create_table<S: Alter>(conn: &mut Connection<S>, text: &str) -> Result<()
 
 /// Makes one index.
 pub fn create_index<S: Alter>(conn: &mut Connection<S>, text: &str) -> Result<(), StoreFault>
-    ensures made { (there : List Table) (start : Database) (before after : Schema) → IsMaking there before start (state S.Store conn.old) → DefinesIndex there before text.now after → OnOk result (Continues (state S.Store conn.old) (state S.Store conn.new) × IsMaking there after start (state S.Store conn.new)) }
-    ensures disk { (there : List Table) (start : Database) (before after : Schema) → IsMaking there before start (state S.Store conn.old) → DefinesIndex there before text.now after → HasCleanDisk (state S.Store conn.new) → IfErr result (BlamesDisk (state S.Store conn.old) (state S.Store conn.new)) }
-    ensures faults { (there : List Table) (start : Database) (before after : Schema) → IsMaking there before start (state S.Store conn.old) → DefinesIndex there before text.now after → HasCleanDisk (state S.Store conn.new) → IfErr result (HasCause (state S.Store conn.old) (state S.Store conn.new)) }
-    ensures cut { (there : List Table) (start : Database) (before after : Schema) → IsMaking there before start (state S.Store conn.old) → DefinesIndex there before text.now after → OnErr result (IsCut (state S.Store conn.old) (state S.Store conn.new)) }
+    ensures made { (there : List Table) (start : Database) (before after : Schema)
+        → IsMaking there before start (state S.Store conn.old) → DefinesIndex there before text.now after
+        → OnOk result (Continues (state S.Store conn.old) (state S.Store conn.new) × IsMaking there after start
+        (state S.Store conn.new)) }
+    ensures disk { (there : List Table) (start : Database) (before after : Schema)
+        → IsMaking there before start (state S.Store conn.old) → DefinesIndex there before text.now after
+        → HasCleanDisk (state S.Store conn.new)
+        → IfErr result (BlamesDisk (state S.Store conn.old) (state S.Store conn.new)) }
+    ensures faults { (there : List Table) (start : Database) (before after : Schema)
+        → IsMaking there before start (state S.Store conn.old) → DefinesIndex there before text.now after
+        → HasCleanDisk (state S.Store conn.new)
+        → IfErr result (HasCause (state S.Store conn.old) (state S.Store conn.new)) }
+    ensures cut { (there : List Table) (start : Database) (before after : Schema)
+        → IsMaking there before start (state S.Store conn.old) → DefinesIndex there before text.now after
+        → OnErr result (IsCut (state S.Store conn.old) (state S.Store conn.new)) }
 {
     // An open connection's rows keep the rules of its tables.
     let _ = conn.schema();
@@ -40,10 +62,17 @@ pub fn create_index<S: Alter>(conn: &mut Connection<S>, text: &str) -> Result<()
 
 /// Makes the tables of the office, the units and their elements.
 pub fn create_units<S: Alter>(conn: &mut Connection<S>) -> Result<(), StoreFault>
-    ensures made { (start : Database) → IsMaking desk_tables desk_schema start (state S.Store conn.old) → OnOk result (Continues (state S.Store conn.old) (state S.Store conn.new) × IsMaking desk_tables unit_schema start (state S.Store conn.new)) }
-    ensures disk { (start : Database) → IsMaking desk_tables desk_schema start (state S.Store conn.old) → HasCleanDisk (state S.Store conn.new) → IfErr result (BlamesDisk (state S.Store conn.old) (state S.Store conn.new)) }
-    ensures faults { (start : Database) → IsMaking desk_tables desk_schema start (state S.Store conn.old) → HasCleanDisk (state S.Store conn.new) → IfErr result (HasCause (state S.Store conn.old) (state S.Store conn.new)) }
-    ensures cut { (start : Database) → IsMaking desk_tables desk_schema start (state S.Store conn.old) → OnErr result (IsCut (state S.Store conn.old) (state S.Store conn.new)) }
+    ensures made { (start : Database) → IsMaking desk_tables desk_schema start (state S.Store conn.old)
+        → OnOk result (Continues (state S.Store conn.old) (state S.Store conn.new)
+        × IsMaking desk_tables unit_schema start (state S.Store conn.new)) }
+    ensures disk { (start : Database) → IsMaking desk_tables desk_schema start (state S.Store conn.old)
+        → HasCleanDisk (state S.Store conn.new)
+        → IfErr result (BlamesDisk (state S.Store conn.old) (state S.Store conn.new)) }
+    ensures faults { (start : Database) → IsMaking desk_tables desk_schema start (state S.Store conn.old)
+        → HasCleanDisk (state S.Store conn.new)
+        → IfErr result (HasCause (state S.Store conn.old) (state S.Store conn.new)) }
+    ensures cut { (start : Database) → IsMaking desk_tables desk_schema start (state S.Store conn.old)
+        → OnErr result (IsCut (state S.Store conn.old) (state S.Store conn.new)) }
 {
     create_table(
         conn,
@@ -61,10 +90,17 @@ pub fn create_units<S: Alter>(conn: &mut Connection<S>) -> Result<(), StoreFault
 
 /// Makes the tables of the containers and of what they hold.
 pub fn create_containers<S: Alter>(conn: &mut Connection<S>) -> Result<(), StoreFault>
-    ensures made { (start : Database) → IsMaking desk_tables unit_schema start (state S.Store conn.old) → OnOk result (Continues (state S.Store conn.old) (state S.Store conn.new) × IsMaking desk_tables catalogue_schema start (state S.Store conn.new)) }
-    ensures disk { (start : Database) → IsMaking desk_tables unit_schema start (state S.Store conn.old) → HasCleanDisk (state S.Store conn.new) → IfErr result (BlamesDisk (state S.Store conn.old) (state S.Store conn.new)) }
-    ensures faults { (start : Database) → IsMaking desk_tables unit_schema start (state S.Store conn.old) → HasCleanDisk (state S.Store conn.new) → IfErr result (HasCause (state S.Store conn.old) (state S.Store conn.new)) }
-    ensures cut { (start : Database) → IsMaking desk_tables unit_schema start (state S.Store conn.old) → OnErr result (IsCut (state S.Store conn.old) (state S.Store conn.new)) }
+    ensures made { (start : Database) → IsMaking desk_tables unit_schema start (state S.Store conn.old)
+        → OnOk result (Continues (state S.Store conn.old) (state S.Store conn.new)
+        × IsMaking desk_tables catalogue_schema start (state S.Store conn.new)) }
+    ensures disk { (start : Database) → IsMaking desk_tables unit_schema start (state S.Store conn.old)
+        → HasCleanDisk (state S.Store conn.new)
+        → IfErr result (BlamesDisk (state S.Store conn.old) (state S.Store conn.new)) }
+    ensures faults { (start : Database) → IsMaking desk_tables unit_schema start (state S.Store conn.old)
+        → HasCleanDisk (state S.Store conn.new)
+        → IfErr result (HasCause (state S.Store conn.old) (state S.Store conn.new)) }
+    ensures cut { (start : Database) → IsMaking desk_tables unit_schema start (state S.Store conn.old)
+        → OnErr result (IsCut (state S.Store conn.old) (state S.Store conn.new)) }
 {
     create_table(
         conn,

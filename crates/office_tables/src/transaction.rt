@@ -12,10 +12,15 @@ use sqlite::{Alter, Connection};
 
 /// Begins a transaction, where none is open.
 pub fn begin<S: Alter>(conn: &mut Connection<S>) -> Result<(), StoreFault>
-    ensures outside { HasCleanDisk (state S.Store conn.new) → OnOk result ((state S.Store conn.old).in_transaction ≡ false) }
-    ensures begun { HasCleanDisk (state S.Store conn.new) → OnOk result (Shows (state S.Store conn.old) (state S.Store conn.new) (state S.Store conn.old).now (state S.Store conn.old).committed true) }
-    ensures stopped { HasCleanDisk (state S.Store conn.new) → OnErr result (IsStopped (state S.Store conn.old) (state S.Store conn.new)) }
-    ensures faults { HasCleanDisk (state S.Store conn.new) → (state S.Store conn.old).in_transaction ≡ false → IfErr result (HasCause (state S.Store conn.old) (state S.Store conn.new)) }
+    ensures outside { HasCleanDisk (state S.Store conn.new)
+        → OnOk result ((state S.Store conn.old).in_transaction ≡ false) }
+    ensures begun { HasCleanDisk (state S.Store conn.new)
+        → OnOk result (Shows (state S.Store conn.old) (state S.Store conn.new) (state S.Store conn.old).now
+        (state S.Store conn.old).committed true) }
+    ensures stopped { HasCleanDisk (state S.Store conn.new)
+        → OnErr result (IsStopped (state S.Store conn.old) (state S.Store conn.new)) }
+    ensures faults { HasCleanDisk (state S.Store conn.new) → (state S.Store conn.old).in_transaction ≡ false
+        → IfErr result (HasCause (state S.Store conn.old) (state S.Store conn.new)) }
     ensures crash { Survives (state S.Store conn.old) (state S.Store conn.new) (λ _. ⊥) }
 {
     conn.execute("BEGIN", &[])?;
@@ -24,11 +29,16 @@ pub fn begin<S: Alter>(conn: &mut Connection<S>) -> Result<(), StoreFault>
 
 /// Commits the transaction that is open. A crash finds what was committed before, or all of it.
 pub fn commit<S: Alter>(conn: &mut Connection<S>) -> Result<(), StoreFault>
-    ensures inside { HasCleanDisk (state S.Store conn.new) → OnOk result (IsTrue (state S.Store conn.old).in_transaction) }
-    ensures committed { HasCleanDisk (state S.Store conn.new) → OnOk result (Committed (state S.Store conn.old) (state S.Store conn.new)) }
-    ensures stopped { HasCleanDisk (state S.Store conn.new) → OnErr result (IsStopped (state S.Store conn.old) (state S.Store conn.new)) }
-    ensures faults { HasCleanDisk (state S.Store conn.new) → IsTrue (state S.Store conn.old).in_transaction → IfErr result (HasCause (state S.Store conn.old) (state S.Store conn.new)) }
-    ensures crash { Survives (state S.Store conn.old) (state S.Store conn.new) (λ db. db ≡ (state S.Store conn.old).now.trees) }
+    ensures inside { HasCleanDisk (state S.Store conn.new)
+        → OnOk result (IsTrue (state S.Store conn.old).in_transaction) }
+    ensures committed { HasCleanDisk (state S.Store conn.new)
+        → OnOk result (Committed (state S.Store conn.old) (state S.Store conn.new)) }
+    ensures stopped { HasCleanDisk (state S.Store conn.new)
+        → OnErr result (IsStopped (state S.Store conn.old) (state S.Store conn.new)) }
+    ensures faults { HasCleanDisk (state S.Store conn.new) → IsTrue (state S.Store conn.old).in_transaction
+        → IfErr result (HasCause (state S.Store conn.old) (state S.Store conn.new)) }
+    ensures crash { Survives (state S.Store conn.old) (state S.Store conn.new)
+        (λ db. db ≡ (state S.Store conn.old).now.trees) }
 {
     conn.execute("COMMIT", &[])?;
     Ok(())
@@ -36,8 +46,10 @@ pub fn commit<S: Alter>(conn: &mut Connection<S>) -> Result<(), StoreFault>
 
 /// Takes the transaction back, whatever comes of it.
 pub fn roll_back<S: Alter>(conn: &mut Connection<S>)
-    ensures back { HasCleanDisk (state S.Store conn.new) → IsTrue (state S.Store conn.old).in_transaction → IsBack (state S.Store conn.old) (state S.Store conn.new) }
-    ensures nothing { HasCleanDisk (state S.Store conn.new) → (state S.Store conn.old).in_transaction ≡ false → IsStopped (state S.Store conn.old) (state S.Store conn.new) }
+    ensures back { HasCleanDisk (state S.Store conn.new) → IsTrue (state S.Store conn.old).in_transaction
+        → IsBack (state S.Store conn.old) (state S.Store conn.new) }
+    ensures nothing { HasCleanDisk (state S.Store conn.new) → (state S.Store conn.old).in_transaction ≡ false
+        → IsStopped (state S.Store conn.old) (state S.Store conn.new) }
     ensures crash { Survives (state S.Store conn.old) (state S.Store conn.new) (λ _. ⊥) }
 {
     let _ = conn.execute("ROLLBACK", &[]);
