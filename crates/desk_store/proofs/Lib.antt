@@ -8,4 +8,5 @@ pub mod CountOf
 pub mod CardRows
 pub mod ReaderRows
 pub mod ReaderCalls
+pub mod CardCalls
 pub mod SeatCalls

@@ -13,7 +13,7 @@ mod runs;
 mod seating;
 
 pub use blank::is_blank;
-pub use cards::{LiveOrder, ReaderCard};
+pub use cards::{LiveOrder, ReaderCard, reader};
 pub use granting::Permit;
 pub use holdings::{FirstOrder, Loan};
 pub use making::create_desk;
