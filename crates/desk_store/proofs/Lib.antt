@@ -9,3 +9,4 @@ pub mod CardRows
 pub mod ReaderRows
 pub mod ReaderCalls
 pub mod SeatCalls
+pub mod OrderWrites
