@@ -10,3 +10,5 @@ pub mod ReaderRows
 pub mod ReaderCalls
 pub mod SeatCalls
 pub mod OrderWrites
+pub mod PutAgain
+pub mod HoldingWrites

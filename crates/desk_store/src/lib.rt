@@ -16,7 +16,7 @@ mod seating;
 pub use blank::is_blank;
 pub use cards::{LiveOrder, ReaderCard};
 pub use granting::Permit;
-pub use holdings::{FirstOrder, Loan};
+pub use holdings::{FirstOrder, Loan, set_place};
 pub use making::create_desk;
 pub use orders::{OrderState, PlacedOrder, WaitingOrder};
 pub use placing::{append_order, end_order};
