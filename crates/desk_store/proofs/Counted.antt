@@ -10,7 +10,7 @@ use Rattle.office_tables.specs.Order.{Rises}
 use Rattle.office_tables.specs.Put.{put_by}
 use Rattle.desk_store.specs.Shows.{AreCountedFrom}
 
-below_less : (m n : ℕ) → m < n → int_cmp (pos m) (pos n) ≡ Less
+pub below_less : (m n : ℕ) → m < n → int_cmp (pos m) (pos n) ≡ Less
 below_less m n h = rw (lt-ltb m n h) refl
 
 module _ {A : Type 0} (number : A → ℕ) where

@@ -10,3 +10,6 @@ pub mod ReaderRows
 pub mod ReaderCalls
 pub mod CardCalls
 pub mod SeatCalls
+pub mod OrderWrites
+pub mod PutAgain
+pub mod HoldingWrites

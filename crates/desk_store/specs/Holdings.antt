@@ -10,6 +10,12 @@ use Rattle.desk_store.specs.declared.holdings.FirstOrder.{FirstOrder}
 
 -- ---- a container goes to another place
 
+-- the order that it is out with
+abbrev pub by_order : Place → Option ℕ
+by_order Shelf = None
+by_order AtTheDesk = None
+by_order (Out o) = Some o
+
 abbrev pub put_down : HoldingRow → List HoldingRow → List HoldingRow
 put_down = put_by (λ (h : HoldingRow). pos h.container)
 
