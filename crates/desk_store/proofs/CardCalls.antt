@@ -9,7 +9,7 @@ use Rattle.sqlite.specs.Effect.{Database}
 use Rattle.sqlite.specs.Held.{Held, state}
 use Rattle.sqlite.specs.State.{State, HasCleanDisk}
 use Rattle.sqlite_trees.specs.declared.store.Store as store
-use Rattle.desk_core.specs.Checks.{most_orders}
+use Rattle.isad_core.specs.Limits.{most_orders}
 use Rattle.desk_core.specs.DeskRows.{Desk, ReaderRow, SeatRow, OrderRow}
 use Rattle.office_tables.specs.Calls.{Tells}
 use Rattle.office_tables.specs.Faults.{IsUnlimited, HasCause}

@@ -29,7 +29,7 @@ use Rattle.sqlite_trees.specs.declared.store.Store as store
 use Rattle.sqlite_value.specs.Keys.{joined}
 use Rattle.tree_core.proofs.Lists.{eqb_comm}
 use Rattle.tree_core.specs.Versions.{Version, Links, Spans}
-use Rattle.desk_core.specs.Checks.{most_orders}
+use Rattle.isad_core.specs.Limits.{most_orders}
 use Rattle.desk_core.specs.DeskRows.{OrderRow, with_state}
 use Rattle.office_tables.specs.Calls.{Makes}
 use Rattle.office_tables.specs.Changing.{Leaves, Ran}

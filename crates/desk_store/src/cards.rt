@@ -1,6 +1,7 @@
 //! What the desk knows of a ticket.
 
-ghost use Rattle.std.specs.Prelude.{◌≡◌, ◌<◌, ◌≤◌, ◌^◌, ◌&&◌, nat_eq, List as Rows, length, map, filter, option_map, slice_get, IfOk, IfSome, ⊤};
+ghost use Rattle.std.specs.Prelude.{◌≡◌, ◌<◌, ◌≤◌, ◌^◌, ◌&&◌, nat_eq, List as Rows, length, map, filter};
+ghost use Rattle.std.specs.Prelude.{option_map, slice_get, IfOk, IfSome, ⊤};
 ghost use Rattle.std.specs.List.{count_by};
 ghost use Rattle.std.specs.Ordering.{int_eq};
 ghost use Rattle.sqlite.specs.Held.{state};

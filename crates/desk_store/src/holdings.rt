@@ -40,8 +40,14 @@ fn clear_holding<S: Alter>(conn: &mut Connection<S>, container: u64) -> Result<(
     requires inside { InOffice (state S.Store conn.old) }
     requires number { container < 2 ^ 63 }
     ensures leaves { Leaves (state S.Store conn.old) (state S.Store conn.new) result }
-    ensures rows { HasCleanDisk (state S.Store conn.new) → (xs : List HoldingRow) → Holds tables.holding holding_cells (state S.Store conn.old) xs → AreByNumber (λ h. h.container) xs → OnOk result (HasRows tables.holding.tree (map holding_cells (filter (λ h. not (nat_eq container h.container)) xs)) (state S.Store conn.old).now (state S.Store conn.new).now) }
-    ensures only { HasCleanDisk (state S.Store conn.new) → OnOk result (OnlyTouches (tables.holding.tree ∷ []) (state S.Store conn.old).now (state S.Store conn.new).now) }
+    ensures rows { HasCleanDisk (state S.Store conn.new) → (xs : List HoldingRow)
+        → Holds tables.holding holding_cells (state S.Store conn.old) xs → AreByNumber (λ h. h.container) xs
+        → OnOk result (HasRows tables.holding.tree
+        (map holding_cells (filter (λ h. not (nat_eq container h.container)) xs)) (state S.Store conn.old).now
+        (state S.Store conn.new).now) }
+    ensures only { HasCleanDisk (state S.Store conn.new)
+        → OnOk result (OnlyTouches (tables.holding.tree ∷ []) (state S.Store conn.old).now
+        (state S.Store conn.new).now) }
     ensures faults { Excused (state S.Store conn.old) (state S.Store conn.new) result }
 {
     change(
@@ -63,8 +69,13 @@ fn insert_holding<S: Alter>(
     requires small { place < 2 ^ 63 }
     requires known { IfSome held_by (λ order. order < 2 ^ 63) }
     ensures leaves { Leaves (state S.Store conn.old) (state S.Store conn.new) result }
-    ensures puts { HasCleanDisk (state S.Store conn.new) → OnOk result (PutsRow tables.holding.tree (holding_cells (record { container = container; place = place; held_by = held_by })) (state S.Store conn.old).now (state S.Store conn.new).now) }
-    ensures faults { (xs : List HoldingRow) → Holds tables.holding holding_cells (state S.Store conn.old) xs → list_any (λ h. nat_eq container h.container) xs ≡ false → Excused (state S.Store conn.old) (state S.Store conn.new) result }
+    ensures puts { HasCleanDisk (state S.Store conn.new)
+        → OnOk result (PutsRow tables.holding.tree
+        (holding_cells (record { container = container; place = place; held_by = held_by }))
+        (state S.Store conn.old).now (state S.Store conn.new).now) }
+    ensures faults { (xs : List HoldingRow) → Holds tables.holding holding_cells (state S.Store conn.old) xs
+        → list_any (λ h. nat_eq container h.container) xs ≡ false
+        → Excused (state S.Store conn.old) (state S.Store conn.new) result }
 {
     change(
         conn,
@@ -82,7 +93,8 @@ pub fn set_place<S: Alter>(
     requires inside { InOffice (state S.Store conn.old) }
     requires number { container < 2 ^ 63 }
     requires known { IfSome (by_order place) (λ order. order < 2 ^ 63) }
-    ensures makes { Makes S.Store ShowsRoom IsLegible conn.old conn.new result (λ _. ⊤) (with_place container place) (tables.holding.tree ∷ []) }
+    ensures makes { Makes S.Store ShowsRoom IsLegible conn.old conn.new result (λ _. ⊤) (with_place container place)
+        (tables.holding.tree ∷ []) }
 {
     clear_holding(conn, container)?;
     match place {

@@ -33,8 +33,13 @@ fn insert_order<S: Alter>(
     requires small { ticket < 2 ^ 63 }
     requires known { container < 2 ^ 63 }
     ensures leaves { Leaves (state S.Store conn.old) (state S.Store conn.new) result }
-    ensures puts { HasCleanDisk (state S.Store conn.new) → OnOk result (PutsRow tables.orders.tree (order_cells (record { id = order; ticket = ticket; container = container; day = on; state = 1 })) (state S.Store conn.old).now (state S.Store conn.new).now) }
-    ensures faults { (xs : List OrderRow) → Holds tables.orders order_cells (state S.Store conn.old) xs → list_any (λ o. nat_eq order o.id) xs ≡ false → Excused (state S.Store conn.old) (state S.Store conn.new) result }
+    ensures puts { HasCleanDisk (state S.Store conn.new)
+        → OnOk result (PutsRow tables.orders.tree
+        (order_cells (record { id = order; ticket = ticket; container = container; day = on; state = 1 }))
+        (state S.Store conn.old).now (state S.Store conn.new).now) }
+    ensures faults { (xs : List OrderRow) → Holds tables.orders order_cells (state S.Store conn.old) xs
+        → list_any (λ o. nat_eq order o.id) xs ≡ false
+        → Excused (state S.Store conn.old) (state S.Store conn.new) result }
 {
     change(
         conn,
@@ -55,7 +60,8 @@ pub fn append_order<S: Alter>(
     requires number { order < 2 ^ 63 }
     requires small { ticket < 2 ^ 63 }
     requires known { container < 2 ^ 63 }
-    ensures makes { Makes S.Store ShowsRoom IsLegible conn.old conn.new result (IsNextOrder order) (with_order ticket container on) (tables.orders.tree ∷ []) }
+    ensures makes { Makes S.Store ShowsRoom IsLegible conn.old conn.new result (IsNextOrder order)
+        (with_order ticket container on) (tables.orders.tree ∷ []) }
 {
     insert_order(conn, order, ticket, container, on)
 }
@@ -79,9 +85,15 @@ fn set_state<S: Alter>(conn: &mut Connection<S>, order: u64, next: u64) -> Resul
     requires number { order < 2 ^ 63 }
     requires small { next < 2 ^ 63 }
     ensures leaves { Leaves (state S.Store conn.old) (state S.Store conn.new) result }
-    ensures rows { HasCleanDisk (state S.Store conn.new) → (xs : List OrderRow) → Holds tables.orders order_cells (state S.Store conn.old) xs → AreCounted (λ o. o.id) xs → OnOk result (HasRows tables.orders.tree (map order_cells (with_state order next xs)) (state S.Store conn.old).now (state S.Store conn.new).now) }
-    ensures only { HasCleanDisk (state S.Store conn.new) → OnOk result (OnlyTouches (tables.orders.tree ∷ []) (state S.Store conn.old).now (state S.Store conn.new).now) }
-    ensures faults { (xs : List OrderRow) → Holds tables.orders order_cells (state S.Store conn.old) xs → AreCounted (λ o. o.id) xs → Excused (state S.Store conn.old) (state S.Store conn.new) result }
+    ensures rows { HasCleanDisk (state S.Store conn.new) → (xs : List OrderRow)
+        → Holds tables.orders order_cells (state S.Store conn.old) xs → AreCounted (λ o. o.id) xs
+        → OnOk result (HasRows tables.orders.tree (map order_cells (with_state order next xs))
+        (state S.Store conn.old).now (state S.Store conn.new).now) }
+    ensures only { HasCleanDisk (state S.Store conn.new)
+        → OnOk result (OnlyTouches (tables.orders.tree ∷ []) (state S.Store conn.old).now
+        (state S.Store conn.new).now) }
+    ensures faults { (xs : List OrderRow) → Holds tables.orders order_cells (state S.Store conn.old) xs
+        → AreCounted (λ o. o.id) xs → Excused (state S.Store conn.old) (state S.Store conn.new) result }
 {
     change(
         conn,
@@ -98,7 +110,8 @@ pub fn end_order<S: Alter>(
 ) -> Result<(), StoreFault>
     requires inside { InOffice (state S.Store conn.old) }
     requires number { order < 2 ^ 63 }
-    ensures makes { Makes S.Store ShowsRoom IsLegible conn.old conn.new result (λ _. ⊤) (with_order_state order next) (tables.orders.tree ∷ []) }
+    ensures makes { Makes S.Store ShowsRoom IsLegible conn.old conn.new result (λ _. ⊤)
+        (with_order_state order next) (tables.orders.tree ∷ []) }
 {
     set_state(conn, order, number_of(next))
 }
