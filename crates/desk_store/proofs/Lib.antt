@@ -9,4 +9,5 @@ pub mod CardRows
 pub mod ReaderRows
 pub mod ReaderCalls
 pub mod CardCalls
+pub mod OrderReads
 pub mod SeatCalls

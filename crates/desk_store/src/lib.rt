@@ -17,7 +17,7 @@ pub use cards::{LiveOrder, ReaderCard, reader};
 pub use granting::Permit;
 pub use holdings::{FirstOrder, Loan};
 pub use making::create_desk;
-pub use orders::{OrderState, PlacedOrder, WaitingOrder};
+pub use orders::{OrderState, PlacedOrder, WaitingOrder, order};
 pub use queues::ContainerQueue;
 pub use readers::{add_reader, renew};
 pub use runs::Brought;
