@@ -18,7 +18,7 @@ use Rattle.office_tables.specs.declared.fault.StoreFault.{StoreFault}
 use Rattle.office_tables.proofs.Calls.{cut_then}
 use Rattle.office_tables.proofs.Causes.{still_unlimited}
 use Rattle.office_tables.proofs.LaterCauses.{next_cause}
-use Rattle.desk_store.specs.Readers.{reader_with, is_live, live_orders, held_with, seat_of, placed_on, card_of}
+use Rattle.desk_store.specs.Readers.{is_live, live_orders, held_with, seat_of, placed_on, card_of}
 use Rattle.desk_store.specs.Shows.{AreCounted, ShowsDesk, ShowsRoom, IsLegible}
 use Rattle.desk_store.specs.declared.cards.LiveOrder.{LiveOrder}
 use Rattle.desk_store.specs.declared.cards.ReaderCard.{ReaderCard}
@@ -60,17 +60,17 @@ module _ {S Y : Type 0} (g : store.Ghosts S) (before mid after : Held S) (answer
   pub told_all : Looks a c → (y : Y) → (HasCleanDisk c → (d : Desk) → ShowsDesk a.now.trees d → answer tt d y) → Tells g ShowsRoom IsLegible before after (Ok y) (λ _. ⊤) answer
   told_all looked y is = record { answers = λ clean beside d shown. is clean d shown; looks = looked; cut = tt; faults = λ beside d shown may kept clean free. tt }
 
--- ---- a ticket that was not given
+-- ---- a number that was not given
 
-find_none : (t n : ℕ) (xs : List ReaderRow) → AllByRecursion (λ (r : ReaderRow). r.ticket < n) xs → n ≤ t → find (λ (r : ReaderRow). nat_eq t r.ticket) xs ≡ None
-find_none t n [] all h = refl
-find_none t n (x ∷ xs) all h =
+find_none : {A : Type 0} (number : A → ℕ) (t n : ℕ) (xs : List A) → AllByRecursion (λ x. number x < n) xs → n ≤ t → find (λ x. nat_eq t (number x)) xs ≡ None
+find_none number t n [] all h = refl
+find_none number t n (x ∷ xs) all h =
     let low = all.0 in
-    let apart : nat_eq t x.ticket ≡ false = grind (arith, nat_tests, low, h) in
-    rw apart (find_none t n xs all.1 h)
+    let apart : nat_eq t (number x) ≡ false = grind (arith, nat_tests, low, h) in
+    rw apart (find_none number t n xs all.1 h)
 
-pub unknown : (t : ℕ) (d : Desk) → AreCounted (λ (r : ReaderRow). r.ticket) d.readers → length d.readers < t → reader_with t d ≡ None
-unknown t d counted h = find_none t (1 + length d.readers) d.readers (counted_within (λ (r : ReaderRow). r.ticket) 1 d.readers counted) (omega (arith, h))
+pub unknown : {A : Type 0} (number : A → ℕ) (t : ℕ) (xs : List A) → AreCounted number xs → length xs < t → find (λ x. nat_eq t (number x)) xs ≡ None
+unknown number t xs counted h = find_none number t (1 + length xs) xs (counted_within number 1 xs counted) (omega (arith, h))
 
 -- ---- how many of the orders that have not ended are out
 

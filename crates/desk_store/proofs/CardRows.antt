@@ -85,7 +85,7 @@ line_of o = record { order = o.id; container = o.container; state = o.state }
 abbrev pub line_cells : OrderLine → Row
 line_cells o = Int (pos o.order) ∷ Int (pos o.container) ∷ Int (pos o.state) ∷ []
 
-abbrev in_order : List (Term × Key)
+abbrev pub in_order : List (Term × Key)
 in_order = (col 1 0, ascending Binary) ∷ []
 
 abbrev live_there : List Term

@@ -9,6 +9,7 @@ pub mod CardRows
 pub mod ReaderRows
 pub mod ReaderCalls
 pub mod CardCalls
+pub mod OrderReads
 pub mod SeatCalls
 pub mod OrderWrites
 pub mod PutAgain

@@ -27,6 +27,12 @@ IsOrder row o = (o.ticket ≡ row.ticket) × (o.container ≡ row.container) × 
 abbrev pub order_with : ℕ → Desk → Option OrderRow
 order_with o d = find (λ (row : OrderRow). nat_eq o row.id) d.orders
 
+-- what is told of an order that may be there
+abbrev pub IsThere : Option OrderRow → Option PlacedOrder → Type 0
+IsThere None found = found ≡ None
+IsThere (Some row) None = ⊥
+IsThere (Some row) (Some o) = IsOrder row o
+
 -- one more order, which waits; orders are numbered from 1 as they come
 abbrev pub with_order : ℕ → ℕ → ℤ → Desk → Desk
 with_order t c day d =

@@ -18,7 +18,7 @@ pub use cards::{LiveOrder, ReaderCard, reader};
 pub use granting::Permit;
 pub use holdings::{FirstOrder, Loan, set_place};
 pub use making::create_desk;
-pub use orders::{OrderState, PlacedOrder, WaitingOrder};
+pub use orders::{OrderState, PlacedOrder, WaitingOrder, order};
 pub use placing::{append_order, end_order};
 pub use queues::ContainerQueue;
 pub use readers::{add_reader, renew};

@@ -1,6 +1,28 @@
 //! Orders, from when they are placed to when they end.
 
+ghost use Rattle.std.specs.Prelude.{◌≡◌, ◌<◌, ◌≤◌, ◌^◌, nat_eq, List as Rows, length, map, filter, IfOk, IfSome, IsOk, ⊤};
+ghost use Rattle.std.specs.List.{AllByRecursion};
+ghost use Rattle.sqlite.specs.Held.{state};
+ghost use Rattle.sqlite.specs.State.{HasCleanDisk};
+ghost use Rattle.desk_core.specs.DeskRows.{OrderRow};
+ghost use Rattle.office_tables.specs.Asking.{Reads};
+ghost use Rattle.office_tables.specs.Calls.{Tells};
+ghost use Rattle.office_tables.specs.Faults.{Excused};
+ghost use Rattle.office_tables.specs.Schema as tables;
+ghost use Rattle.office_tables.specs.Step.{InOffice, Holds};
+ghost use Rattle.desk_store.specs.Orders.{state_number, order_with, IsThere};
+ghost use Rattle.desk_store.specs.Rows.{order_cells};
+ghost use Rattle.desk_store.specs.Shows.{AreCounted, IsLegibleOrder, ShowsRoom, IsLegible};
+
 use isad_core::Day;
+use office_tables::answer::FromRow;
+use office_tables::value::number;
+use office_tables::{StoreFault, find};
+use sqlite::{Alter, Connection, Row};
+use std::alloc::Global;
+
+/// How many orders there may ever be.
+const MOST_ORDERS: u64 = 10_000_000;
 
 /// What has become of an order.
 #[derive(Debug, Clone, Copy, PartialEq, Eq)]
@@ -26,4 +48,109 @@ pub struct PlacedOrder {
 pub struct WaitingOrder {
     pub order: u64,
     pub ticket: u64,
+}
+
+/// What the table tells of an order.
+#[derive(Debug, Clone, Copy, PartialEq, Eq, Drop)]
+struct OrderEntry {
+    ticket: u64,
+    container: u64,
+    day: Day,
+    /// 1 waiting, 2 out, 3 done, 4 cancelled.
+    state: u64,
+}
+
+impl FromRow for OrderEntry {
+    ghost use Rattle.std.specs.Prelude.{◌≡◌, pos, [], ◌∷◌, true};
+    ghost use Rattle.sqlite.specs.declared.types.Value.TheVariants.{Int};
+    ghost use Rattle.isad_core.specs.Days.{is_day_number};
+
+    ghost cells = { λ o. Int (pos o.ticket) ∷ Int (pos o.container) ∷ Int o.day ∷ Int (pos o.state) ∷ [] };
+
+    ghost is_legible = { λ o. is_day_number o.day ≡ true };
+
+    fn read(row: &Row) -> Result<OrderEntry, StoreFault> {
+        let number: i32 = row.get(2)?;
+        let Some(day) = Day::from_number(number) else {
+            return Err(StoreFault::Schema);
+        };
+        Ok(OrderEntry {
+            ticket: row.get(0)?,
+            container: row.get(1)?,
+            day,
+            state: row.get(3)?,
+        })
+    }
+}
+
+/// The order with a number: one, or none. It is found by the number of its row.
+fn orders_with<S: Alter>(
+    alloc: Global,
+    conn: &mut Connection<S>,
+    order: u64,
+) -> Result<Vec<OrderEntry>, StoreFault>
+    requires inside { InOffice (state S.Store conn.old) }
+    requires small { order < 2 ^ 63 }
+    ensures reads { Reads (state S.Store conn.old) (state S.Store conn.new) result }
+    ensures rows { HasCleanDisk (state S.Store conn.new) → (xs : Rows OrderRow)
+        → Holds tables.orders order_cells (state S.Store conn.old) xs → AreCounted (λ o. o.id) xs
+        → IfOk result (λ found. found.items ≡ map (λ (o : OrderRow).
+        record { ticket = o.ticket; container = o.container; day = o.day; state = o.state })
+        (filter (λ o. nat_eq order o.id) xs)) }
+    ensures faults { (xs : Rows OrderRow) → Holds tables.orders order_cells (state S.Store conn.old) xs
+        → AllByRecursion IsLegibleOrder xs → Excused (state S.Store conn.old) (state S.Store conn.new) result }
+{
+    find(
+        alloc,
+        conn,
+        "SELECT ticket, container, day, state FROM orders WHERE id = ?1 ORDER BY id",
+        &[number(order)],
+    )
+}
+
+impl OrderEntry {
+    /// The order, where it is in a state that there is.
+    fn placed(&self) -> Result<PlacedOrder, StoreFault>
+        ensures ticket { IfOk result (λ o. o.ticket ≡ self.now.ticket) }
+        ensures container { IfOk result (λ o. o.container ≡ self.now.container) }
+        ensures day { IfOk result (λ o. o.day ≡ self.now.day) }
+        ensures state { IfOk result (λ o. state_number o.state ≡ self.now.state) }
+        ensures known { 1 ≤ self.now.state → self.now.state ≤ 4 → IsOk result }
+    {
+        let state = match self.state {
+            1 => OrderState::Waiting,
+            2 => OrderState::Out,
+            3 => OrderState::Done,
+            4 => OrderState::Cancelled,
+            _ => return Err(StoreFault::Schema),
+        };
+        Ok(PlacedOrder {
+            ticket: self.ticket,
+            container: self.container,
+            day: self.day,
+            state,
+        })
+    }
+}
+
+/// The order with a number, or none where it was not placed.
+pub fn order<S: Alter>(
+    alloc: Global,
+    conn: &mut Connection<S>,
+    order: u64,
+) -> Result<Option<PlacedOrder>, StoreFault>
+    requires inside { InOffice (state S.Store conn.old) }
+    ensures tells { Tells S.Store ShowsRoom IsLegible conn.old conn.new result (λ _. ⊤)
+        (λ _ d found. IsThere (order_with order d) found) }
+    ensures small { IfOk result (λ found. IfSome found (λ _. order < 2 ^ 63)) }
+{
+    if order > MOST_ORDERS {
+        return Ok(None);
+    }
+    let found = orders_with(alloc, conn, order)?;
+    let Some(entry) = found.first().copied() else {
+        return Ok(None);
+    };
+    let placed = entry.placed()?;
+    Ok(Some(placed))
 }

@@ -18,7 +18,7 @@ returns-then-ticket-from-clause-tells g c =
     let few = shown.few_tickets in
     let over = c.if-ticket-from.true in
     let most = c.from.ensures in
-    sym (ap (option_map (λ (r : ReaderRow). card_with c.args.ticket c.args.today d (named r))) (unknown c.args.ticket d shown.tickets (omega (arith, few, over, most)))))
+    sym (ap (option_map (λ (r : ReaderRow). card_with c.args.ticket c.args.today d (named r))) (unknown (λ (r : ReaderRow). r.ticket) c.args.ticket d.readers shown.tickets (omega (arith, few, over, most)))))
 
 pub returns-in_default-clause-tells : goal.returns-in_default-clause-tells
 returns-in_default-clause-tells g c =
