@@ -10,3 +10,6 @@ pub mod ReaderRows
 pub mod ReaderCalls
 pub mod SeatCalls
 pub mod OrderWrites
+pub mod OwnNumbers
+pub mod PermitRows
+pub mod PermitCalls
