@@ -14,3 +14,6 @@ pub mod SeatCalls
 pub mod OrderWrites
 pub mod PutAgain
 pub mod HoldingWrites
+pub mod OwnNumbers
+pub mod PermitRows
+pub mod PermitCalls

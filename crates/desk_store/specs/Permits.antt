@@ -1,12 +1,22 @@
 -- Permits of a reader.
-use Rattle.std.specs.Prelude.{ℕ, ℤ, ◌&&◌, Bool, not, nat_eq, List, ◌∷◌, map, filter}
+use Rattle.std.specs.Prelude.{◌≡◌, ℕ, ℤ, pos, ◌&&◌, Bool, not, nat_eq, List, ◌∷◌, map, filter}
+use Rattle.std.specs.Ordering.{int_cmp}
+use Rattle.std.specs.declared.cmp.Ordering.{Ordering}
+use Rattle.sqlite.specs.declared.types.Value.TheVariants.{Int}
+use Rattle.sqlite.specs.Order.{Row}
+use Rattle.sqlite.specs.Tree.{Trees, rowid}
+use Rattle.sqlite_rules.specs.Lists.{Has}
 use Rattle.desk_core.specs.DeskRows.{Desk, PermitRow}
+use Rattle.office_tables.specs.Schema as tables
 use Rattle.desk_store.specs.declared.granting.Permit.{Permit}
 
 -- the units for which a ticket has a permit, each with its last day
 abbrev pub permits_of : ℕ → Desk → List Permit
 permits_of t d =
     map (λ (p : PermitRow). record { unit = p.unit; until = p.until }) (filter (λ (p : PermitRow). nat_eq t p.ticket) d.permits)
+
+abbrev pub by_unit : Permit → Permit → Ordering
+by_unit a b = int_cmp (pos a.unit) (pos b.unit)
 
 -- the ticket's permit for the unit
 abbrev pub is_permit : ℕ → ℕ → PermitRow → Bool
@@ -21,3 +31,7 @@ with_permit t u until d = record d { permits = record { ticket = t; unit = u; un
 
 abbrev pub revoked : ℕ → ℕ → Desk → Desk
 revoked t u d = record d { permits = without_permit t u d.permits }
+
+-- the unit has its row in the catalogue
+abbrev pub HasUnitRow : ℕ → Trees → Type 0
+HasUnitRow u db = (row : Row) × Has (db tables.unit.tree) row × (rowid row ≡ Int (pos u))

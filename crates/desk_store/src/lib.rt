@@ -15,7 +15,7 @@ mod seating;
 
 pub use blank::is_blank;
 pub use cards::{LiveOrder, ReaderCard, reader};
-pub use granting::Permit;
+pub use granting::{Permit, grant, permits, revoke};
 pub use holdings::{FirstOrder, Loan, set_place};
 pub use making::create_desk;
 pub use orders::{OrderState, PlacedOrder, WaitingOrder, order};

@@ -1,0 +1,150 @@
+-- Permits that are told, granted and taken back, on the whole desk.
+use Rattle.std.proofs.Common.{◌≡◌, ℕ, ◌+◌, ◌<◌, ℤ, pos, List, [], ◌∷◌, length, map, filter, get_or, Bool, false, nat_eq, Equal, Result, Err, OnOk, inl, inr, refl, sym, ap, ap₂, subst, ◌∙◌, arith}
+use Rattle.std.specs.Prelude.{⊤}
+use Rattle.std.specs.Cmp.{int_cmp_total, tied_itself}
+use Rattle.std.specs.List.{list_any}
+use Rattle.std.specs.List.Sorted.{IsPermutation, IsSorted}
+use Rattle.std.specs.Ordering.{int_cmp, is_lt, ordering_then}
+use Rattle.std.proofs.lemmas.Bool.{cases_Bool, eqb-true, or_from}
+use Rattle.std.proofs.lemmas.List.{get_or-map, length-map}
+use Rattle.std.proofs.lemmas.List.Sorted.{IsPermutation-trans, IsPermutation-map}
+use Rattle.sqlite.specs.Edit.{next_rowid}
+use Rattle.sqlite.specs.Held.{Held, state}
+use Rattle.sqlite.specs.Order.{Row}
+use Rattle.sqlite.specs.State.{State, HasCleanDisk}
+use Rattle.sqlite.specs.Tree.{rowid}
+use Rattle.sqlite.specs.declared.types.Value.TheVariants.{Int}
+use Rattle.sqlite_rules.specs.Lists.{Has}
+use Rattle.sqlite_rules.proofs.ListLemmas.{has_filtered}
+use Rattle.sqlite_trees.proofs.ListLemmas.{map-map, filter-map, IsPermutation-filter}
+use Rattle.sqlite_trees.specs.declared.store.Store as store
+use Rattle.desk_core.specs.DeskRows.{Desk, PermitRow}
+use Rattle.office_tables.specs.Calls.{Makes}
+use Rattle.office_tables.specs.Changing.{Leaves}
+use Rattle.office_tables.specs.Faults.{Excused}
+use Rattle.office_tables.specs.Order.{IsOrdered}
+use Rattle.office_tables.specs.Step.{Goes, PutsRow, OnlyTouches}
+use Rattle.office_tables.specs.declared.fault.StoreFault.{StoreFault}
+use Rattle.office_tables.proofs.Calls.{early, on_ok_then, on_ok_both, on_err_then, goes_then, cut_then}
+use Rattle.office_tables.proofs.Causes.{still_unlimited}
+use Rattle.office_tables.proofs.LaterCauses.{last_cause}
+use Rattle.office_tables.proofs.Puts.{has_at}
+use Rattle.office_tables.proofs.Rows.{had}
+use Rattle.desk_store.specs.Permits.{by_unit, is_permit, without_permit, with_permit, revoked, HasUnitRow}
+use Rattle.desk_store.specs.Rows.{permit_cells}
+use Rattle.desk_store.specs.Shows.{HasNumbered, ShowsDesk, ShowsRoom, IsLegible}
+use Rattle.desk_store.proofs.Frames.{with_permits}
+use Rattle.desk_store.proofs.OwnNumbers.{one_more}
+use Rattle.desk_store.proofs.PermitRows.{by_ticket, permit_of, told_of}
+
+-- ---- what is told
+
+-- of one ticket the units alone make the order
+not_below : (a b : ℤ × PermitRow) (t : ℕ) → a.1.ticket ≡ t → b.1.ticket ≡ t → is_lt (by_ticket a b) ≡ false → is_lt (by_unit (told_of a) (told_of b)) ≡ false
+not_below a b t at_a at_b h =
+    let tied : int_cmp (pos a.1.ticket) (pos b.1.ticket) ≡ Equal = ap₂ (λ m n. int_cmp (pos m) (pos n)) at_a at_b ∙ tied_itself int_cmp_total (pos t) in
+    ap (λ o. is_lt (ordering_then o (int_cmp (pos a.1.unit) (pos b.1.unit)))) (sym tied) ∙ h
+
+module _ (t : ℕ) (there : List Row) (ps : List PermitRow) (at : HasNumbered permit_cells there ps) where
+  abbrev theirs : List (ℤ × PermitRow)
+  theirs = filter (λ (x : ℤ × PermitRow). nat_eq t x.1.ticket) at.numbered
+
+  abbrev of_ticket : PermitRow → Bool
+  of_ticket p = nat_eq t p.ticket
+
+  told_all : (ys : List (ℤ × PermitRow)) → IsPermutation theirs ys → IsPermutation (map permit_of (filter of_ticket ps)) (map told_of ys)
+  told_all ys same =
+      IsPermutation-trans (map permit_of (filter of_ticket ps)) (map told_of theirs) (map told_of ys)
+      (subst (IsPermutation (map permit_of (filter of_ticket ps))) (ap (map permit_of) (filter-map of_ticket (λ x. x.1) at.numbered) ∙ map-map permit_of (λ (x : ℤ × PermitRow). x.1) theirs)
+      (IsPermutation-map permit_of (filter of_ticket ps) (filter of_ticket (map (λ x. x.1) at.numbered)) (IsPermutation-filter of_ticket ps (map (λ x. x.1) at.numbered) at.tell)))
+      (IsPermutation-map told_of theirs ys same)
+
+  told_sorted : (ys : List (ℤ × PermitRow)) → IsPermutation theirs ys → IsSorted by_ticket ys → IsSorted by_unit (map told_of ys)
+  told_sorted ys same sorted = λ k d low high.
+      let own = λ (x : ℤ × PermitRow) (h : Has ys x). sym (eqb-true t x.1.ticket (has_filtered (λ (x : ℤ × PermitRow). nat_eq t x.1.ticket) at.numbered x (had theirs ys same x h)).1) in
+      let e : ℤ × PermitRow = (pos 0, record { ticket = t; unit = d.unit; until = d.until }) in
+      let size = length-map ys told_of in
+      let next : k + 1 < length ys = omega (arith, high, size) in
+      let here : k < length ys = omega (arith, next) in
+      let less = not_below (get_or ys (k + 1) e) (get_or ys k e) t (own (get_or ys (k + 1) e) (has_at ys (k + 1) e next)) (own (get_or ys k e) (has_at ys k e here)) (sorted k e low next) in
+      ap₂ (λ a b. is_lt (by_unit a b)) (get_or-map told_of ys (k + 1) e d next) (get_or-map told_of ys k e d here) ∙ less
+
+  pub told_ordered : (ys : List (ℤ × PermitRow)) → IsOrdered by_ticket theirs ys → IsOrdered by_unit (map permit_of (filter of_ticket ps)) (map told_of ys)
+  told_ordered ys ordered = (told_all ys ordered.0, told_sorted ys ordered.0 ordered.1)
+
+-- ---- the ticket has no permit any more
+
+none_left : (t u : ℕ) (ps : List PermitRow) → list_any (is_permit t u) (without_permit t u ps) ≡ false
+none_left t u [] = refl
+none_left t u (p ∷ ps) = elim (cases_Bool (is_permit t u p)) [
+  | inl found ↦ rw found (none_left t u ps)
+  | inr other ↦ rw other (or_from _ _ other (none_left t u ps))
+]
+
+-- ---- a permit is taken back
+
+module _ {S : Type 0} (g : store.Ghosts S) (before after : Held S) (r : Result Unit StoreFault) where
+  abbrev old : State
+  old = state g before
+
+  abbrev new : State
+  new = state g after
+
+  pub takes_back : (t u : ℕ) → Leaves old new r → (HasCleanDisk new → (ps : List PermitRow) → HasNumbered permit_cells (old.now.trees 10) ps → OnOk r (HasNumbered permit_cells (new.now.trees 10) (without_permit t u ps)))
+      → (HasCleanDisk new → OnOk r (OnlyTouches (10 ∷ []) old.now new.now)) → Excused old new r → Makes g ShowsRoom IsLegible before after r (λ _. ⊤) (revoked t u) (10 ∷ [])
+  takes_back t u leaves rows only faults = record {
+    shows_made = λ clean beside d shown may. on_ok_both r _ _ _ (λ touches has. with_permits old.now new.now d shown _ touches has) (only clean) (rows clean d.permits shown.permits);
+    only = only;
+    goes = leaves.goes;
+    cut = leaves.cut;
+    faults = λ beside d shown may kept. faults;
+  }
+
+-- ---- a permit is granted: first the one that there is goes
+
+module _ {S : Type 0} (g : store.Ghosts S) (before mid after : Held S) (t u : ℕ) (until : ℤ) where
+  abbrev a : State
+  a = state g before
+
+  abbrev b : State
+  b = state g mid
+
+  abbrev c : State
+  c = state g after
+
+  abbrev row : PermitRow
+  row = record { ticket = t; unit = u; until = until }
+
+  pub not_cleared : (e : StoreFault) → Leaves {X = Unit} a b (Err e) → Excused {X = Unit} a b (Err e)
+      → Makes {X = Unit} g ShowsRoom IsLegible before mid (Err e) (λ _. HasUnitRow u a.now.trees) (with_permit t u until) (10 ∷ [])
+  not_cleared e leaves faults = record {
+    shows_made = λ clean beside d shown may. tt;
+    only = λ clean. tt;
+    goes = tt;
+    cut = leaves.cut;
+    faults = λ beside d shown may kept. faults;
+  }
+
+  module _ (goes : Goes a b) (only : HasCleanDisk b → OnlyTouches (10 ∷ []) a.now b.now) (left : HasCleanDisk b → (ps : List PermitRow) → HasNumbered permit_cells (a.now.trees 10) ps → HasNumbered permit_cells (b.now.trees 10) (without_permit t u ps))
+      (r : Result Unit StoreFault) where
+    still_there : HasCleanDisk b → HasUnitRow u a.now.trees → HasUnitRow u b.now.trees
+    still_there clean known = subst (λ rows. (row : Row) × Has rows row × (rowid row ≡ Int (pos u))) (sym (only clean 14 refl refl)) known
+
+    put : HasCleanDisk b → PutsRow 10 (permit_cells (next_rowid (b.now.trees 10), row)) b.now c.now → (d : Desk) → ShowsDesk a.now.trees d → ShowsDesk c.now.trees (with_permit t u until d)
+    put clean puts d shown =
+        with_permits a.now c.now d shown (row ∷ without_permit t u d.permits) (λ tree known other. puts.only tree known other ∙ only clean tree known other)
+        (one_more permit_cells (λ _. refl) (b.now.trees 10) (c.now.trees 10) (without_permit t u d.permits) (next_rowid (b.now.trees 10)) row (left clean d.permits shown.permits) puts.rows puts.fresh)
+
+    pub grants : Leaves b c r → (HasCleanDisk c → OnOk r (PutsRow 10 (permit_cells (next_rowid (b.now.trees 10), row)) b.now c.now))
+        → ((ps : List PermitRow) → HasNumbered permit_cells (b.now.trees 10) ps → list_any (is_permit t u) ps ≡ false → HasUnitRow u b.now.trees → Excused b c r)
+        → Makes g ShowsRoom IsLegible before after r (λ _. HasUnitRow u a.now.trees) (with_permit t u until) (10 ∷ [])
+    grants leaves puts faults =
+        let back = early b c _ leaves.crash in
+        record {
+          shows_made = λ clean beside d shown may. on_ok_then r _ _ (λ at. put (back clean) at d shown) (puts clean);
+          only = λ clean. on_ok_then r _ _ (λ (at : PutsRow 10 (permit_cells (next_rowid (b.now.trees 10), row)) b.now c.now) tree known other. at.only tree known other ∙ only (back clean) tree known other) (puts clean);
+          goes = on_ok_then r _ _ (goes_then a b c goes) leaves.goes;
+          cut = on_err_then r _ _ (cut_then a b c goes.on) leaves.cut;
+          faults = λ beside d shown may kept clean free. last_cause a b c goes.on r leaves.cut clean (λ cleaner.
+              faults (without_permit t u d.permits) (left cleaner d.permits shown.permits) (none_left t u d.permits) (still_there cleaner may) clean (still_unlimited a b goes.on free));
+        }

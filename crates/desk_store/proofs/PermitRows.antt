@@ -1,0 +1,220 @@
+-- The statements on the rows of permits: what their texts mean, what they leave or tell, and why they fail.
+use Rattle.std.proofs.Common.{◌≡◌, ℕ, ℤ, pos, List, [], ◌∷◌, map, filter, codes, true, false, not, ◌&&◌, Result, OnOk, IfOk, IfErr, nat_eq, refl, ap, ◌∙◌}
+use Rattle.std.proofs.Math.Nat.{le_refl}
+use Rattle.std.proofs.lemmas.Bool.{or_right, eq-eqb}
+use Rattle.std.specs.List.{AllByRecursion, list_any, list_all}
+use Rattle.std.specs.Ordering.{int_cmp, ordering_then}
+use Rattle.std.specs.declared.cmp.Ordering.{Ordering}
+use Rattle.sqlite.specs.declared.types.Value.TheVariants.{Null, Int}
+use Rattle.sqlite.specs.Order.{Row, column}
+use Rattle.sqlite.specs.Edit.{edit_of, next_rowid}
+use Rattle.sqlite.specs.Effect.{value_rows}
+use Rattle.sqlite.specs.Rowids.TheVariants.{Chosen}
+use Rattle.sqlite.specs.Term.{Term, lit, col, op2}
+use Rattle.sqlite.specs.Collation.TheVariants.{Binary}
+use Rattle.sqlite.specs.Command.{Command}
+use Rattle.sqlite.specs.Command.TheVariants.{Insert, Delete, Select}
+use Rattle.sqlite.specs.Source.TheVariants.{Values}
+use Rattle.sqlite.specs.Listing.{understood}
+use Rattle.sqlite.specs.State.{State, IsLive}
+use Rattle.sqlite.specs.Tree.{Trees}
+use Rattle.sqlite_rules.proofs.ListLemmas.{some_from}
+use Rattle.sqlite_schema.specs.Names.{same_name}
+use Rattle.sqlite_schema.specs.Rules.{agree, guards, has_null, has_parent, is_key_of, references_fit}
+use Rattle.sqlite_sql.specs.declared.ops.BinaryOp.TheVariants.{Compare}
+use Rattle.sqlite_sql.specs.declared.ops.CompareOp.TheVariants.{Eq}
+use Rattle.sqlite_tied.specs.Compute.{everything}
+use Rattle.sqlite_value.specs.declared.keys.Key.{Key}
+use Rattle.sqlite_value.specs.Keys.{ascending, joined, first_key, plain}
+use Rattle.tree_core.specs.Versions.{Version, Links, Spans}
+use Rattle.isad_core.specs.Days.{is_day_number}
+use Rattle.desk_core.specs.DeskRows.{PermitRow}
+use Rattle.office_tables.specs.Asking.{Finds, Misses}
+use Rattle.office_tables.specs.Changing.{Ran}
+use Rattle.office_tables.specs.Faults.{IsUnlimited, HasCause}
+use Rattle.office_tables.specs.Meaning.{Means}
+use Rattle.office_tables.specs.Order.{IsOrdered}
+use Rattle.office_tables.specs.Schema.{schema, to_unit, unit, permit}
+use Rattle.office_tables.specs.Step.{OnlyTouches, PutsRow}
+use Rattle.office_tables.specs.declared.fault.StoreFault.{StoreFault}
+use Rattle.desk_store.specs.Permits.{is_permit, without_permit, HasUnitRow}
+use Rattle.desk_store.specs.Rows.{permit_cells}
+use Rattle.desk_store.specs.Shows.{HasNumbered}
+use Rattle.desk_store.specs.declared.granting.Permit.{Permit}
+use Rattle.office_tables.proofs.Calls.{on_ok_then}
+use Rattle.office_tables.proofs.Casts.{cast_int, cast_null}
+use Rattle.office_tables.proofs.DeleteOf.{removing, delete_leaves, delete_faults}
+use Rattle.office_tables.proofs.Fresh.{any_mapped, next_free}
+use Rattle.office_tables.proofs.InsertCauses.{IsWelcome}
+use Rattle.office_tables.proofs.InsertOf.{insert_puts, insert_faults}
+use Rattle.office_tables.proofs.SelectOf.{asking, select_finds, select_faults}
+use Rattle.office_tables.proofs.Steps.{is_referred_to}
+use Rattle.office_tables.proofs.Tests.{only, both, same_number, by_two_ints}
+use Rattle.desk_store.proofs.OnlyOf.{delete_only}
+use Rattle.desk_store.proofs.OwnNumbers.{none_numbered, all_numbered, those_left}
+
+-- ---- a permit for a unit that has its row
+
+unit_fits : (v : Version) → list_all (is_key_of (schema v)) (to_unit 2 ∷ []) ≡ true
+unfolding joined same_name
+unit_fits Links = refl
+unit_fits Spans = refl
+
+held_by_unit : (v : Version) (db : Trees) (row : Row) → list_any (λ parent. agree plain (0 ∷ []) parent (2 ∷ []) row) (db unit.tree) ≡ true → list_all (has_parent (schema v).tables db row) (to_unit 2 ∷ []) ≡ true
+unfolding joined same_name
+held_by_unit Links db row h = rw (h, or_right (has_null (2 ∷ []) row) true refl) refl
+held_by_unit Spans db row h = rw (h, or_right (has_null (2 ∷ []) row) true refl) refl
+
+unit_agrees : (u : ℕ) (parent row : Row) → column parent 0 ≡ Int (pos u) → column row 2 ≡ Int (pos u) → agree plain (0 ∷ []) parent (2 ∷ []) row ≡ true
+unfolding first_key
+unit_agrees u parent row at is = rw (at, is) (only (same_number u u ∙ eq-eqb u u refl))
+
+has_its_unit : (v : Version) (db : Trees) (row : Row) (u : ℕ) → column row 2 ≡ Int (pos u) → HasUnitRow u db → list_all (has_parent (schema v).tables db row) (to_unit 2 ∷ []) ≡ true
+has_its_unit v db row u is known = held_by_unit v db row (some_from (λ parent. agree plain (0 ∷ []) parent (2 ∷ []) row) (db unit.tree) known.0 known.1 (unit_agrees u known.0 row known.2 is))
+
+-- ---- a new permit
+
+abbrev pub insert_permit_text : List ℕ
+insert_permit_text = codes "INSERT INTO permit (ticket, unit, until) VALUES (?1, ?2, ?3)"
+
+abbrev insert_permit_terms : List Term
+insert_permit_terms = lit Null ∷ col 0 0 ∷ col 0 1 ∷ col 0 2 ∷ []
+
+abbrev pub insert_permit_command : Command
+insert_permit_command = Insert 6 (Values insert_permit_terms 4)
+
+pub insert_permit_means : (v : Version) → Means v insert_permit_text 3 insert_permit_command
+unfolding understood everything
+insert_permit_means Links = record { is = refl; plain = (refl, refl); whole = (le_refl _, refl, refl); unlisted = refl }
+insert_permit_means Spans = record { is = refl; plain = (refl, refl); whole = (le_refl _, refl, refl); unlisted = refl }
+
+same_permit : (a b : ℤ × PermitRow) → agree plain (1 ∷ 2 ∷ []) (permit_cells a) (1 ∷ 2 ∷ []) (permit_cells b) ≡ is_permit b.1.ticket b.1.unit a.1
+unfolding first_key
+same_permit a b = both (same_number a.1.ticket b.1.ticket) (same_number a.1.unit b.1.unit)
+
+no_other : (v : Version) (db : Trees) (row : Row) → list_any (λ r. agree plain (1 ∷ 2 ∷ []) r (1 ∷ 2 ∷ []) row) (db permit.tree) ≡ false
+    → list_all (λ i. not (guards i permit && list_any (λ r. agree i.order i.columns r i.columns row) (db permit.tree))) (schema v).indexes ≡ true
+no_other Links db row h = rw h refl
+no_other Spans db row h = rw h refl
+
+module _ (old new : State) (p : PermitRow) (v : Version) (has : old.now.schema ≡ schema v) where
+  abbrev params : Row
+  params = Int (pos p.ticket) ∷ Int (pos p.unit) ∷ Int p.until ∷ []
+
+  abbrev added : ℤ × PermitRow
+  added = (next_rowid (old.now.trees 10), p)
+
+  news : (edit_of old.now.trees permit [] Chosen 0 (value_rows params 4 1 insert_permit_terms)).news ≡ permit_cells added ∷ []
+  news = rw (cast_null, cast_int (pos p.ticket), cast_int (pos p.unit), cast_int p.until) refl
+
+  pub insert_permit_puts : (r : Result Unit StoreFault) → Ran insert_permit_text params old new r → OnOk r (PutsRow 10 (permit_cells added) old.now new.now)
+  insert_permit_puts = insert_puts v 6 permit refl insert_permit_text insert_permit_terms 4 params (insert_permit_means v) old new has (permit_cells added) news
+
+  module _ (ps : List PermitRow) (at : HasNumbered permit_cells (old.now.trees 10) ps) (none : list_any (is_permit p.ticket p.unit) ps ≡ false) (known : HasUnitRow p.unit old.now.trees) where
+    welcome : IsWelcome (schema v) old.now.trees permit (permit_cells added)
+    welcome = record {
+      keyed = refl;
+      free = next_free permit_cells (λ x. x.0) (λ _. refl) at.numbered (old.now.trees 10) params at.are at.rise;
+      typed = refl;
+      present = refl;
+      checked = refl;
+      alone = no_other v old.now.trees (permit_cells added) (ap (list_any (λ r. agree plain (1 ∷ 2 ∷ []) r (1 ∷ 2 ∷ []) (permit_cells added))) at.are
+          ∙ any_mapped permit_cells _ (λ (x : ℤ × PermitRow). is_permit p.ticket p.unit x.1) (λ x. same_permit x added) at.numbered ∙ none_numbered permit_cells (old.now.trees 10) ps at (is_permit p.ticket p.unit) none);
+      referred = unit_fits v;
+      parents = has_its_unit v old.now.trees (permit_cells added) p.unit refl known;
+    }
+
+    pub insert_permit_faults : IsUnlimited old → IsLive old → (r : Result Unit StoreFault) → Ran insert_permit_text params old new r → IfErr r (HasCause old new)
+    insert_permit_faults = insert_faults v 6 permit refl insert_permit_text insert_permit_terms 4 params (insert_permit_means v) old new has (permit_cells added) news refl welcome
+
+-- ---- a permit is taken
+
+abbrev pub clear_permit_text : List ℕ
+clear_permit_text = codes "DELETE FROM permit WHERE ticket = ?1 AND unit = ?2"
+
+abbrev of_both : List Term
+of_both = op2 (Compare Eq Binary) (col 1 1) (col 0 0) ∷ op2 (Compare Eq Binary) (col 1 2) (col 0 1) ∷ []
+
+abbrev pub clear_permit_command : Command
+clear_permit_command = Delete 6 (removing permit of_both (col 1 0 ∷ []))
+
+pub clear_permit_means : (v : Version) → Means v clear_permit_text 2 clear_permit_command
+unfolding understood everything
+clear_permit_means Links = record { is = refl; plain = (refl, refl); whole = (le_refl _, refl, refl); unlisted = refl }
+clear_permit_means Spans = record { is = refl; plain = (refl, refl); whole = (le_refl _, refl, refl); unlisted = refl }
+
+permit_unreferred : (v : Version) → is_referred_to (schema v) 10 ≡ false
+unfolding joined same_name
+permit_unreferred Links = refl
+permit_unreferred Spans = refl
+
+permit_fits : (v : Version) → references_fit (schema v) permit false true ≡ true
+unfolding joined same_name
+permit_fits Links = refl
+permit_fits Spans = refl
+
+module _ (old new : State) (t u : ℕ) (v : Version) (has : old.now.schema ≡ schema v) (r : Result Unit StoreFault) (ran : Ran clear_permit_text (Int (pos t) ∷ Int (pos u) ∷ []) old new r) where
+  pub clear_permit_leaves : (ps : List PermitRow) → HasNumbered permit_cells (old.now.trees 10) ps → OnOk r (HasNumbered permit_cells (new.now.trees 10) (without_permit t u ps))
+  clear_permit_leaves ps at =
+      on_ok_then r _ _ (λ has. those_left permit_cells (old.now.trees 10) (new.now.trees 10) ps at (is_permit t u) has.are)
+      (delete_leaves v 6 permit refl (permit_unreferred v) clear_permit_text of_both (col 1 0 ∷ []) (Int (pos t) ∷ Int (pos u) ∷ []) (clear_permit_means v) old new has permit_cells (λ x. x.0) (λ _. refl) at.numbered at.are at.rise
+      (λ (x : ℤ × PermitRow). is_permit t u x.1) (λ x. both (same_number x.1.ticket t) (same_number x.1.unit u)) (λ (x : ℤ × PermitRow). Int x.0 ∷ []) (λ _. refl) (λ _. refl) r ran)
+
+  pub clear_permit_only : OnOk r (OnlyTouches (10 ∷ []) old.now new.now)
+  clear_permit_only = delete_only v 6 permit refl clear_permit_text _ (Int (pos t) ∷ Int (pos u) ∷ []) old new has (permit_unreferred v) (clear_permit_means v) r ran
+
+  pub clear_permit_faults : IsUnlimited old → IsLive old → IfErr r (HasCause old new)
+  clear_permit_faults free live =
+      delete_faults v 6 permit refl (permit_unreferred v) clear_permit_text of_both (col 1 0 ∷ []) (Int (pos t) ∷ Int (pos u) ∷ []) (clear_permit_means v) old new has (permit_fits v) refl free live r ran
+
+-- ---- the permits of a ticket
+
+abbrev pub permits_text : List ℕ
+permits_text = codes "SELECT unit, until FROM permit WHERE ticket = ?1 ORDER BY ticket, unit"
+
+abbrev of_ticket : List Term
+of_ticket = op2 (Compare Eq Binary) (col 1 1) (col 0 0) ∷ []
+
+abbrev permit_columns : List Term
+permit_columns = col 1 2 ∷ col 1 3 ∷ []
+
+abbrev permit_names : List (List ℕ)
+permit_names = codes "unit" ∷ codes "until" ∷ []
+
+abbrev in_order : List (Term × Key)
+in_order = (col 1 1, ascending Binary) ∷ (col 1 2, ascending Binary) ∷ []
+
+abbrev pub permits_command : Command
+permits_command = Select (asking permit of_ticket permit_columns in_order) permit_names
+
+pub permits_means : (v : Version) → Means v permits_text 1 permits_command
+unfolding understood everything
+permits_means Links = record { is = refl; plain = (refl, refl); whole = (le_refl _, refl, refl); unlisted = refl }
+permits_means Spans = record { is = refl; plain = (refl, refl); whole = (le_refl _, refl, refl); unlisted = refl }
+
+abbrev pub permit_of : PermitRow → Permit
+permit_of p = record { unit = p.unit; until = p.until }
+
+abbrev pub told_of : ℤ × PermitRow → Permit
+told_of x = permit_of x.1
+
+abbrev pub told_cells : Permit → Row
+told_cells p = Int (pos p.unit) ∷ Int p.until ∷ []
+
+abbrev pub by_ticket : ℤ × PermitRow → ℤ × PermitRow → Ordering
+by_ticket a b = ordering_then (int_cmp (pos a.1.ticket) (pos b.1.ticket)) (int_cmp (pos a.1.unit) (pos b.1.unit))
+
+module _ (old new : State) (t : ℕ) (v : Version) (has : old.now.schema ≡ schema v) (ps : List PermitRow) (at : HasNumbered permit_cells (old.now.trees 10) ps) {X : Type 0} (items : X → List Permit) (r : Result X StoreFault) where
+  pub permits_finds : IfOk r (λ found. Finds told_cells permits_text (Int (pos t) ∷ []) old new (items found))
+      → IfOk r (λ found. (ys : List (ℤ × PermitRow)) × IsOrdered by_ticket (filter (λ (x : ℤ × PermitRow). nat_eq t x.1.ticket) at.numbered) ys × (items found ≡ map told_of ys))
+  permits_finds =
+      select_finds v permit permits_text of_ticket permit_columns in_order permit_names (Int (pos t) ∷ []) (permits_means v) old new has permit_cells at.numbered at.are
+      (λ (x : ℤ × PermitRow). nat_eq t x.1.ticket) (λ x. only (same_number x.1.ticket t)) (λ x. told_cells (told_of x)) (λ (x : ℤ × PermitRow). Int (pos x.1.ticket) ∷ Int (pos x.1.unit) ∷ []) (λ _. refl)
+      by_ticket (λ _. refl) (λ a b. by_two_ints (pos a.1.ticket) (pos b.1.ticket) (pos a.1.unit) (pos b.1.unit)) told_cells items told_of (λ _. refl) r
+
+  pub permits_faults : AllByRecursion (λ (p : PermitRow). is_day_number p.until ≡ true) ps → IsUnlimited old → IfErr r (Misses told_cells (λ p. is_day_number p.until ≡ true) permits_text (Int (pos t) ∷ []) old new) → IfErr r (HasCause old new)
+  permits_faults legible free =
+      select_faults v permit permits_text of_ticket permit_columns in_order permit_names (Int (pos t) ∷ []) (permits_means v) old new has permit_cells at.numbered at.are
+      (λ (x : ℤ × PermitRow). nat_eq t x.1.ticket) (λ x. only (same_number x.1.ticket t)) (λ x. told_cells (told_of x)) (λ (x : ℤ × PermitRow). Int (pos x.1.ticket) ∷ Int (pos x.1.unit) ∷ []) (λ _. refl)
+      by_ticket (λ _. refl) (λ a b. by_two_ints (pos a.1.ticket) (pos b.1.ticket) (pos a.1.unit) (pos b.1.unit)) told_cells items told_of (λ _. refl) (λ (p : Permit). is_day_number p.until ≡ true) refl free
+      (all_numbered permit_cells (old.now.trees 10) ps at (λ (p : PermitRow). is_day_number p.until ≡ true) legible) r
