@@ -13,3 +13,5 @@ pub mod OrderWrites
 pub mod OwnNumbers
 pub mod PermitRows
 pub mod PermitCalls
+pub mod RunRows
+pub mod RunCalls

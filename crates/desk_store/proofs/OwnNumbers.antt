@@ -1,9 +1,9 @@
 -- Rows with numbers of their own that tell nothing: one more, and those that are left.
-use Rattle.std.proofs.Common.{◌≡◌, ℤ, List, [], ◌∷◌, map, filter, Bool, false, not, refl, ap, subst, ◌∙◌}
+use Rattle.std.proofs.Common.{◌≡◌, ℤ, List, [], ◌∷◌, ◌++◌, map, filter, Bool, false, not, refl, ap, subst, ◌∙◌}
 use Rattle.std.specs.List.{AllByRecursion, list_any}
 use Rattle.std.specs.List.Sorted.{IsPermutation}
 use Rattle.std.proofs.lemmas.Bool.{or_parts, or_from}
-use Rattle.std.proofs.lemmas.List.Sorted.{IsPermutation-trans, IsPermutation-cons, IsPermutation-map}
+use Rattle.std.proofs.lemmas.List.Sorted.{IsPermutation-trans, IsPermutation-cons, IsPermutation-map, IsPermutation-append_comm}
 use Rattle.sqlite.specs.declared.types.Value.TheVariants.{Int}
 use Rattle.sqlite.specs.Order.{Row}
 use Rattle.sqlite.specs.Edit.{is_taken}
@@ -58,3 +58,14 @@ module _ {R : Type 0} (cells : ℤ × R → Row) where
           (IsPermutation-map told ((n, new) ∷ has.numbered) (put_by own (n, new) has.numbered)
           (put_more own (n, new) has.numbered (fresh_key cells own keyed (n, new) has.numbered (subst (λ l. is_taken l (cells (n, new)) ≡ false) has.are free))));
     }
+
+    -- in whatever order they are told
+    pub one_at_end : (there now : List Row) (rows : List R) (n : ℤ) (new : R) → HasNumbered cells there rows → now ≡ put_row (cells (n, new)) there → is_taken there (cells (n, new)) ≡ false → HasNumbered cells now (rows ++ new ∷ [])
+    one_at_end there now rows n new has put free =
+        let more = one_more there now rows n new has put free in
+        record {
+          numbered = more.numbered;
+          are = more.are;
+          rise = more.rise;
+          tell = IsPermutation-trans (rows ++ new ∷ []) (new ∷ rows) (map told more.numbered) (IsPermutation-append_comm rows (new ∷ [])) more.tell;
+        }

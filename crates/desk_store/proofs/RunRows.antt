@@ -1,0 +1,170 @@
+-- The statements on the rows of runs and of their lines: what their texts mean, what they leave or tell, and why they fail.
+use Rattle.std.proofs.Common.{◌≡◌, ◌≤◌, ◌<◌, ◌^◌, ℕ, ℤ, pos, List, [], ◌∷◌, ◌++◌, length, map, codes, true, false, not, ◌&&◌, Result, OnOk, IfOk, IfErr, nat_eq, refl, ap, ◌∙◌, arith}
+use Rattle.std.proofs.Math.Nat.{le_refl}
+use Rattle.std.specs.List.{list_any, list_all}
+use Rattle.sqlite.specs.declared.types.Value.TheVariants.{Null, Int}
+use Rattle.sqlite.specs.Order.{Row}
+use Rattle.sqlite.specs.Edit.{edit_of, is_taken, next_rowid}
+use Rattle.sqlite.specs.Effect.{value_rows}
+use Rattle.sqlite.specs.Rowids.TheVariants.{Chosen}
+use Rattle.sqlite.specs.Term.{Term, lit, col}
+use Rattle.sqlite.specs.Command.{Command}
+use Rattle.sqlite.specs.Command.TheVariants.{Insert, Select}
+use Rattle.sqlite.specs.Source.TheVariants.{Values}
+use Rattle.sqlite.specs.Listing.{understood}
+use Rattle.sqlite.specs.State.{State, IsLive}
+use Rattle.sqlite.specs.Tree.{Trees}
+use Rattle.sqlite_schema.specs.Rules.{agree, guards}
+use Rattle.sqlite_tied.specs.Compute.{everything}
+use Rattle.sqlite_value.specs.Keys.{first_key, plain}
+use Rattle.tree_core.specs.Versions.{Version, Links, Spans}
+use Rattle.desk_core.specs.Checks.{most_runs}
+use Rattle.desk_core.specs.DeskRows.{RunRow, RunLineRow}
+use Rattle.office_tables.specs.Asking.{FindsFirst, Misses}
+use Rattle.office_tables.specs.Changing.{Ran}
+use Rattle.office_tables.specs.Faults.{IsUnlimited, HasCause}
+use Rattle.office_tables.specs.Meaning.{Means}
+use Rattle.office_tables.specs.Schema.{schema, run, run_line}
+use Rattle.office_tables.specs.Step.{Holds, OnlyTouches, PutsRow}
+use Rattle.office_tables.specs.declared.fault.StoreFault.{StoreFault}
+use Rattle.desk_store.specs.Rows.{run_cells, run_line_cells}
+use Rattle.desk_store.specs.Shows.{AreCounted, HasNumbered}
+use Rattle.office_tables.proofs.Calls.{on_ok_then}
+use Rattle.office_tables.proofs.Casts.{cast_int, cast_null}
+use Rattle.office_tables.proofs.Fresh.{any_mapped, next_free, not_there}
+use Rattle.office_tables.proofs.InsertCauses.{IsWelcome}
+use Rattle.office_tables.proofs.InsertOf.{insert_puts, insert_faults}
+use Rattle.office_tables.proofs.Tests.{both, same_number}
+use Rattle.desk_store.proofs.LastOf.{last_of, last_finds, last_faults}
+use Rattle.desk_store.proofs.OwnNumbers.{none_numbered, one_at_end}
+
+-- ---- the last run
+
+abbrev pub last_run_text : List ℕ
+last_run_text = codes "SELECT id FROM run ORDER BY id DESC LIMIT 1"
+
+abbrev pub last_run_command : Command
+last_run_command = Select (last_of run) (codes "id" ∷ [])
+
+pub last_run_means : (v : Version) → Means v last_run_text 0 last_run_command
+unfolding understood everything
+last_run_means Links = record { is = refl; plain = (refl, refl); whole = (le_refl _, refl, refl); unlisted = refl }
+last_run_means Spans = record { is = refl; plain = (refl, refl); whole = (le_refl _, refl, refl); unlisted = refl }
+
+module _ (old new : State) (v : Version) (has : old.now.schema ≡ schema v) (xs : List RunRow) (stored : Holds run run_cells old xs) (counted : AreCounted (λ (x : RunRow). x.id) xs) (r : Result ℕ StoreFault) where
+  pub last_run_finds : IfOk r (FindsFirst last_run_text [] old new) → IfOk r (λ n. n ≡ length xs)
+  last_run_finds = last_finds (λ (x : RunRow). x.id) v run last_run_text (codes "id" ∷ []) (last_run_means v) old new has run_cells (λ _. refl) xs stored counted r
+
+  pub last_run_faults : length xs ≤ most_runs → IsUnlimited old → IfErr r (Misses (λ n. Int (pos n) ∷ []) (λ n. n < 2 ^ 32) last_run_text [] old new) → IfErr r (HasCause old new)
+  last_run_faults few free = last_faults (λ (x : RunRow). x.id) v run last_run_text (codes "id" ∷ []) (last_run_means v) old new has run_cells (λ _. refl) xs stored counted refl (omega (arith, few)) free r
+
+-- ---- a new run
+
+abbrev pub insert_run_text : List ℕ
+insert_run_text = codes "INSERT INTO run (id, day) VALUES (?1, ?2)"
+
+abbrev insert_run_terms : List Term
+insert_run_terms = col 0 0 ∷ lit Null ∷ col 0 1 ∷ []
+
+abbrev pub insert_run_command : Command
+insert_run_command = Insert 4 (Values insert_run_terms 3)
+
+pub insert_run_means : (v : Version) → Means v insert_run_text 2 insert_run_command
+unfolding understood everything
+insert_run_means Links = record { is = refl; plain = (refl, refl); whole = (le_refl _, refl, refl); unlisted = refl }
+insert_run_means Spans = record { is = refl; plain = (refl, refl); whole = (le_refl _, refl, refl); unlisted = refl }
+
+run_alone : (v : Version) (db : Trees) (row : Row) → list_all (λ i. not (guards i run && list_any (λ r. agree i.order i.columns r i.columns row) (db 7))) (schema v).indexes ≡ true
+run_alone Links db row = refl
+run_alone Spans db row = refl
+
+run_welcome : (x : RunRow) (xs : List RunRow) (v : Version) (db : Trees) → db 7 ≡ map run_cells xs → list_any (λ (y : RunRow). nat_eq x.id y.id) xs ≡ false → IsWelcome (schema v) db run (run_cells x)
+run_welcome x xs v db stored none = record {
+  keyed = refl;
+  free = ap (λ rows. is_taken rows (run_cells x)) stored ∙ not_there run_cells (λ y. y.id) (λ _. refl) x.id (run_cells x) refl xs none;
+  typed = refl;
+  present = refl;
+  checked = refl;
+  alone = run_alone v db (run_cells x);
+  referred = refl;
+  parents = refl;
+}
+
+module _ (old new : State) (x : RunRow) (v : Version) (has : old.now.schema ≡ schema v) where
+  abbrev run_params : Row
+  run_params = Int (pos x.id) ∷ Int x.day ∷ []
+
+  run_news : (edit_of old.now.trees run [] Chosen 0 (value_rows run_params 3 1 insert_run_terms)).news ≡ run_cells x ∷ []
+  run_news = rw (cast_int (pos x.id), cast_null, cast_int x.day) refl
+
+  pub insert_run_puts : (r : Result Unit StoreFault) → Ran insert_run_text run_params old new r → OnOk r (PutsRow 7 (run_cells x) old.now new.now)
+  insert_run_puts = insert_puts v 4 run refl insert_run_text insert_run_terms 3 run_params (insert_run_means v) old new has (run_cells x) run_news
+
+  pub insert_run_faults : (xs : List RunRow) → Holds run run_cells old xs → list_any (λ (y : RunRow). nat_eq x.id y.id) xs ≡ false → IsUnlimited old → IsLive old
+      → (r : Result Unit StoreFault) → Ran insert_run_text run_params old new r → IfErr r (HasCause old new)
+  insert_run_faults xs stored none =
+      insert_faults v 4 run refl insert_run_text insert_run_terms 3 run_params (insert_run_means v) old new has (run_cells x) run_news refl (run_welcome x xs v old.now.trees stored none)
+
+-- ---- a new line
+
+abbrev pub insert_line_text : List ℕ
+insert_line_text = codes "INSERT INTO run_line (run, container, order_no, ticket) VALUES (?1, ?2, ?3, ?4)"
+
+abbrev insert_line_terms : List Term
+insert_line_terms = lit Null ∷ col 0 0 ∷ col 0 1 ∷ col 0 2 ∷ col 0 3 ∷ []
+
+abbrev pub insert_line_command : Command
+insert_line_command = Insert 5 (Values insert_line_terms 5)
+
+pub insert_line_means : (v : Version) → Means v insert_line_text 4 insert_line_command
+unfolding understood everything
+insert_line_means Links = record { is = refl; plain = (refl, refl); whole = (le_refl _, refl, refl); unlisted = refl }
+insert_line_means Spans = record { is = refl; plain = (refl, refl); whole = (le_refl _, refl, refl); unlisted = refl }
+
+same_line : (a b : ℤ × RunLineRow) → agree plain (1 ∷ 2 ∷ []) (run_line_cells a) (1 ∷ 2 ∷ []) (run_line_cells b) ≡ (nat_eq b.1.run a.1.run && nat_eq b.1.container a.1.container)
+unfolding first_key
+same_line a b = both (same_number a.1.run b.1.run) (same_number a.1.container b.1.container)
+
+no_other : (v : Version) (db : Trees) (row : Row) → list_any (λ r. agree plain (1 ∷ 2 ∷ []) r (1 ∷ 2 ∷ []) row) (db run_line.tree) ≡ false
+    → list_all (λ i. not (guards i run_line && list_any (λ r. agree i.order i.columns r i.columns row) (db run_line.tree))) (schema v).indexes ≡ true
+no_other Links db row h = rw h refl
+no_other Spans db row h = rw h refl
+
+module _ (old new : State) (l : RunLineRow) (v : Version) (has : old.now.schema ≡ schema v) where
+  abbrev params : Row
+  params = Int (pos l.run) ∷ Int (pos l.container) ∷ Int (pos l.order_no) ∷ Int (pos l.ticket) ∷ []
+
+  abbrev added : ℤ × RunLineRow
+  added = (next_rowid (old.now.trees 8), l)
+
+  news : (edit_of old.now.trees run_line [] Chosen 0 (value_rows params 5 1 insert_line_terms)).news ≡ run_line_cells added ∷ []
+  news = rw (cast_null, cast_int (pos l.run), cast_int (pos l.container), cast_int (pos l.order_no), cast_int (pos l.ticket)) refl
+
+  puts : (r : Result Unit StoreFault) → Ran insert_line_text params old new r → OnOk r (PutsRow 8 (run_line_cells added) old.now new.now)
+  puts = insert_puts v 5 run_line refl insert_line_text insert_line_terms 5 params (insert_line_means v) old new has (run_line_cells added) news
+
+  pub insert_line_only : (r : Result Unit StoreFault) → Ran insert_line_text params old new r → OnOk r (OnlyTouches (8 ∷ []) old.now new.now)
+  insert_line_only r ran = on_ok_then r _ _ (λ put. put.only) (puts r ran)
+
+  module _ (ls : List RunLineRow) (at : HasNumbered run_line_cells (old.now.trees 8) ls) where
+    pub insert_line_puts : (r : Result Unit StoreFault) → Ran insert_line_text params old new r → OnOk r (HasNumbered run_line_cells (new.now.trees 8) (ls ++ l ∷ []))
+    insert_line_puts r ran =
+        on_ok_then r _ _ (λ put. one_at_end run_line_cells (λ _. refl) (old.now.trees 8) (new.now.trees 8) ls (next_rowid (old.now.trees 8)) l at put.rows put.fresh) (puts r ran)
+
+    module _ (none : list_any (λ (x : RunLineRow). nat_eq l.run x.run && nat_eq l.container x.container) ls ≡ false) where
+      welcome : IsWelcome (schema v) old.now.trees run_line (run_line_cells added)
+      welcome = record {
+        keyed = refl;
+        free = next_free run_line_cells (λ x. x.0) (λ _. refl) at.numbered (old.now.trees 8) params at.are at.rise;
+        typed = refl;
+        present = refl;
+        checked = refl;
+        alone = no_other v old.now.trees (run_line_cells added) (ap (list_any (λ r. agree plain (1 ∷ 2 ∷ []) r (1 ∷ 2 ∷ []) (run_line_cells added))) at.are
+            ∙ any_mapped run_line_cells _ (λ (x : ℤ × RunLineRow). nat_eq l.run x.1.run && nat_eq l.container x.1.container) (λ x. same_line x added) at.numbered
+            ∙ none_numbered run_line_cells (old.now.trees 8) ls at (λ (x : RunLineRow). nat_eq l.run x.run && nat_eq l.container x.container) none);
+        referred = refl;
+        parents = refl;
+      }
+
+      pub insert_line_faults : IsUnlimited old → IsLive old → (r : Result Unit StoreFault) → Ran insert_line_text params old new r → IfErr r (HasCause old new)
+      insert_line_faults = insert_faults v 5 run_line refl insert_line_text insert_line_terms 5 params (insert_line_means v) old new has (run_line_cells added) news refl welcome
