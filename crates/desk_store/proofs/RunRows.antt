@@ -1,13 +1,22 @@
 -- The statements on the rows of runs and of their lines: what their texts mean, what they leave or tell, and why they fail.
-use Rattle.std.proofs.Common.{◌≡◌, ◌≤◌, ◌<◌, ◌^◌, ℕ, ℤ, pos, List, [], ◌∷◌, ◌++◌, length, map, codes, true, false, not, ◌&&◌, Result, OnOk, IfOk, IfErr, nat_eq, refl, ap, ◌∙◌, arith}
+use Rattle.std.proofs.Common.{◌≡◌, ◌≤◌, ◌<◌, ◌^◌, ℕ, ℤ, pos, List, [], ◌∷◌, ◌++◌, length, map, filter, codes, true, false, not, ◌&&◌, Result, OnOk, IfOk, IfErr, nat_eq, refl, sym, ap, subst, ◌∙◌, arith}
+use Rattle.std.specs.Prelude.{⊤}
 use Rattle.std.proofs.Math.Nat.{le_refl}
-use Rattle.std.specs.List.{list_any, list_all}
+use Rattle.std.proofs.lemmas.Result.{IfOk-weaker}
+use Rattle.std.specs.List.{AllByRecursion, list_any, list_all}
+use Rattle.std.specs.List.Sorted.{IsPermutation}
+use Rattle.std.specs.Ordering.{int_cmp, ordering_then}
+use Rattle.std.specs.declared.cmp.Ordering.{Ordering}
 use Rattle.sqlite.specs.declared.types.Value.TheVariants.{Null, Int}
 use Rattle.sqlite.specs.Order.{Row}
 use Rattle.sqlite.specs.Edit.{edit_of, is_taken, next_rowid}
 use Rattle.sqlite.specs.Effect.{value_rows}
 use Rattle.sqlite.specs.Rowids.TheVariants.{Chosen}
-use Rattle.sqlite.specs.Term.{Term, lit, col}
+use Rattle.sqlite.specs.Term.{Term, lit, col, op2}
+use Rattle.sqlite.specs.Collation.TheVariants.{Binary}
+use Rattle.sqlite_sql.specs.declared.ops.BinaryOp.TheVariants.{Compare}
+use Rattle.sqlite_sql.specs.declared.ops.CompareOp.TheVariants.{Eq}
+use Rattle.sqlite_value.specs.declared.keys.Key.{Key}
 use Rattle.sqlite.specs.Command.{Command}
 use Rattle.sqlite.specs.Command.TheVariants.{Insert, Select}
 use Rattle.sqlite.specs.Source.TheVariants.{Values}
@@ -16,11 +25,11 @@ use Rattle.sqlite.specs.State.{State, IsLive}
 use Rattle.sqlite.specs.Tree.{Trees}
 use Rattle.sqlite_schema.specs.Rules.{agree, guards}
 use Rattle.sqlite_tied.specs.Compute.{everything}
-use Rattle.sqlite_value.specs.Keys.{first_key, plain}
+use Rattle.sqlite_value.specs.Keys.{ascending, first_key, plain}
 use Rattle.tree_core.specs.Versions.{Version, Links, Spans}
 use Rattle.desk_core.specs.Checks.{most_runs}
 use Rattle.desk_core.specs.DeskRows.{RunRow, RunLineRow}
-use Rattle.office_tables.specs.Asking.{FindsFirst, Misses}
+use Rattle.office_tables.specs.Asking.{Finds, FindsFirst, Misses}
 use Rattle.office_tables.specs.Changing.{Ran}
 use Rattle.office_tables.specs.Faults.{IsUnlimited, HasCause}
 use Rattle.office_tables.specs.Meaning.{Means}
@@ -29,14 +38,16 @@ use Rattle.office_tables.specs.Step.{Holds, OnlyTouches, PutsRow}
 use Rattle.office_tables.specs.declared.fault.StoreFault.{StoreFault}
 use Rattle.desk_store.specs.Rows.{run_cells, run_line_cells}
 use Rattle.desk_store.specs.Shows.{AreCounted, HasNumbered}
+use Rattle.desk_store.specs.declared.runs.TakenLine.{TakenLine}
 use Rattle.office_tables.proofs.Calls.{on_ok_then}
 use Rattle.office_tables.proofs.Casts.{cast_int, cast_null}
 use Rattle.office_tables.proofs.Fresh.{any_mapped, next_free, not_there}
 use Rattle.office_tables.proofs.InsertCauses.{IsWelcome}
 use Rattle.office_tables.proofs.InsertOf.{insert_puts, insert_faults}
-use Rattle.office_tables.proofs.Tests.{both, same_number}
+use Rattle.office_tables.proofs.SelectOf.{asking, select_finds, select_faults}
+use Rattle.office_tables.proofs.Tests.{only, both, same_number, by_two_ints}
 use Rattle.desk_store.proofs.LastOf.{last_of, last_finds, last_faults}
-use Rattle.desk_store.proofs.OwnNumbers.{none_numbered, one_at_end}
+use Rattle.desk_store.proofs.OwnNumbers.{none_numbered, one_at_end, told_permuted}
 
 -- ---- the last run
 
@@ -168,3 +179,57 @@ module _ (old new : State) (l : RunLineRow) (v : Version) (has : old.now.schema 
 
       pub insert_line_faults : IsUnlimited old → IsLive old → (r : Result Unit StoreFault) → Ran insert_line_text params old new r → IfErr r (HasCause old new)
       insert_line_faults = insert_faults v 5 run_line refl insert_line_text insert_line_terms 5 params (insert_line_means v) old new has (run_line_cells added) news refl welcome
+
+-- ---- the lines of a run
+
+abbrev pub lines_with_text : List ℕ
+lines_with_text = codes "SELECT container, order_no, ticket FROM run_line WHERE run = ?1 ORDER BY run, container"
+
+abbrev of_run : List Term
+of_run = op2 (Compare Eq Binary) (col 1 1) (col 0 0) ∷ []
+
+abbrev line_columns : List Term
+line_columns = col 1 2 ∷ col 1 3 ∷ col 1 4 ∷ []
+
+abbrev line_names : List (List ℕ)
+line_names = codes "container" ∷ codes "order_no" ∷ codes "ticket" ∷ []
+
+abbrev in_order : List (Term × Key)
+in_order = (col 1 1, ascending Binary) ∷ (col 1 2, ascending Binary) ∷ []
+
+abbrev pub lines_with_command : Command
+lines_with_command = Select (asking run_line of_run line_columns in_order) line_names
+
+pub lines_with_means : (v : Version) → Means v lines_with_text 1 lines_with_command
+unfolding understood everything
+lines_with_means Links = record { is = refl; plain = (refl, refl); whole = (le_refl _, refl, refl); unlisted = refl }
+lines_with_means Spans = record { is = refl; plain = (refl, refl); whole = (le_refl _, refl, refl); unlisted = refl }
+
+abbrev pub taken_line : RunLineRow → TakenLine
+taken_line l = record { container = l.container; order = l.order_no; ticket = l.ticket }
+
+abbrev pub taken_cells : TakenLine → Row
+taken_cells l = Int (pos l.container) ∷ Int (pos l.order) ∷ Int (pos l.ticket) ∷ []
+
+abbrev by_run : ℤ × RunLineRow → ℤ × RunLineRow → Ordering
+by_run a b = ordering_then (int_cmp (pos a.1.run) (pos b.1.run)) (int_cmp (pos a.1.container) (pos b.1.container))
+
+every : {X : Type 0} (xs : List X) → AllByRecursion (λ (_ : X). ⊤) xs
+every [] = tt
+every (x ∷ xs) = (tt, every xs)
+
+module _ (old new : State) (n : ℕ) (v : Version) (has : old.now.schema ≡ schema v) (ls : List RunLineRow) (at : HasNumbered run_line_cells (old.now.trees 8) ls) {X : Type 0} (items : X → List TakenLine) (r : Result X StoreFault) where
+  pub lines_with_finds : IfOk r (λ found. Finds taken_cells lines_with_text (Int (pos n) ∷ []) old new (items found))
+      → IfOk r (λ found. IsPermutation (map taken_line (filter (λ (l : RunLineRow). nat_eq n l.run) ls)) (items found))
+  lines_with_finds found =
+      IfOk-weaker r _ _ (λ all it. subst (IsPermutation (map taken_line (filter (λ (l : RunLineRow). nat_eq n l.run) ls))) (sym it.2)
+      (told_permuted run_line_cells taken_line (old.now.trees 8) ls at (λ (l : RunLineRow). nat_eq n l.run) it.0 it.1.0))
+      (select_finds v run_line lines_with_text of_run line_columns in_order line_names (Int (pos n) ∷ []) (lines_with_means v) old new has run_line_cells at.numbered at.are
+      (λ (x : ℤ × RunLineRow). nat_eq n x.1.run) (λ x. only (same_number x.1.run n)) (λ x. taken_cells (taken_line x.1)) (λ (x : ℤ × RunLineRow). Int (pos x.1.run) ∷ Int (pos x.1.container) ∷ []) (λ _. refl)
+      by_run (λ _. refl) (λ a b. by_two_ints (pos a.1.run) (pos b.1.run) (pos a.1.container) (pos b.1.container)) taken_cells items (λ (x : ℤ × RunLineRow). taken_line x.1) (λ _. refl) r found)
+
+  pub lines_with_faults : IsUnlimited old → IfErr r (Misses taken_cells (λ _. ⊤) lines_with_text (Int (pos n) ∷ []) old new) → IfErr r (HasCause old new)
+  lines_with_faults free =
+      select_faults v run_line lines_with_text of_run line_columns in_order line_names (Int (pos n) ∷ []) (lines_with_means v) old new has run_line_cells at.numbered at.are
+      (λ (x : ℤ × RunLineRow). nat_eq n x.1.run) (λ x. only (same_number x.1.run n)) (λ x. taken_cells (taken_line x.1)) (λ (x : ℤ × RunLineRow). Int (pos x.1.run) ∷ Int (pos x.1.container) ∷ []) (λ _. refl)
+      by_run (λ _. refl) (λ a b. by_two_ints (pos a.1.run) (pos b.1.run) (pos a.1.container) (pos b.1.container)) taken_cells items (λ (x : ℤ × RunLineRow). taken_line x.1) (λ _. refl) (λ _. ⊤) refl free (every at.numbered) r
