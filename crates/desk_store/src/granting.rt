@@ -12,7 +12,8 @@ ghost use Rattle.office_tables.specs.Faults.{Excused};
 ghost use Rattle.office_tables.specs.Order.{IsOrdered};
 ghost use Rattle.office_tables.specs.Schema as tables;
 ghost use Rattle.office_tables.specs.Step.{InOffice, OnlyTouches, PutsRow};
-ghost use Rattle.desk_store.specs.Permits.{permits_of, by_unit, is_permit, without_permit, with_permit, revoked, HasUnitRow};
+ghost use Rattle.desk_store.specs.Permits.{permits_of, by_unit, is_permit, without_permit, with_permit, revoked};
+ghost use Rattle.desk_store.specs.Permits.{HasUnitRow};
 ghost use Rattle.desk_store.specs.Rows.{permit_cells};
 ghost use Rattle.desk_store.specs.Shows.{HasNumbered, ShowsRoom, IsLegible};
 
@@ -59,7 +60,8 @@ pub fn permits<S: Alter>(
 ) -> Result<Vec<Permit>, StoreFault>
     requires inside { InOffice (state S.Store conn.old) }
     requires small { ticket < 2 ^ 63 }
-    ensures tells { Tells S.Store ShowsRoom IsLegible conn.old conn.new result (λ _. ⊤) (λ _ d all. IsOrdered by_unit (permits_of ticket d) all.items) }
+    ensures tells { Tells S.Store ShowsRoom IsLegible conn.old conn.new result (λ _. ⊤)
+        (λ _ d all. IsOrdered by_unit (permits_of ticket d) all.items) }
 {
     find(
         alloc,
@@ -80,8 +82,17 @@ fn insert_permit<S: Alter>(
     requires small { ticket < 2 ^ 63 }
     requires known { unit < 2 ^ 63 }
     ensures leaves { Leaves (state S.Store conn.old) (state S.Store conn.new) result }
-    ensures puts { HasCleanDisk (state S.Store conn.new) → OnOk result (PutsRow tables.permit.tree (permit_cells (next_rowid ((state S.Store conn.old).now.trees tables.permit.tree), record { ticket = ticket; unit = unit; until = until })) (state S.Store conn.old).now (state S.Store conn.new).now) }
-    ensures faults { (ps : List PermitRow) → HasNumbered permit_cells ((state S.Store conn.old).now.trees tables.permit.tree) ps → list_any (is_permit ticket unit) ps ≡ false → HasUnitRow unit (state S.Store conn.old).now.trees → Excused (state S.Store conn.old) (state S.Store conn.new) result }
+    ensures puts { HasCleanDisk (state S.Store conn.new)
+        → OnOk result (PutsRow tables.permit.tree
+        (permit_cells (
+          next_rowid
+              ((state S.Store conn.old).now.trees tables.permit.tree),
+          record { ticket = ticket; unit = unit; until = until },
+        )) (state S.Store conn.old).now (state S.Store conn.new).now) }
+    ensures faults { (ps : List PermitRow)
+        → HasNumbered permit_cells ((state S.Store conn.old).now.trees tables.permit.tree) ps
+        → list_any (is_permit ticket unit) ps ≡ false → HasUnitRow unit (state S.Store conn.old).now.trees
+        → Excused (state S.Store conn.old) (state S.Store conn.new) result }
 {
     change(
         conn,
@@ -100,8 +111,13 @@ fn clear_permit<S: Alter>(
     requires small { ticket < 2 ^ 63 }
     requires known { unit < 2 ^ 63 }
     ensures leaves { Leaves (state S.Store conn.old) (state S.Store conn.new) result }
-    ensures rows { HasCleanDisk (state S.Store conn.new) → (ps : List PermitRow) → HasNumbered permit_cells ((state S.Store conn.old).now.trees tables.permit.tree) ps → OnOk result (HasNumbered permit_cells ((state S.Store conn.new).now.trees tables.permit.tree) (without_permit ticket unit ps)) }
-    ensures only { HasCleanDisk (state S.Store conn.new) → OnOk result (OnlyTouches (tables.permit.tree ∷ []) (state S.Store conn.old).now (state S.Store conn.new).now) }
+    ensures rows { HasCleanDisk (state S.Store conn.new) → (ps : List PermitRow)
+        → HasNumbered permit_cells ((state S.Store conn.old).now.trees tables.permit.tree) ps
+        → OnOk result (HasNumbered permit_cells ((state S.Store conn.new).now.trees tables.permit.tree)
+        (without_permit ticket unit ps)) }
+    ensures only { HasCleanDisk (state S.Store conn.new)
+        → OnOk result (OnlyTouches (tables.permit.tree ∷ []) (state S.Store conn.old).now
+        (state S.Store conn.new).now) }
     ensures faults { Excused (state S.Store conn.old) (state S.Store conn.new) result }
 {
     change(
@@ -121,7 +137,9 @@ pub fn grant<S: Alter>(
     requires inside { InOffice (state S.Store conn.old) }
     requires small { ticket < 2 ^ 63 }
     requires known { unit < 2 ^ 63 }
-    ensures makes { Makes S.Store ShowsRoom IsLegible conn.old conn.new result (λ _. HasUnitRow unit (state S.Store conn.old).now.trees) (with_permit ticket unit until) (tables.permit.tree ∷ []) }
+    ensures makes { Makes S.Store ShowsRoom IsLegible conn.old conn.new result
+        (λ _. HasUnitRow unit (state S.Store conn.old).now.trees) (with_permit ticket unit until)
+        (tables.permit.tree ∷ []) }
 {
     clear_permit(conn, ticket, unit)?;
     insert_permit(conn, ticket, unit, until)
@@ -132,7 +150,8 @@ pub fn revoke<S: Alter>(conn: &mut Connection<S>, ticket: u64, unit: u64) -> Res
     requires inside { InOffice (state S.Store conn.old) }
     requires small { ticket < 2 ^ 63 }
     requires known { unit < 2 ^ 63 }
-    ensures makes { Makes S.Store ShowsRoom IsLegible conn.old conn.new result (λ _. ⊤) (revoked ticket unit) (tables.permit.tree ∷ []) }
+    ensures makes { Makes S.Store ShowsRoom IsLegible conn.old conn.new result (λ _. ⊤) (revoked ticket unit)
+        (tables.permit.tree ∷ []) }
 {
     clear_permit(conn, ticket, unit)
 }
