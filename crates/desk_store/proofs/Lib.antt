@@ -17,3 +17,5 @@ pub mod HoldingWrites
 pub mod OwnNumbers
 pub mod PermitRows
 pub mod PermitCalls
+pub mod RunRows
+pub mod RunCalls

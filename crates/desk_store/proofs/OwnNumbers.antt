@@ -1,14 +1,14 @@
 -- Rows with numbers of their own that tell nothing: one more, and those that are left.
-use Rattle.std.proofs.Common.{◌≡◌, ℤ, List, [], ◌∷◌, map, filter, Bool, false, not, refl, ap, subst, ◌∙◌}
+use Rattle.std.proofs.Common.{◌≡◌, ℤ, List, [], ◌∷◌, ◌++◌, map, filter, Bool, false, not, refl, ap, subst, ◌∙◌}
 use Rattle.std.specs.List.{AllByRecursion, list_any}
 use Rattle.std.specs.List.Sorted.{IsPermutation}
 use Rattle.std.proofs.lemmas.Bool.{or_parts, or_from}
-use Rattle.std.proofs.lemmas.List.Sorted.{IsPermutation-trans, IsPermutation-cons, IsPermutation-map}
+use Rattle.std.proofs.lemmas.List.Sorted.{IsPermutation-trans, IsPermutation-cons, IsPermutation-map, IsPermutation-append_comm}
 use Rattle.sqlite.specs.declared.types.Value.TheVariants.{Int}
 use Rattle.sqlite.specs.Order.{Row}
 use Rattle.sqlite.specs.Edit.{is_taken}
 use Rattle.sqlite.specs.Tree.{rowid, put_row}
-use Rattle.sqlite_trees.proofs.ListLemmas.{filter-map, IsPermutation-filter, ascending-filter, all-permutation, all_from_map}
+use Rattle.sqlite_trees.proofs.ListLemmas.{map-map, filter-map, IsPermutation-filter, ascending-filter, all-permutation, all_from_map}
 use Rattle.office_tables.specs.Put.{put_by}
 use Rattle.office_tables.proofs.Puts.{put_rows, put_rises, put_more, fresh_key}
 use Rattle.desk_store.specs.Shows.{HasNumbered}
@@ -38,6 +38,15 @@ module _ {R : Type 0} (cells : ℤ × R → Row) where
   pub all_numbered : (there : List Row) (rows : List R) (has : HasNumbered cells there rows) (P : R → Type 0) → AllByRecursion P rows → AllByRecursion (λ (x : ℤ × R). P x.1) has.numbered
   all_numbered there rows has P all = all_from_map P told has.numbered (all-permutation P rows (map told has.numbered) has.tell all)
 
+  -- what is told of those that the test finds, in whatever order they are read
+  pub told_permuted : {T : Type 0} (f : R → T) (there : List Row) (rows : List R) (has : HasNumbered cells there rows) (p : R → Bool) (ys : List (ℤ × R)) → IsPermutation (filter (λ (x : ℤ × R). p x.1) has.numbered) ys
+      → IsPermutation (map f (filter p rows)) (map (λ (x : ℤ × R). f x.1) ys)
+  told_permuted f there rows has p ys same =
+      IsPermutation-trans (map f (filter p rows)) (map (λ (x : ℤ × R). f x.1) (filter (λ (x : ℤ × R). p x.1) has.numbered)) (map (λ (x : ℤ × R). f x.1) ys)
+      (subst (IsPermutation (map f (filter p rows))) (ap (map f) (filter-map p told has.numbered) ∙ map-map f told (filter (λ (x : ℤ × R). p x.1) has.numbered))
+      (IsPermutation-map f (filter p rows) (filter p (map told has.numbered)) (IsPermutation-filter p rows (map told has.numbered) has.tell)))
+      (IsPermutation-map (λ (x : ℤ × R). f x.1) (filter (λ (x : ℤ × R). p x.1) has.numbered) ys same)
+
   -- those that the test does not find
   pub those_left : (there now : List Row) (rows : List R) (has : HasNumbered cells there rows) (p : R → Bool) → now ≡ map cells (filter (λ (x : ℤ × R). not (p x.1)) has.numbered) → HasNumbered cells now (filter (λ r. not (p r)) rows)
   those_left there now rows has p are = record {
@@ -58,3 +67,14 @@ module _ {R : Type 0} (cells : ℤ × R → Row) where
           (IsPermutation-map told ((n, new) ∷ has.numbered) (put_by own (n, new) has.numbered)
           (put_more own (n, new) has.numbered (fresh_key cells own keyed (n, new) has.numbered (subst (λ l. is_taken l (cells (n, new)) ≡ false) has.are free))));
     }
+
+    -- in whatever order they are told
+    pub one_at_end : (there now : List Row) (rows : List R) (n : ℤ) (new : R) → HasNumbered cells there rows → now ≡ put_row (cells (n, new)) there → is_taken there (cells (n, new)) ≡ false → HasNumbered cells now (rows ++ new ∷ [])
+    one_at_end there now rows n new has put free =
+        let more = one_more there now rows n new has put free in
+        record {
+          numbered = more.numbered;
+          are = more.are;
+          rise = more.rise;
+          tell = IsPermutation-trans (rows ++ new ∷ []) (new ∷ rows) (map told more.numbered) (IsPermutation-append_comm rows (new ∷ [])) more.tell;
+        }

@@ -7,7 +7,6 @@ use Rattle.std.specs.List.Sorted.{IsPermutation, IsSorted}
 use Rattle.std.specs.Ordering.{int_cmp, is_lt, ordering_then}
 use Rattle.std.proofs.lemmas.Bool.{cases_Bool, eqb-true, or_from}
 use Rattle.std.proofs.lemmas.List.{get_or-map, length-map}
-use Rattle.std.proofs.lemmas.List.Sorted.{IsPermutation-trans, IsPermutation-map}
 use Rattle.sqlite.specs.Edit.{next_rowid}
 use Rattle.sqlite.specs.Held.{Held, state}
 use Rattle.sqlite.specs.Order.{Row}
@@ -16,7 +15,6 @@ use Rattle.sqlite.specs.Tree.{rowid}
 use Rattle.sqlite.specs.declared.types.Value.TheVariants.{Int}
 use Rattle.sqlite_rules.specs.Lists.{Has}
 use Rattle.sqlite_rules.proofs.ListLemmas.{has_filtered}
-use Rattle.sqlite_trees.proofs.ListLemmas.{map-map, filter-map, IsPermutation-filter}
 use Rattle.sqlite_trees.specs.declared.store.Store as store
 use Rattle.desk_core.specs.DeskRows.{Desk, PermitRow}
 use Rattle.office_tables.specs.Calls.{Makes}
@@ -34,7 +32,7 @@ use Rattle.desk_store.specs.Permits.{by_unit, is_permit, without_permit, with_pe
 use Rattle.desk_store.specs.Rows.{permit_cells}
 use Rattle.desk_store.specs.Shows.{HasNumbered, ShowsDesk, ShowsRoom, IsLegible}
 use Rattle.desk_store.proofs.Frames.{with_permits}
-use Rattle.desk_store.proofs.OwnNumbers.{one_more}
+use Rattle.desk_store.proofs.OwnNumbers.{one_more, told_permuted}
 use Rattle.desk_store.proofs.PermitRows.{by_ticket, permit_of, told_of}
 
 -- ---- what is told
@@ -52,13 +50,6 @@ module _ (t : ℕ) (there : List Row) (ps : List PermitRow) (at : HasNumbered pe
   abbrev of_ticket : PermitRow → Bool
   of_ticket p = nat_eq t p.ticket
 
-  told_all : (ys : List (ℤ × PermitRow)) → IsPermutation theirs ys → IsPermutation (map permit_of (filter of_ticket ps)) (map told_of ys)
-  told_all ys same =
-      IsPermutation-trans (map permit_of (filter of_ticket ps)) (map told_of theirs) (map told_of ys)
-      (subst (IsPermutation (map permit_of (filter of_ticket ps))) (ap (map permit_of) (filter-map of_ticket (λ x. x.1) at.numbered) ∙ map-map permit_of (λ (x : ℤ × PermitRow). x.1) theirs)
-      (IsPermutation-map permit_of (filter of_ticket ps) (filter of_ticket (map (λ x. x.1) at.numbered)) (IsPermutation-filter of_ticket ps (map (λ x. x.1) at.numbered) at.tell)))
-      (IsPermutation-map told_of theirs ys same)
-
   told_sorted : (ys : List (ℤ × PermitRow)) → IsPermutation theirs ys → IsSorted by_ticket ys → IsSorted by_unit (map told_of ys)
   told_sorted ys same sorted = λ k d low high.
       let own = λ (x : ℤ × PermitRow) (h : Has ys x). sym (eqb-true t x.1.ticket (has_filtered (λ (x : ℤ × PermitRow). nat_eq t x.1.ticket) at.numbered x (had theirs ys same x h)).1) in
@@ -70,7 +61,7 @@ module _ (t : ℕ) (there : List Row) (ps : List PermitRow) (at : HasNumbered pe
       ap₂ (λ a b. is_lt (by_unit a b)) (get_or-map told_of ys (k + 1) e d next) (get_or-map told_of ys k e d here) ∙ less
 
   pub told_ordered : (ys : List (ℤ × PermitRow)) → IsOrdered by_ticket theirs ys → IsOrdered by_unit (map permit_of (filter of_ticket ps)) (map told_of ys)
-  told_ordered ys ordered = (told_all ys ordered.0, told_sorted ys ordered.0 ordered.1)
+  told_ordered ys ordered = (told_permuted permit_cells permit_of there ps at of_ticket ys ordered.0, told_sorted ys ordered.0 ordered.1)
 
 -- ---- the ticket has no permit any more
 

@@ -1,5 +1,6 @@
 -- What runs bring to the desk.
-use Rattle.std.specs.Prelude.{◌≡◌, ℕ, suc, ℤ, cond, nat_eq, nat_lt, List, [], ◌∷◌, ◌++◌, length, map, filter, find, Option, Some, None}
+use Rattle.std.specs.Prelude.{◌≡◌, ◌<◌, ◌^◌, ℕ, suc, ℤ, cond, nat_eq, nat_lt, List, [], ◌∷◌, ◌++◌, length, map, filter, find, Option, Some, None}
+use Rattle.std.specs.List.{IsDistinct}
 use Rattle.isad_core.specs.declared.values.BoxKey.{BoxKey}
 use Rattle.desk_core.specs.declared.run.Candidate.{Candidate}
 use Rattle.isad_core.specs.Limits.{most_runs}
@@ -19,12 +20,20 @@ with_run None day taken d = d
 with_run (Some n) day taken d =
     record d { runs = d.runs ++ record { id = n; day = day } ∷ []; run_lines = d.run_lines ++ map (line_of n) taken }
 
+-- the numbers of a line are such as the tables keep
+abbrev pub IsNumbered : FirstOrder → Type 0
+IsNumbered taken = (taken.container < 2 ^ 63) × (taken.order < 2 ^ 63) × (taken.ticket < 2 ^ 63)
+
 abbrev pub run_with : ℕ → Desk → Option RunRow
 run_with n d = find (λ (r : RunRow). nat_eq n r.id) d.runs
 
 -- the lines of a run
 abbrev pub lines_of : ℕ → Desk → List RunLineRow
 lines_of n d = filter (λ l. nat_eq n l.run) d.run_lines
+
+-- a run takes a container once, and no line has the number of the next run yet
+abbrev pub MayRun : List FirstOrder → Desk → Type 0
+MayRun taken d = (lines_of (suc (length d.runs)) d ≡ []) × IsDistinct nat_eq (map (λ (t : FirstOrder). t.container) taken)
 
 -- a line with what is written on its container
 pub record IsCandidate (boxes : List (ℕ × BoxKey)) (l : RunLineRow) (c : Candidate) : Type 0 where

@@ -22,5 +22,5 @@ pub use orders::{OrderState, PlacedOrder, WaitingOrder, order};
 pub use placing::{append_order, end_order};
 pub use queues::ContainerQueue;
 pub use readers::{add_reader, renew};
-pub use runs::Brought;
+pub use runs::{Brought, record_run};
 pub use seating::{TakenSeat, seats, set_seat};

@@ -1,0 +1,159 @@
+-- A run and its lines, on the whole desk: first the next number is read, then the run is put, and then a line for each container.
+use Rattle.std.proofs.Common.{◌≡◌, ℕ, zero, suc, ◌+◌, ◌<◌, ℤ, pos, Bool, true, false, ◌&&◌, cond, nat_eq, List, [], ◌∷◌, ◌++◌, map, filter, take, get_or, length, Option, Some, None, Result, Ok, Err, OnOk, OnErr, inl, inr, refl, sym, ap, subst, ◌∙◌, arith}
+use Rattle.std.specs.Prelude.{nat_lt}
+use Rattle.std.specs.List.{IsDistinct, list_any}
+use Rattle.std.proofs.lemmas.Bool.{cases_Bool, ltb-true, or_from}
+use Rattle.std.proofs.lemmas.List.{length-append, append_assoc, map_more}
+use Rattle.std.proofs.lemmas.List.Folds.{list_any-append}
+use Rattle.sqlite.specs.Effect.{Database}
+use Rattle.sqlite.specs.Held.{Held, state}
+use Rattle.sqlite.specs.Order.{Row}
+use Rattle.sqlite.specs.State.{State, HasCleanDisk}
+use Rattle.sqlite.specs.Tree.{put_row}
+use Rattle.sqlite_trees.proofs.ListLemmas.{all-get_or, all_from_map}
+use Rattle.sqlite_trees.specs.declared.store.Store as store
+use Rattle.tree_core.proofs.Lists.{eqb_comm}
+use Rattle.desk_core.specs.Checks.{most_runs}
+use Rattle.desk_core.specs.DeskRows.{Desk, RunRow, RunLineRow}
+use Rattle.office_tables.specs.Calls.{Makes}
+use Rattle.office_tables.specs.Faults.{IsUnlimited, HasCause}
+use Rattle.office_tables.specs.Step.{Goes, IsCut, Looks, OnlyTouches, PutsRow}
+use Rattle.office_tables.specs.declared.fault.StoreFault.{StoreFault}
+use Rattle.office_tables.proofs.Calls.{early, goes_then, cut_then}
+use Rattle.office_tables.proofs.Causes.{still_unlimited}
+use Rattle.office_tables.proofs.LaterCauses.{next_cause}
+use Rattle.office_tables.proofs.Puts.{put_rows}
+use Rattle.office_tables.proofs.Touching.{touched_again, touched_wider}
+use Rattle.desk_store.specs.Rows.{run_cells, run_line_cells}
+use Rattle.desk_store.specs.Runs.{next_run, line_of, with_run, MayRun}
+use Rattle.desk_store.specs.Shows.{HasNumbered, ShowsDesk, ShowsRoom, IsLegible}
+use Rattle.desk_store.specs.declared.holdings.FirstOrder.{FirstOrder}
+use Rattle.desk_store.proofs.Counted.{counted_more, counted_free, put_end}
+use Rattle.desk_store.proofs.Frames.{with_runs}
+
+-- ---- the lines
+
+abbrev pub is_line : ℕ → ℕ → RunLineRow → Bool
+is_line run c l = nat_eq run l.run && nat_eq c l.container
+
+apart_by : (b c : Bool) → c ≡ false → (b && c) ≡ false
+apart_by true c h = h
+apart_by false c h = refl
+
+-- a run that has no line has none for a container
+none_of_run : (run c : ℕ) (ls : List RunLineRow) → filter (λ (l : RunLineRow). nat_eq run l.run) ls ≡ [] → list_any (is_line run c) ls ≡ false
+none_of_run run c [] none = refl
+none_of_run run c (l ∷ ls) none =
+    let rest = filter (λ (l : RunLineRow). nat_eq run l.run) ls in
+    elim (cases_Bool (nat_eq run l.run)) [
+      | inl same ↦ absurd (let e : (l ∷ rest) ≡ [] = sym (ap (λ b. cond b (l ∷ rest) rest) same) ∙ none in cc)
+      | inr other ↦ rw other (none_of_run run c ls (sym (ap (λ b. cond b (l ∷ rest) rest) other) ∙ none))
+    ]
+
+-- the containers before this one are others
+not_yet : (run : ℕ) (xs : List FirstOrder) (i : ℕ) (d : FirstOrder) → IsDistinct nat_eq (map (λ (t : FirstOrder). t.container) xs) → i < length xs
+    → list_any (is_line run (get_or xs i d).container) (map (line_of run) (take i xs)) ≡ false
+unfolding IsDistinct
+not_yet run [] i d apart low = absurd (omega (arith, low))
+not_yet run (x ∷ xs) zero d apart low = refl
+not_yet run (x ∷ xs) (suc i) d apart low =
+    let other : nat_eq (get_or xs i d).container x.container ≡ false = eqb_comm (get_or xs i d).container x.container
+    ∙ all-get_or (λ (t : FirstOrder). nat_eq x.container t.container ≡ false) xs i d (all_from_map (λ c. nat_eq x.container c ≡ false) (λ (t : FirstOrder). t.container) xs apart.0) (omega (arith, low)) in
+    or_from _ _ (apart_by (nat_eq run run) _ other) (not_yet run xs i d apart.1 (omega (arith, low)))
+
+pub free_line : (run : ℕ) (ls : List RunLineRow) (xs : List FirstOrder) (i : ℕ) (d : FirstOrder) → filter (λ (l : RunLineRow). nat_eq run l.run) ls ≡ [] → IsDistinct nat_eq (map (λ (t : FirstOrder). t.container) xs) → i < length xs
+    → list_any (is_line run (get_or xs i d).container) (ls ++ map (line_of run) (take i xs)) ≡ false
+free_line run ls xs i d none apart low =
+    list_any-append (is_line run (get_or xs i d).container) ls (map (line_of run) (take i xs)) ∙ or_from _ _ (none_of_run run (get_or xs i d).container ls none) (not_yet run xs i d apart low)
+
+pub line_more : (run : ℕ) (ls : List RunLineRow) (xs : List FirstOrder) (i : ℕ) (d : FirstOrder) → i < length xs
+    → ((ls ++ map (line_of run) (take i xs)) ++ line_of run (get_or xs i d) ∷ []) ≡ (ls ++ map (line_of run) (take (i + 1) xs))
+line_more run ls xs i d low = append_assoc ls (map (line_of run) (take i xs)) (line_of run (get_or xs i d) ∷ []) ∙ ap (λ l. ls ++ l) (sym (map_more (line_of run) xs i d low))
+
+-- ---- a run with its lines
+
+-- where there is a next run, it is one more than there were
+next_is : (d : Desk) (n : ℕ) → Some n ≡ next_run d → (n ≡ suc (length d.runs)) × (length d.runs < most_runs)
+next_is d n h = elim (cases_Bool (nat_lt (length d.runs) most_runs)) [
+  | inl left ↦ (let e : Some n ≡ Some (suc (length d.runs)) = h ∙ ap (λ b. cond b (Some (suc (length d.runs))) None) left in let k : n ≡ suc (length d.runs) = cc in k, ltb-true (length d.runs) most_runs left)
+  | inr none ↦ absurd (let e : Some n ≡ None = h ∙ ap (λ b. cond b (Some (suc (length d.runs))) None) none in cc)
+]
+
+again : {R : Type 0} (cells : ℤ × R → Row) (there now : List Row) (rows : List R) → now ≡ there → HasNumbered cells there rows → HasNumbered cells now rows
+again cells there now rows same has = subst (λ l. HasNumbered cells l rows) (sym same) has
+
+module _ (a b c : State) (run : ℕ) (on : ℤ) (taken : List FirstOrder) where
+  abbrev row : RunRow
+  row = record { id = run; day = on }
+
+  pub both_touched : OnlyTouches (7 ∷ []) a.now b.now → OnlyTouches (8 ∷ []) b.now c.now → OnlyTouches (7 ∷ 8 ∷ []) a.now c.now
+  both_touched first then =
+      touched_again (7 ∷ 8 ∷ []) a.now b.now c.now (touched_wider (7 ∷ []) (7 ∷ 8 ∷ []) a.now b.now refl first) (touched_wider (8 ∷ []) (7 ∷ 8 ∷ []) b.now c.now refl then)
+
+  -- the lines are as they were
+  pub lines_still : OnlyTouches (7 ∷ []) a.now b.now → (d : Desk) → ShowsDesk a.now.trees d → HasNumbered run_line_cells (b.now.trees 8) d.run_lines
+  lines_still first d shown = again run_line_cells (a.now.trees 8) (b.now.trees 8) d.run_lines (first 8 refl refl) shown.run_lines
+
+  pub run_free : (d : Desk) → ShowsDesk a.now.trees d → Some run ≡ next_run d → list_any (λ (r : RunRow). nat_eq run r.id) d.runs ≡ false
+  run_free d shown is = counted_free (λ (r : RunRow). r.id) 1 d.runs run shown.run_numbers ((next_is d run is).0 ∙ omega arith)
+
+  -- no line has the run's number yet
+  pub no_line : (d : Desk) → Some run ≡ next_run d → MayRun taken d → filter (λ (l : RunLineRow). nat_eq run l.run) d.run_lines ≡ []
+  no_line d is may = subst (λ n. filter (λ (l : RunLineRow). nat_eq n l.run) d.run_lines ≡ []) (sym (next_is d run is).0) may.0
+
+  pub run_shown : PutsRow 7 (run_cells row) a.now b.now → OnlyTouches (8 ∷ []) b.now c.now → (d : Desk) → ShowsDesk a.now.trees d → Some run ≡ next_run d
+      → HasNumbered run_line_cells (c.now.trees 8) (d.run_lines ++ map (line_of run) taken) → ShowsDesk c.now.trees (with_run (Some run) on taken d)
+  run_shown put lines d shown is has =
+      let n = next_is d run is in
+      let few = n.1 in
+      let next : run ≡ 1 + length d.runs = n.0 ∙ omega arith in
+      with_runs a.now c.now d shown (d.runs ++ row ∷ []) (d.run_lines ++ map (line_of run) taken) (both_touched put.only lines)
+      (lines 7 refl refl ∙ put.rows ∙ ap (put_row (run_cells row)) shown.runs ∙ put_rows run_cells (λ (r : RunRow). pos r.id) (λ _. refl) row d.runs
+      ∙ ap (map run_cells) (put_end (λ (r : RunRow). r.id) 1 d.runs row shown.run_numbers next))
+      (counted_more (λ (r : RunRow). r.id) 1 d.runs row shown.run_numbers next)
+      (let size = length-append d.runs (row ∷ []) in omega (arith, size, few)) has
+
+-- before the last step the disk was clean too
+pub clean_before : {X : Type 0} (b c : State) (r : Result X StoreFault) → OnOk r (Goes b c) → OnErr r (IsCut b c) → HasCleanDisk c → HasCleanDisk b
+clean_before b c (Ok x) goes cut clean = early b c _ goes.on.crash clean
+clean_before b c (Err e) goes cut clean = early b c _ cut.crash clean
+
+-- ---- the call
+
+module _ {S : Type 0} (g : store.Ghosts S) (before mid after : Held S) (on : ℤ) (taken : List FirstOrder) (run : ℕ) where
+  abbrev a : State
+  a = state g before
+
+  abbrev b : State
+  b = state g mid
+
+  abbrev c : State
+  c = state g after
+
+  module _ (looked : Looks a b) (is : HasCleanDisk b → (d : Desk) → ShowsDesk a.now.trees d → Some run ≡ next_run d) where
+    still_shown : HasCleanDisk b → (d : Desk) → ShowsDesk a.now.trees d → ShowsDesk b.now.trees d
+    still_shown clean d shown = subst (λ (db : Database). ShowsDesk db.trees d) (sym (looked.same clean)) shown
+
+    pub recorded : Goes b c → (HasCleanDisk c → (d : Desk) → ShowsDesk b.now.trees d → Some run ≡ next_run d → ShowsDesk c.now.trees (with_run (Some run) on taken d)) → (HasCleanDisk c → OnlyTouches (7 ∷ 8 ∷ []) b.now c.now)
+        → Makes g ShowsRoom IsLegible before after (Ok (Some run)) (MayRun taken) (λ d. with_run (next_run d) on taken d) (7 ∷ 8 ∷ [])
+    recorded goes shows only =
+        let back = early b c _ goes.on.crash in
+        record {
+          shows_made = λ clean beside d shown may.
+              let at = is (back clean) d shown in
+              subst (λ o. ShowsDesk c.now.trees (with_run o on taken d)) at (shows clean d (still_shown (back clean) d shown) at);
+          only = λ clean. subst (λ (db : Database). OnlyTouches (7 ∷ 8 ∷ []) db c.now) (looked.same (back clean)) (only clean);
+          goes = goes_then a b c looked.goes goes;
+          cut = tt;
+          faults = λ beside d shown may kept clean free. tt;
+        }
+
+    pub not_recorded : (e : StoreFault) → IsCut b c → ((d : Desk) → ShowsDesk b.now.trees d → Some run ≡ next_run d → MayRun taken d → HasCleanDisk c → IsUnlimited b → HasCause b c e)
+        → Makes {X = Option ℕ} g ShowsRoom IsLegible before after (Err e) (MayRun taken) (λ d. with_run (next_run d) on taken d) (7 ∷ 8 ∷ [])
+    not_recorded e cut why = record {
+      shows_made = λ clean beside d shown may. tt;
+      only = λ clean. tt;
+      goes = tt;
+      cut = cut_then a b c looked.goes.on cut;
+      faults = λ beside d shown may kept clean free. next_cause a b c looked.goes.on cut clean e (λ cleaner. why d (still_shown cleaner d shown) (is cleaner d shown) may clean (still_unlimited a b looked.goes.on free));
+    }

@@ -1,0 +1,51 @@
+use Rattle.std.proofs.Common.{Result, IfErr, sym, subst}
+use Rattle.sqlite.specs.Held.{state}
+use Rattle.office_tables.specs.Faults.{HasCause}
+use Rattle.office_tables.specs.declared.fault.StoreFault.{StoreFault}
+use Rattle.office_tables.proofs.Calls.{on_ok_then, on_ok_both, on_err_then, goes_then, cut_then}
+use Rattle.office_tables.proofs.Causes.{still_unlimited}
+use Rattle.office_tables.proofs.LaterCauses.{last_cause}
+use Rattle.desk_store.proofs.ReaderCalls.{handed_on}
+use Rattle.desk_store.proofs.RunCalls.{lines_still, run_free, no_line, run_shown, clean_before}
+use Rattle.desk_store.proofs.runs.insert_all.Goals as goal
+
+pub returns-in_err-insert_run-clause-faults : goal.returns-in_err-insert_run-clause-faults
+returns-in_err-insert_run-clause-faults g c d shown is may clean free =
+    let a = state g.S.Store c.args.conn.now in
+    let b = state g.S.Store c.insert_run.new.conn in
+    let e = c.from_residual.ensures in
+    let whole = c.in_err-insert_run.ensures.faults d.runs shown.runs (run_free a b b c.args.run c.args.on c.args.taken.now d shown is) clean free in
+    subst (λ (r : Result Unit StoreFault). IfErr r (HasCause a b)) (sym (handed_on c.from_residual.result c.in_err-insert_run.field-0.0 e.0 e.1)) whole
+
+pub returns-clause-goes : goal.returns-clause-goes
+returns-clause-goes g c =
+    let a = state g.S.Store c.args.conn.now in
+    let b = state g.S.Store c.insert_run.new.conn in
+    let d = state g.S.Store c.insert_lines.new.conn in
+    on_ok_then c.insert_lines.result _ _ (goes_then a b d c.in_ok-insert_run.ensures.leaves.goes) c.insert_lines.ensures.goes
+
+pub returns-clause-cut : goal.returns-clause-cut
+returns-clause-cut g c =
+    let a = state g.S.Store c.args.conn.now in
+    let b = state g.S.Store c.insert_run.new.conn in
+    let d = state g.S.Store c.insert_lines.new.conn in
+    on_err_then c.insert_lines.result _ _ (cut_then a b d c.in_ok-insert_run.ensures.leaves.goes.on) c.insert_lines.ensures.cut
+
+pub returns-clause-shows : goal.returns-clause-shows
+returns-clause-shows g c clean desk shown is =
+    let a = state g.S.Store c.args.conn.now in
+    let b = state g.S.Store c.insert_run.new.conn in
+    let d = state g.S.Store c.insert_lines.new.conn in
+    let put = c.in_ok-insert_run.ensures.puts (clean_before b d c.insert_lines.result c.insert_lines.ensures.goes c.insert_lines.ensures.cut clean) in
+    on_ok_both c.insert_lines.result _ _ _ (λ only has. run_shown a b d c.args.run c.args.on c.args.taken.now put only desk shown is has) (c.insert_lines.ensures.only clean)
+    (c.insert_lines.ensures.rows clean desk.run_lines (lines_still a b d c.args.run c.args.on c.args.taken.now put.only desk shown))
+
+pub returns-clause-faults : goal.returns-clause-faults
+returns-clause-faults g c desk shown is may clean free =
+    let a = state g.S.Store c.args.conn.now in
+    let b = state g.S.Store c.insert_run.new.conn in
+    let d = state g.S.Store c.insert_lines.new.conn in
+    let goes = c.in_ok-insert_run.ensures.leaves.goes in
+    last_cause a b d goes.on c.insert_lines.result c.insert_lines.ensures.cut clean (λ cleaner.
+    c.insert_lines.ensures.faults desk.run_lines (lines_still a b d c.args.run c.args.on c.args.taken.now (c.in_ok-insert_run.ensures.puts cleaner).only desk shown)
+    (no_line a b d c.args.run c.args.on c.args.taken.now desk is may) may.1 clean (still_unlimited a b goes.on free))

@@ -1,0 +1,51 @@
+use Rattle.std.proofs.Common.{◌<◌, ◌∷◌, [], length, Result, IfErr, arith, sym, subst}
+use Rattle.sqlite.specs.Held.{state}
+use Rattle.office_tables.specs.Faults.{HasCause}
+use Rattle.office_tables.specs.declared.fault.StoreFault.{StoreFault}
+use Rattle.office_tables.proofs.Calls.{early, goes_then}
+use Rattle.office_tables.proofs.Causes.{cause_then, still_unlimited}
+use Rattle.office_tables.proofs.Touching.{touched_again}
+use Rattle.desk_store.specs.Rows.{run_line_cells}
+use Rattle.desk_store.specs.Shows.{HasNumbered}
+use Rattle.desk_store.proofs.ReaderCalls.{handed_on}
+use Rattle.desk_store.proofs.RunCalls.{free_line, line_more}
+use Rattle.desk_store.proofs.runs.insert_lines.Goals as goal
+
+pub loop-line-preserved : goal.loop-line-preserved
+loop-line-preserved g c =
+    let a = state g.S.Store c.args.conn.now in
+    let b = state g.S.Store c.loop-line.conn in
+    let d = state g.S.Store c.insert_line.new.conn in
+    let invariant = c.loop-line.invariant in
+    let last = c.in_ok-insert_line.ensures.leaves.goes in
+    let i = c.loop-line.line-index in
+    let low : i < length c.args.taken.now = omega (arith, c.loop-line-test.true) in (
+      invariant.0,
+      (
+        goes_then a b d invariant.1.0 last,
+        (
+          λ clean. touched_again (8 ∷ []) a.now b.now d.now (invariant.1.1.0 (early b d _ last.on.crash clean)) (c.in_ok-insert_line.ensures.only clean),
+          λ clean ls at.
+              let before = invariant.1.1.1 (early b d _ last.on.crash clean) ls at in
+              let one = c.in_ok-insert_line.ensures.rows clean _ before in
+              subst (HasNumbered run_line_cells (d.now.trees 8)) (line_more c.args.run ls c.args.taken.now i _ low) one,
+        ),
+      ),
+    )
+
+pub returns-in_err-insert_line-clause-faults : goal.returns-in_err-insert_line-clause-faults
+returns-in_err-insert_line-clause-faults g c ls at none apart clean free =
+    let a = state g.S.Store c.args.conn.now in
+    let b = state g.S.Store c.loop-line.conn in
+    let d = state g.S.Store c.insert_line.new.conn in
+    let invariant = c.loop-line.invariant in
+    let so_far = invariant.1.0 in
+    let i = c.loop-line.line-index in
+    let low : i < length c.args.taken.now = omega (arith, c.loop-line-test.true) in
+    let before = early b d _ c.in_err-insert_line.ensures.leaves.crash clean in
+    let told = invariant.1.1.1 before ls at in
+    let free_one = free_line c.args.run ls c.args.taken.now i _ none apart low in
+    let why = c.in_err-insert_line.ensures.faults _ told free_one clean (still_unlimited a b so_far.on free) in
+    let whole = cause_then a b d so_far.on before _ why in
+    let e = c.from_residual.ensures in
+    subst (λ (r : Result Unit StoreFault). IfErr r (HasCause a d)) (sym (handed_on c.from_residual.result c.in_err-insert_line.field-0.0 e.0 e.1)) whole
