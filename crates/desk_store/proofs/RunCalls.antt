@@ -13,7 +13,7 @@ use Rattle.sqlite.specs.Tree.{put_row}
 use Rattle.sqlite_trees.proofs.ListLemmas.{all-get_or, all_from_map}
 use Rattle.sqlite_trees.specs.declared.store.Store as store
 use Rattle.tree_core.proofs.Lists.{eqb_comm}
-use Rattle.desk_core.specs.Checks.{most_runs}
+use Rattle.isad_core.specs.Limits.{most_runs}
 use Rattle.desk_core.specs.DeskRows.{Desk, RunRow, RunLineRow}
 use Rattle.office_tables.specs.Calls.{Makes}
 use Rattle.office_tables.specs.Faults.{IsUnlimited, HasCause}

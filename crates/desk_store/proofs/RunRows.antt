@@ -27,7 +27,7 @@ use Rattle.sqlite_schema.specs.Rules.{agree, guards}
 use Rattle.sqlite_tied.specs.Compute.{everything}
 use Rattle.sqlite_value.specs.Keys.{ascending, first_key, plain}
 use Rattle.tree_core.specs.Versions.{Version, Links, Spans}
-use Rattle.desk_core.specs.Checks.{most_runs}
+use Rattle.isad_core.specs.Limits.{most_runs}
 use Rattle.desk_core.specs.DeskRows.{RunRow, RunLineRow}
 use Rattle.office_tables.specs.Asking.{Finds, FindsFirst, Misses}
 use Rattle.office_tables.specs.Changing.{Ran}
