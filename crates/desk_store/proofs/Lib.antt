@@ -12,3 +12,4 @@ pub mod SeatCalls
 pub mod OrderWrites
 pub mod PutAgain
 pub mod HoldingWrites
+pub mod LoanRows

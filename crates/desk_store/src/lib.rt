@@ -5,6 +5,7 @@ mod blank;
 mod cards;
 mod granting;
 mod holdings;
+mod lending;
 mod making;
 mod orders;
 mod placing;

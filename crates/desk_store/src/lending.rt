@@ -1,0 +1,82 @@
+//! Containers that are with readers.
+
+ghost use Rattle.std.specs.Prelude.{◌≡◌, ◌<◌, ◌^◌, nat_eq, List, map, filter, IfOk};
+ghost use Rattle.sqlite.specs.Held.{state};
+ghost use Rattle.sqlite.specs.State.{HasCleanDisk};
+ghost use Rattle.desk_core.specs.DeskRows.{HoldingRow, OrderRow};
+ghost use Rattle.office_tables.specs.Asking.{Reads};
+ghost use Rattle.office_tables.specs.Faults.{Excused};
+ghost use Rattle.office_tables.specs.Schema as tables;
+ghost use Rattle.office_tables.specs.Step.{InOffice, Holds};
+ghost use Rattle.desk_store.specs.Rows.{holding_cells, order_cells};
+ghost use Rattle.desk_store.specs.Shows.{AreByNumber, AreCounted};
+
+use office_tables::answer::FromRow;
+use office_tables::value::number;
+use office_tables::{StoreFault, find};
+use sqlite::{Alter, Connection, Row};
+use std::alloc::Global;
+
+/// What the table tells of a container that is not on the shelf.
+#[derive(Debug, Clone, Copy, PartialEq, Eq, Drop)]
+pub(crate) struct HoldingLine {
+    pub container: u64,
+    /// The order that it is out with.
+    pub held_by: Option<u64>,
+}
+
+impl FromRow for HoldingLine {
+    ghost use Rattle.std.specs.Prelude.{pos, option_map, [], ◌∷◌, ⊤};
+    ghost use Rattle.sqlite.specs.Values.{or_null};
+    ghost use Rattle.sqlite.specs.declared.types.Value.TheVariants.{Int};
+
+    ghost cells = { λ h. Int (pos h.container) ∷ or_null Int (option_map pos h.held_by) ∷ [] };
+
+    ghost is_legible = { λ _. ⊤ };
+
+    fn read(row: &Row) -> Result<HoldingLine, StoreFault> {
+        Ok(HoldingLine {
+            container: row.get(0)?,
+            held_by: row.get(1)?,
+        })
+    }
+}
+
+/// The containers that are not on the shelf, by number. The table is read whole: it has a row for
+/// each of them.
+pub(crate) fn holding_lines<S: Alter>(
+    alloc: Global,
+    conn: &mut Connection<S>,
+) -> Result<Vec<HoldingLine>, StoreFault>
+    requires inside { InOffice (state S.Store conn.old) }
+    ensures reads { Reads (state S.Store conn.old) (state S.Store conn.new) result }
+    ensures rows { HasCleanDisk (state S.Store conn.new) → (xs : List HoldingRow) → Holds tables.holding holding_cells (state S.Store conn.old) xs → AreByNumber (λ h. h.container) xs → IfOk result (λ found. found.items ≡ map (λ (h : HoldingRow). record { container = h.container; held_by = h.held_by }) xs) }
+    ensures faults { (xs : List HoldingRow) → Holds tables.holding holding_cells (state S.Store conn.old) xs → Excused (state S.Store conn.old) (state S.Store conn.new) result }
+{
+    find(
+        alloc,
+        conn,
+        "SELECT container, held_by FROM holding ORDER BY container",
+        &[],
+    )
+}
+
+/// The ticket of an order: one, or none. An order is found by its number.
+pub(crate) fn tickets_of<S: Alter>(
+    alloc: Global,
+    conn: &mut Connection<S>,
+    order: u64,
+) -> Result<Vec<u64>, StoreFault>
+    requires inside { InOffice (state S.Store conn.old) }
+    requires small { order < 2 ^ 63 }
+    ensures reads { Reads (state S.Store conn.old) (state S.Store conn.new) result }
+    ensures rows { HasCleanDisk (state S.Store conn.new) → (xs : List OrderRow) → Holds tables.orders order_cells (state S.Store conn.old) xs → AreCounted (λ o. o.id) xs → IfOk result (λ found. found.items ≡ map (λ (o : OrderRow). o.ticket) (filter (λ o. nat_eq order o.id) xs)) }
+    ensures faults { (xs : List OrderRow) → Holds tables.orders order_cells (state S.Store conn.old) xs → Excused (state S.Store conn.old) (state S.Store conn.new) result }
+{
+    find(
+        alloc,
+        conn,
+        "SELECT ticket FROM orders WHERE id = ?1 ORDER BY id",
+        &[number(order)],
+    )
+}
