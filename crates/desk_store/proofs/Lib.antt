@@ -8,6 +8,7 @@ pub mod CountOf
 pub mod CardRows
 pub mod ReaderRows
 pub mod ReaderCalls
+pub mod CardCalls
 pub mod SeatCalls
 pub mod OrderWrites
 pub mod PutAgain

@@ -1,6 +1,6 @@
 //! What the desk knows of a ticket.
 
-ghost use Rattle.std.specs.Prelude.{◌≡◌, ◌<◌, ◌≤◌, ◌^◌, ◌&&◌, nat_eq, List as Rows, length, map, filter, IfOk};
+ghost use Rattle.std.specs.Prelude.{◌≡◌, ◌<◌, ◌≤◌, ◌^◌, ◌&&◌, nat_eq, List as Rows, length, map, filter, option_map, slice_get, IfOk, IfSome, ⊤};
 ghost use Rattle.std.specs.List.{count_by};
 ghost use Rattle.std.specs.Ordering.{int_eq};
 ghost use Rattle.sqlite.specs.Held.{state};
@@ -8,20 +8,23 @@ ghost use Rattle.sqlite.specs.State.{HasCleanDisk};
 ghost use Rattle.desk_core.specs.Checks.{most_orders};
 ghost use Rattle.desk_core.specs.DeskRows.{OrderRow};
 ghost use Rattle.office_tables.specs.Asking.{Reads};
+ghost use Rattle.office_tables.specs.Calls.{Tells};
 ghost use Rattle.office_tables.specs.Faults.{Excused};
 ghost use Rattle.office_tables.specs.Schema as tables;
 ghost use Rattle.office_tables.specs.Step.{InOffice, Holds};
-ghost use Rattle.desk_store.specs.Readers.{is_live};
+ghost use Rattle.desk_store.specs.Readers.{is_live, live_orders, placed_on, card_of};
 ghost use Rattle.desk_store.specs.Rows.{order_cells};
-ghost use Rattle.desk_store.specs.Shows.{AreCounted};
+ghost use Rattle.desk_store.specs.Shows.{AreCounted, ShowsRoom, IsLegible};
 
+use crate::readers::{MOST_TICKETS, NamedReader, readers_with};
+use crate::seating::{TakenSeat, seats_with};
 use desk_core::Reader;
 use isad_core::{Day, List, Text};
 use office_tables::answer::FromRow;
 use office_tables::value::{day, number};
 use office_tables::{StoreFault, find, find_number};
 use sqlite::{Alter, Connection, Row};
-use std::alloc::Global;
+use std::alloc::{AllocError, Global};
 
 /// An order that waits or is out.
 #[derive(Debug, Clone, Copy, PartialEq, Eq)]
@@ -120,4 +123,101 @@ pub(crate) fn placed_on<S: Alter>(
         "SELECT count(*) FROM orders WHERE ticket = ?1 AND day = ?2",
         &[number(ticket), day(on)],
     )
+}
+
+/// What the orders tell of a ticket on a day.
+#[derive(Debug, Drop)]
+struct TicketOrders {
+    live: List<LiveOrder>,
+    placed: u32,
+    orders: u64,
+}
+
+/// The orders that these rows tell.
+fn live_in(alloc: Global, lines: &[OrderLine]) -> Result<List<LiveOrder>, AllocError>
+    ensures { IfOk result (λ live. live ≡ map (λ (o : OrderLine).
+        record { order = o.order; container = o.container; is_out = nat_eq o.state 2 }) lines.now) }
+{
+    let live = lines
+        .iter()
+        .map(|line| LiveOrder {
+            order: line.order,
+            container: line.container,
+            is_out: line.state == 2,
+        })
+        .collect(alloc)?;
+    Ok(List(live))
+}
+
+/// How many of the orders are out.
+fn count_out(live: &[LiveOrder]) -> u32
+    ensures { length live.now < 2 ^ 32 → result ≡ count_by (λ o. o.is_out) live.now }
+{
+    let out = live.iter().filter(|order| order.is_out).count();
+    u32::try_from(out).unwrap_or(u32::MAX)
+}
+
+/// The seat that the first of these rows tells.
+fn seat_in(seats: &[TakenSeat]) -> Option<u32>
+    ensures { result ≡ option_map (λ s. s.seat) (slice_get seats.now 0) }
+{
+    seats.first().map(|taken| taken.seat)
+}
+
+/// What the orders tell of a ticket: those that wait or are out, and how many it placed on the day.
+fn orders_of<S: Alter>(
+    alloc: Global,
+    conn: &mut Connection<S>,
+    ticket: u64,
+    today: Day,
+) -> Result<TicketOrders, StoreFault>
+    requires inside { InOffice (state S.Store conn.old) }
+    requires small { ticket < 2 ^ 63 }
+    ensures tells { Tells S.Store ShowsRoom IsLegible conn.old conn.new result (λ _. ⊤) (λ _ d told. told
+        ≡ record { live = live_orders ticket d; placed = placed_on ticket today d; orders = length d.orders }) }
+{
+    let lines = live_lines(alloc, conn, ticket)?;
+    let live = live_in(alloc, &lines)?;
+    let placed = placed_on(conn, ticket, today)?;
+    let orders = last_order(conn)?;
+    Ok(TicketOrders {
+        live,
+        placed,
+        orders: u64::from(orders),
+    })
+}
+
+/// A reader's card on a day, or none where the ticket was not given.
+pub fn reader<S: Alter>(
+    alloc: Global,
+    conn: &mut Connection<S>,
+    ticket: u64,
+    today: Day,
+) -> Result<Option<ReaderCard>, StoreFault>
+    requires inside { InOffice (state S.Store conn.old) }
+    ensures tells { Tells S.Store ShowsRoom IsLegible conn.old conn.new result (λ _. ⊤)
+        (λ _ d card. card ≡ card_of ticket today d) }
+    ensures small { IfOk result (λ card. IfSome card (λ _. ticket < 2 ^ 63)) }
+{
+    if ticket > u64::from(MOST_TICKETS) {
+        return Ok(None);
+    }
+    let named = readers_with(alloc, conn, ticket)?;
+    let Some(NamedReader { name, until }) = named.into_iter().next() else {
+        return Ok(None);
+    };
+    let seats = seats_with(alloc, conn, ticket)?;
+    let told = orders_of(alloc, conn, ticket, today)?;
+    Ok(Some(ReaderCard {
+        reader: Reader {
+            ticket,
+            until,
+            seat: seat_in(&seats),
+            held: count_out(told.live.as_slice()),
+        },
+        name,
+        live: told.live,
+        placed: told.placed,
+        orders: told.orders,
+    }))
 }

@@ -15,7 +15,7 @@ mod runs;
 mod seating;
 
 pub use blank::is_blank;
-pub use cards::{LiveOrder, ReaderCard};
+pub use cards::{LiveOrder, ReaderCard, reader};
 pub use granting::Permit;
 pub use holdings::{FirstOrder, Loan, set_place};
 pub use making::create_desk;

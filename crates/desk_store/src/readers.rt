@@ -24,7 +24,7 @@ use sqlite::{Alter, Connection, Row};
 use std::alloc::Global;
 
 /// How many tickets there may ever be.
-const MOST_TICKETS: u32 = 1_000_000;
+pub(crate) const MOST_TICKETS: u32 = 1_000_000;
 
 /// What the table tells of a ticket.
 #[derive(Debug, Drop)]

@@ -1,0 +1,143 @@
+-- A reader's card: its parts are read one after another, and nothing is changed between them.
+use Rattle.std.proofs.Common.{◌≡◌, ℕ, ℤ, suc, ◌+◌, ◌<◌, ◌≤◌, ◌^◌, ◌&&◌, true, false, Bool, cond, nat_eq, List, [], ◌∷◌, map, filter, length, find, Some, None, Result, Ok, Err, refl, sym, ap, subst, ◌∙◌, arith}
+use Rattle.std.specs.Prelude.{⊤, nat_lt, option_map, slice_get}
+use Rattle.std.specs.List.{AllByRecursion, count_by}
+use Rattle.std.proofs.lemmas.Bool.Decides.{nat_tests}
+use Rattle.std.proofs.lemmas.List.{length-map}
+use Rattle.std.proofs.lemmas.List.Sums.{length-filter, count_by-le-length}
+use Rattle.sqlite.specs.Effect.{Database}
+use Rattle.sqlite.specs.Held.{Held, state}
+use Rattle.sqlite.specs.State.{State, HasCleanDisk}
+use Rattle.sqlite_trees.specs.declared.store.Store as store
+use Rattle.desk_core.specs.Checks.{most_orders}
+use Rattle.desk_core.specs.DeskRows.{Desk, ReaderRow, SeatRow, OrderRow}
+use Rattle.office_tables.specs.Calls.{Tells}
+use Rattle.office_tables.specs.Faults.{IsUnlimited, HasCause}
+use Rattle.office_tables.specs.Step.{IsCut, Looks}
+use Rattle.office_tables.specs.declared.fault.StoreFault.{StoreFault}
+use Rattle.office_tables.proofs.Calls.{cut_then}
+use Rattle.office_tables.proofs.Causes.{still_unlimited}
+use Rattle.office_tables.proofs.LaterCauses.{next_cause}
+use Rattle.desk_store.specs.Readers.{reader_with, is_live, live_orders, held_with, seat_of, placed_on, card_of}
+use Rattle.desk_store.specs.Shows.{AreCounted, ShowsDesk, ShowsRoom, IsLegible}
+use Rattle.desk_store.specs.declared.cards.LiveOrder.{LiveOrder}
+use Rattle.desk_store.specs.declared.cards.ReaderCard.{ReaderCard}
+use Rattle.desk_store.specs.declared.readers.NamedReader.{NamedReader}
+use Rattle.desk_store.specs.declared.seating.TakenSeat.{TakenSeat}
+use Rattle.desk_store.proofs.Counted.{counted_within}
+use Rattle.desk_store.proofs.ReaderRows.{named}
+use Rattle.desk_store.proofs.SeatRows.{taken}
+
+-- ---- a call that reads in several steps
+
+-- the same desk is still shown
+pub shown_after : (a b : State) → Looks a b → HasCleanDisk b → (d : Desk) → ShowsDesk a.now.trees d → ShowsDesk b.now.trees d
+shown_after a b looked clean d shown = subst (λ (db : Database). ShowsDesk db.trees d) (sym (looked.same clean)) shown
+
+module _ {S Y : Type 0} (g : store.Ghosts S) (before mid after : Held S) (answer : ⊤ → Desk → Y → Type 0) where
+  abbrev a : State
+  a = state g before
+
+  abbrev b : State
+  b = state g mid
+
+  abbrev c : State
+  c = state g after
+
+  -- it ends with the fault of a step
+  pub told_not : Looks a b → (e : StoreFault) → IsCut b c → ((d : Desk) → ShowsDesk b.now.trees d → IsLegible d → HasCleanDisk c → IsUnlimited b → HasCause b c e)
+      → (r : Result Y StoreFault) → r ≡ Err e → Tells g ShowsRoom IsLegible before after r (λ _. ⊤) answer
+  told_not looked e cut why r is =
+      subst (λ (r : Result Y StoreFault). Tells g ShowsRoom IsLegible before after r (λ _. ⊤) answer) (sym is)
+      (record {
+        answers = λ clean beside d shown. tt;
+        looks = tt;
+        cut = cut_then a b c looked.goes.on cut;
+        faults = λ beside d shown may kept clean free. next_cause a b c looked.goes.on cut clean e (λ cleaner. why d (shown_after a b looked cleaner d shown) kept clean (still_unlimited a b looked.goes.on free));
+      })
+
+  -- it ends with what was read
+  pub told_all : Looks a c → (y : Y) → (HasCleanDisk c → (d : Desk) → ShowsDesk a.now.trees d → answer tt d y) → Tells g ShowsRoom IsLegible before after (Ok y) (λ _. ⊤) answer
+  told_all looked y is = record { answers = λ clean beside d shown. is clean d shown; looks = looked; cut = tt; faults = λ beside d shown may kept clean free. tt }
+
+-- ---- a ticket that was not given
+
+find_none : (t n : ℕ) (xs : List ReaderRow) → AllByRecursion (λ (r : ReaderRow). r.ticket < n) xs → n ≤ t → find (λ (r : ReaderRow). nat_eq t r.ticket) xs ≡ None
+find_none t n [] all h = refl
+find_none t n (x ∷ xs) all h =
+    let low = all.0 in
+    let apart : nat_eq t x.ticket ≡ false = grind (arith, nat_tests, low, h) in
+    rw apart (find_none t n xs all.1 h)
+
+pub unknown : (t : ℕ) (d : Desk) → AreCounted (λ (r : ReaderRow). r.ticket) d.readers → length d.readers < t → reader_with t d ≡ None
+unknown t d counted h = find_none t (1 + length d.readers) d.readers (counted_within (λ (r : ReaderRow). r.ticket) 1 d.readers counted) (omega (arith, h))
+
+-- ---- how many of the orders that have not ended are out
+
+abbrev pub live_line : OrderRow → LiveOrder
+live_line o = record { order = o.id; container = o.container; is_out = nat_eq o.state 2 }
+
+abbrev out_among : List OrderRow → List LiveOrder
+out_among rows = filter (λ (l : LiveOrder). l.is_out) (map live_line rows)
+
+-- one order more; an order that is out has not ended
+one_more : (mine : Bool) (o : OrderRow) (live out : List OrderRow) → length (out_among live) ≡ length out
+    → length (out_among (cond (mine && is_live o) (o ∷ live) live)) ≡ length (cond (mine && nat_eq o.state 2) (o ∷ out) out)
+one_more false o live out same = same
+one_more true o live out same = by (nat_lt o.state 3) (nat_eq o.state 2) refl refl
+  where
+    by : (x y : Bool) → nat_lt o.state 3 ≡ x → nat_eq o.state 2 ≡ y → length (out_among (cond x (o ∷ live) live)) ≡ length (cond (nat_eq o.state 2) (o ∷ out) out)
+    by true true h k = rw k (ap suc same)
+    by true false h k = rw k same
+    by false true h k = absurd (grind (arith, nat_tests, h, k))
+    by false false h k = rw k same
+
+same_out : (t : ℕ) (xs : List OrderRow) → length (out_among (filter (λ (o : OrderRow). nat_eq t o.ticket && is_live o) xs)) ≡ length (filter (λ (o : OrderRow). nat_eq t o.ticket && nat_eq o.state 2) xs)
+same_out t [] = refl
+same_out t (o ∷ xs) =
+    one_more (nat_eq t o.ticket) o (filter (λ (o : OrderRow). nat_eq t o.ticket && is_live o) xs) (filter (λ (o : OrderRow). nat_eq t o.ticket && nat_eq o.state 2) xs) (same_out t xs)
+
+pub out_of_live : (t : ℕ) (xs : List OrderRow) → count_by (λ (l : LiveOrder). l.is_out) (map live_line (filter (λ (o : OrderRow). nat_eq t o.ticket && is_live o) xs)) ≡ count_by (λ (o : OrderRow). nat_eq t o.ticket && nat_eq o.state 2) xs
+out_of_live t xs =
+    sym (length-filter (λ (l : LiveOrder). l.is_out) (map live_line (filter (λ (o : OrderRow). nat_eq t o.ticket && is_live o) xs)))
+    ∙ same_out t xs ∙ length-filter (λ (o : OrderRow). nat_eq t o.ticket && nat_eq o.state 2) xs
+
+-- a ticket has fewer orders than can be told
+few_kept : (p : OrderRow → Bool) (xs : List OrderRow) → length (filter p xs) ≤ length xs
+few_kept p xs = subst (λ n. n ≤ length xs) (sym (length-filter p xs)) (count_by-le-length p xs)
+
+pub few_live : (t : ℕ) (d : Desk) → length d.orders ≤ most_orders → length (live_orders t d) < 2 ^ 32
+few_live t d few =
+    let kept = filter (λ (o : OrderRow). nat_eq t o.ticket && is_live o) d.orders in
+    let same = length-map kept live_line in
+    let fewer = few_kept (λ (o : OrderRow). nat_eq t o.ticket && is_live o) d.orders in
+    omega (arith, same, fewer, few)
+
+-- ---- the card
+
+-- what the first of the rows tells that are kept
+pub first_told : {A B C : Type 0} (f : A → B) (h : B → C) (p : A → Bool) (xs : List A) → option_map (λ x. h (f x)) (find p xs) ≡ option_map h (slice_get (map f (filter p xs)) 0)
+first_told f h p [] = refl
+first_told f h p (x ∷ xs) =
+    elim (p x) as (λ b. option_map (λ x. h (f x)) (cond b (Some x) (find p xs)) ≡ option_map h (slice_get (map f (cond b (x ∷ filter p xs) (filter p xs))) 0)) [ true ↦ refl | false ↦ first_told f h p xs ]
+
+pub seat_told : (t : ℕ) (d : Desk) (seats : List TakenSeat) → seats ≡ map taken (filter (λ (s : SeatRow). nat_eq t s.ticket) d.seats) → option_map (λ (s : TakenSeat). s.seat) (slice_get seats 0) ≡ seat_of t d
+seat_told t d seats are = ap (λ l. option_map (λ (s : TakenSeat). s.seat) (slice_get l 0)) are ∙ sym (first_told taken (λ (s : TakenSeat). s.seat) (λ (s : SeatRow). nat_eq t s.ticket) d.seats)
+
+pub first_none : {A : Type 0} (xs : List A) → length xs ≡ 0 → slice_get xs 0 ≡ None
+first_none [] h = refl
+first_none (x ∷ xs) h = absurd (omega (arith, h))
+
+-- the card that the ticket's row makes
+abbrev pub card_with : ℕ → ℤ → Desk → NamedReader → ReaderCard
+card_with t today d x = record {
+  reader = record { ticket = t; until = x.until; seat = seat_of t d; held = held_with t d };
+  name = x.name;
+  live = live_orders t d;
+  placed = placed_on t today d;
+  orders = length d.orders;
+}
+
+pub card_told : (t : ℕ) (today : ℤ) (d : Desk) (rows : List NamedReader) → rows ≡ map named (filter (λ (r : ReaderRow). nat_eq t r.ticket) d.readers) → option_map (card_with t today d) (slice_get rows 0) ≡ card_of t today d
+card_told t today d rows are =
+    ap (λ l. option_map (card_with t today d) (slice_get l 0)) are ∙ sym (first_told named (card_with t today d) (λ (r : ReaderRow). nat_eq t r.ticket) d.readers)
