@@ -14,3 +14,4 @@ pub mod OrderWrites
 pub mod PutAgain
 pub mod HoldingWrites
 pub mod LoanRows
+pub mod LoanCalls

@@ -1,18 +1,21 @@
 //! Containers that are with readers.
 
-ghost use Rattle.std.specs.Prelude.{◌≡◌, ◌<◌, ◌^◌, nat_eq, List, map, filter, IfOk};
+ghost use Rattle.std.specs.Prelude.{◌≡◌, ◌<◌, ◌^◌, nat_eq, List, map, filter, IfOk, ⊤};
 ghost use Rattle.sqlite.specs.Held.{state};
 ghost use Rattle.sqlite.specs.State.{HasCleanDisk};
 ghost use Rattle.desk_core.specs.DeskRows.{HoldingRow, OrderRow};
 ghost use Rattle.office_tables.specs.Asking.{Reads};
+ghost use Rattle.office_tables.specs.Calls.{Tells};
 ghost use Rattle.office_tables.specs.Faults.{Excused};
 ghost use Rattle.office_tables.specs.Schema as tables;
 ghost use Rattle.office_tables.specs.Step.{InOffice, Holds};
+ghost use Rattle.desk_store.specs.Holdings.{issued_of, loan_by, ticket_of};
 ghost use Rattle.desk_store.specs.Rows.{holding_cells, order_cells};
-ghost use Rattle.desk_store.specs.Shows.{AreByNumber, AreCounted};
+ghost use Rattle.desk_store.specs.Shows.{AreByNumber, AreCounted, ShowsRoom, IsLegible};
 
+use crate::holdings::Loan;
 use office_tables::answer::FromRow;
-use office_tables::value::number;
+use office_tables::value::{NO_NUMBER, number};
 use office_tables::{StoreFault, find};
 use sqlite::{Alter, Connection, Row};
 use std::alloc::Global;
@@ -79,4 +82,60 @@ pub(crate) fn tickets_of<S: Alter>(
         "SELECT ticket FROM orders WHERE id = ?1 ORDER BY id",
         &[number(order)],
     )
+}
+
+/// The ticket that placed an order, where there is such an order.
+fn holder_of<S: Alter>(
+    alloc: Global,
+    conn: &mut Connection<S>,
+    order: u64,
+) -> Result<Option<u64>, StoreFault>
+    requires inside { InOffice (state S.Store conn.old) }
+    ensures tells { Tells S.Store ShowsRoom IsLegible conn.old conn.new result (λ _. ⊤)
+        (λ _ d ticket. ticket ≡ ticket_of d.orders order) }
+{
+    if order >= NO_NUMBER {
+        return Ok(None);
+    }
+    let found = tickets_of(alloc, conn, order)?;
+    Ok(found.first().copied())
+}
+
+/// With whom a container is that is out, where it is.
+fn loan_of<S: Alter>(
+    alloc: Global,
+    conn: &mut Connection<S>,
+    line: HoldingLine,
+) -> Result<Option<Loan>, StoreFault>
+    requires inside { InOffice (state S.Store conn.old) }
+    ensures tells { Tells S.Store ShowsRoom IsLegible conn.old conn.new result (λ _. ⊤)
+        (λ _ d loan. loan ≡ loan_by d.orders line.container line.held_by) }
+{
+    let Some(order) = line.held_by else {
+        return Ok(None);
+    };
+    let Some(ticket) = holder_of(alloc, conn, order)? else {
+        return Ok(None);
+    };
+    Ok(Some(Loan {
+        container: line.container,
+        order,
+        ticket,
+    }))
+}
+
+/// The containers that are with readers, by number.
+pub fn issued<S: Alter>(alloc: Global, conn: &mut Connection<S>) -> Result<Vec<Loan>, StoreFault>
+    requires inside { InOffice (state S.Store conn.old) }
+    ensures tells { Tells S.Store ShowsRoom IsLegible conn.old conn.new result (λ _. ⊤)
+        (λ _ d all. all.items ≡ issued_of d) }
+{
+    let lines = holding_lines(alloc, conn)?;
+    let mut loans = Vec::new(alloc);
+    for line in &lines {
+        if let Some(loan) = loan_of(alloc, conn, *line)? {
+            loans.push(loan)?;
+        }
+    }
+    Ok(loans)
 }

@@ -18,6 +18,7 @@ pub use blank::is_blank;
 pub use cards::{LiveOrder, ReaderCard, reader};
 pub use granting::Permit;
 pub use holdings::{FirstOrder, Loan, set_place};
+pub use lending::issued;
 pub use making::create_desk;
 pub use orders::{OrderState, PlacedOrder, WaitingOrder};
 pub use placing::{append_order, end_order};
