@@ -19,3 +19,5 @@ pub mod PermitRows
 pub mod PermitCalls
 pub mod RunRows
 pub mod RunCalls
+pub mod LoanRows
+pub mod LoanCalls

@@ -1,6 +1,6 @@
 -- Where containers are, and which of them may move.
-use Rattle.std.specs.Prelude.{◌≡◌, ℕ, pos, Bool, true, not, ◌&&◌, nat_eq, nat_lt, List, map, filter, filter_map, find, Option, Some, None, option_map, option_and_then}
-use Rattle.std.specs.List.{AllByRecursion, list_any}
+use Rattle.std.specs.Prelude.{ℕ, pos, Bool, not, ◌&&◌, nat_eq, nat_lt, List, map, filter, filter_map, find, Option, Some, None, option_map, option_and_then}
+use Rattle.std.specs.List.{list_any}
 use Rattle.desk_core.specs.declared.reader.Place.{Place}
 use Rattle.desk_core.specs.declared.reader.Place.TheVariants.{Shelf, Desk as AtTheDesk, Out}
 use Rattle.desk_core.specs.DeskRows.{Desk, HoldingRow, OrderRow}
@@ -34,19 +34,18 @@ with_place c place d = record d { holdings = placed_at c place d.holdings }
 abbrev pub ticket_of : List OrderRow → ℕ → Option ℕ
 ticket_of orders o = option_map (λ (row : OrderRow). row.ticket) (find (λ (row : OrderRow). nat_eq o row.id) orders)
 
+-- a container that is out with an order, where it is one: with whom
+abbrev pub loan_by : List OrderRow → ℕ → Option ℕ → Option Loan
+loan_by orders c held_by =
+    option_and_then (λ o. option_map (λ t. record { container = c; order = o; ticket = t }) (ticket_of orders o)) held_by
+
 -- the container is out: with which order, and with whom
 abbrev pub issued_by : List OrderRow → HoldingRow → Option Loan
-issued_by orders h =
-    option_and_then (λ o. option_map (λ t. record { container = h.container; order = o; ticket = t }) (ticket_of orders o)) h.held_by
+issued_by orders h = loan_by orders h.container h.held_by
 
 -- by their numbers
 abbrev pub issued_of : Desk → List Loan
 issued_of d = filter_map (issued_by d.orders) d.holdings
-
--- each container that is out is so by an order that is there
-abbrev pub HaveOrders : Desk → Type 0
-HaveOrders d =
-    AllByRecursion (λ (h : HoldingRow). (o : ℕ) → h.held_by ≡ Some o → list_any (λ (row : OrderRow). nat_eq o row.id) d.orders ≡ true) d.holdings
 
 -- ---- those that may move
 
