@@ -53,8 +53,12 @@ pub(crate) fn holding_lines<S: Alter>(
 ) -> Result<Vec<HoldingLine>, StoreFault>
     requires inside { InOffice (state S.Store conn.old) }
     ensures reads { Reads (state S.Store conn.old) (state S.Store conn.new) result }
-    ensures rows { HasCleanDisk (state S.Store conn.new) → (xs : List HoldingRow) → Holds tables.holding holding_cells (state S.Store conn.old) xs → AreByNumber (λ h. h.container) xs → IfOk result (λ found. found.items ≡ map (λ (h : HoldingRow). record { container = h.container; held_by = h.held_by }) xs) }
-    ensures faults { (xs : List HoldingRow) → Holds tables.holding holding_cells (state S.Store conn.old) xs → Excused (state S.Store conn.old) (state S.Store conn.new) result }
+    ensures rows { HasCleanDisk (state S.Store conn.new) → (xs : List HoldingRow)
+        → Holds tables.holding holding_cells (state S.Store conn.old) xs → AreByNumber (λ h. h.container) xs
+        → IfOk result (λ found. found.items ≡ map
+        (λ (h : HoldingRow). record { container = h.container; held_by = h.held_by }) xs) }
+    ensures faults { (xs : List HoldingRow) → Holds tables.holding holding_cells (state S.Store conn.old) xs
+        → Excused (state S.Store conn.old) (state S.Store conn.new) result }
 {
     find(
         alloc,
@@ -73,8 +77,12 @@ pub(crate) fn tickets_of<S: Alter>(
     requires inside { InOffice (state S.Store conn.old) }
     requires small { order < 2 ^ 63 }
     ensures reads { Reads (state S.Store conn.old) (state S.Store conn.new) result }
-    ensures rows { HasCleanDisk (state S.Store conn.new) → (xs : List OrderRow) → Holds tables.orders order_cells (state S.Store conn.old) xs → AreCounted (λ o. o.id) xs → IfOk result (λ found. found.items ≡ map (λ (o : OrderRow). o.ticket) (filter (λ o. nat_eq order o.id) xs)) }
-    ensures faults { (xs : List OrderRow) → Holds tables.orders order_cells (state S.Store conn.old) xs → Excused (state S.Store conn.old) (state S.Store conn.new) result }
+    ensures rows { HasCleanDisk (state S.Store conn.new) → (xs : List OrderRow)
+        → Holds tables.orders order_cells (state S.Store conn.old) xs → AreCounted (λ o. o.id) xs
+        → IfOk result (λ found. found.items ≡ map (λ (o : OrderRow). o.ticket)
+        (filter (λ o. nat_eq order o.id) xs)) }
+    ensures faults { (xs : List OrderRow) → Holds tables.orders order_cells (state S.Store conn.old) xs
+        → Excused (state S.Store conn.old) (state S.Store conn.new) result }
 {
     find(
         alloc,
