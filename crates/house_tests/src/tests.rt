@@ -52,7 +52,10 @@ fn open_office<S: Alter>(alloc: Global, conn: &mut Connection<S>) -> Result<(), 
 }
 
 /// An office in a store that has nothing else.
-fn new_office<S: Alter>(alloc: Global, conn: &mut Connection<S>) -> Result<(), StoreFault>
+pub(crate) fn new_office<S: Alter>(
+    alloc: Global,
+    conn: &mut Connection<S>,
+) -> Result<(), StoreFault>
     ensures inside { OnOk result (InTransaction Links (state S.Store conn.new)) }
 {
     if !is_blank(conn) {
@@ -148,7 +151,7 @@ fn add<S: Alter>(
 }
 
 /// Unit 1, a fonds in Box 1, with unit 2 below it.
-fn two_units<S: Alter>(alloc: Global, conn: &mut Connection<S>) -> Result<(), StoreFault>
+pub(crate) fn two_units<S: Alter>(alloc: Global, conn: &mut Connection<S>) -> Result<(), StoreFault>
     requires inside { InTransaction Links (state S.Store conn.old) }
     ensures inside { OnOk result (InTransaction Links (state S.Store conn.new)) }
 {
@@ -417,10 +420,10 @@ fn carry_out<S: Alter>(
 }
 
 /// A query, and how many columns its rows have.
-type Query = (&'static str, usize);
+pub(crate) type Query = (&'static str, usize);
 
 /// The rows of a query, a line for each, with `-` for NULL.
-fn show_rows<S: Alter>(
+pub(crate) fn show_rows<S: Alter>(
     text: &mut String,
     conn: &mut Connection<S>,
     query: Query,

@@ -1,0 +1,270 @@
+//! The desk's tables, over a store in memory: readers, seats, orders, places and permits.
+
+ghost use Rattle.std.specs.Prelude.{◌<◌, ◌^◌, OnOk};
+ghost use Rattle.sqlite.specs.Held.{state};
+ghost use Rattle.tree_core.specs.Versions.{Links};
+ghost use Rattle.office_tables.specs.Step.{InTransaction};
+
+use crate::tests::{Query, new_office, show_rows, two_units};
+use catalogue_store::StoreFault;
+use desk_core::Place;
+use desk_store::{
+    FirstOrder, OrderState, add_reader, append_order, end_order, grant, issued, order, permits,
+    reader, record_run, renew, revoke, seats, set_place, set_seat,
+};
+use isad_core::{Day, Text};
+use sqlite::{Alter, Connection};
+use std::alloc::Global;
+use std::process::Abort;
+use std::test::Fail;
+
+/// The first of March 2024, and so many days later.
+fn day_after(days: u8) -> Result<Day, StoreFault> {
+    match Day::from_number(19783 + i32::from(days)) {
+        Some(day) => Ok(day),
+        None => Err(StoreFault::Schema),
+    }
+}
+
+/// A reader with a ticket for the first day alone: the ticket.
+#[tactic(auto, using(crate::proofs::Going::went_on))]
+fn register<S: Alter>(
+    alloc: Global,
+    conn: &mut Connection<S>,
+    name: &str,
+    text: &mut String,
+) -> Result<(), StoreFault>
+    requires inside { InTransaction Links (state S.Store conn.old) }
+    ensures inside { OnOk result (InTransaction Links (state S.Store conn.new)) }
+{
+    let name = Text::new(alloc, name)?;
+    let ticket = add_reader(conn, &name, day_after(0)?)?.unwrap_or(0);
+    write!(text, "{ticket}\n")?;
+    Ok(())
+}
+
+/// Ann's ticket 1 is renewed. Bob sits and leaves, Ann takes the second seat.
+#[tactic(auto, using(crate::proofs::Going::went_on))]
+fn seated<S: Alter>(
+    alloc: Global,
+    conn: &mut Connection<S>,
+    text: &mut String,
+) -> Result<(), StoreFault>
+    requires inside { InTransaction Links (state S.Store conn.old) }
+{
+    register(alloc, conn, "Ann", text)?;
+    register(alloc, conn, "Bob", text)?;
+    renew(conn, 1, day_after(9)?)?;
+    set_seat(conn, 1, Some(2))?;
+    set_seat(conn, 2, Some(1))?;
+    set_seat(conn, 1, None)?;
+    for taken in &seats(alloc, conn)? {
+        let (seat, ticket) = (taken.seat, taken.ticket);
+        write!(text, "{seat} {ticket}\n")?;
+    }
+    Ok(())
+}
+
+/// Ann orders containers 1 and 2, and has the first.
+#[tactic(auto, using(crate::proofs::Going::went_on))]
+fn ordered<S: Alter>(
+    alloc: Global,
+    conn: &mut Connection<S>,
+    text: &mut String,
+) -> Result<(), StoreFault>
+    requires inside { InTransaction Links (state S.Store conn.old) }
+    ensures inside { OnOk result (InTransaction Links (state S.Store conn.new)) }
+{
+    register(alloc, conn, "Ann", text)?;
+    append_order(conn, 1, 1, 1, day_after(0)?)?;
+    append_order(conn, 2, 1, 2, day_after(1)?)?;
+    end_order(conn, 1, OrderState::Out)?;
+    set_place(conn, 2, Place::Desk)?;
+    set_place(conn, 1, Place::Out(1))
+}
+
+/// What Ann's card tells on the second day, and that nobody has ticket 9.
+#[tactic(auto, using(crate::proofs::Going::looked_on))]
+fn carded<S: Alter>(
+    alloc: Global,
+    conn: &mut Connection<S>,
+    text: &mut String,
+) -> Result<(), StoreFault>
+    requires inside { InTransaction Links (state S.Store conn.old) }
+{
+    ordered(alloc, conn, text)?;
+    let day = day_after(1)?;
+    if let Some(card) = &reader(alloc, conn, 1, day)? {
+        let (held, placed, orders) = (card.reader.held, card.placed, card.orders);
+        write!(text, "{held} {placed} {orders}\n")?;
+        for live in card.live.as_slice() {
+            let (order, container, is_out) = (live.order, live.container, live.is_out);
+            write!(text, "{order} {container} {is_out}\n")?;
+        }
+    }
+    let is_unknown = reader(alloc, conn, 9, day)?.is_none();
+    write!(text, "{is_unknown}\n")?;
+    Ok(())
+}
+
+/// Ann brings container 1 back, and order 2 is cancelled: what is told of the orders 1 to 3.
+#[tactic(auto, using(crate::proofs::Going::went_on))]
+fn ended<S: Alter>(
+    alloc: Global,
+    conn: &mut Connection<S>,
+    text: &mut String,
+) -> Result<(), StoreFault>
+    requires inside { InTransaction Links (state S.Store conn.old) }
+{
+    ordered(alloc, conn, text)?;
+    end_order(conn, 1, OrderState::Done)?;
+    set_place(conn, 1, Place::Shelf)?;
+    end_order(conn, 2, OrderState::Cancelled)?;
+    let is_done = order(alloc, conn, 1)?.is_some_and(|placed| placed.state == OrderState::Done);
+    let is_unknown = order(alloc, conn, 3)?.is_none();
+    write!(text, "{is_done} {is_unknown}\n")?;
+    Ok(())
+}
+
+/// A run is kept that brought container 2 for order 2, and what is out is told.
+#[tactic(auto, using(crate::proofs::Going::went_on))]
+fn brought<S: Alter>(
+    alloc: Global,
+    conn: &mut Connection<S>,
+    text: &mut String,
+) -> Result<(), StoreFault>
+    requires inside { InTransaction Links (state S.Store conn.old) }
+{
+    ordered(alloc, conn, text)?;
+    let taken = [FirstOrder {
+        container: 2,
+        order: 2,
+        ticket: 1,
+    }];
+    let run = record_run(conn, day_after(1)?, &taken)?.unwrap_or(0);
+    write!(text, "{run}\n")?;
+    for loan in &issued(alloc, conn)? {
+        let (container, order, ticket) = (loan.container, loan.order, loan.ticket);
+        write!(text, "{container} {order} {ticket}\n")?;
+    }
+    Ok(())
+}
+
+/// Ann has permits for units 1 and 2, the second prolonged and the first taken back.
+#[tactic(auto, using(crate::proofs::Going::went_on))]
+fn permitted<S: Alter>(
+    alloc: Global,
+    conn: &mut Connection<S>,
+    text: &mut String,
+) -> Result<(), StoreFault>
+    requires inside { InTransaction Links (state S.Store conn.old) }
+{
+    two_units(alloc, conn)?;
+    grant(conn, 1, 1, day_after(0)?)?;
+    grant(conn, 1, 2, day_after(0)?)?;
+    grant(conn, 1, 2, day_after(9)?)?;
+    revoke(conn, 1, 1)?;
+    for permit in &permits(alloc, conn, 1)? {
+        let (unit, until) = (permit.unit, permit.until.number());
+        write!(text, "{unit} {until}\n")?;
+    }
+    Ok(())
+}
+
+/// What is done in a new office.
+#[derive(Clone, Copy)]
+enum Act {
+    Sit,
+    Card,
+    End,
+    Run,
+    Permit,
+}
+
+/// What the calls say and then the rows of these queries.
+fn told<S: Alter>(
+    alloc: Global,
+    conn: &mut Connection<S>,
+    done: Act,
+    queries: &[Query],
+) -> Result<String, Fail> {
+    let mut text = String::new(alloc);
+    new_office(alloc, conn)?;
+    match done {
+        Act::Sit => seated(alloc, conn, &mut text)?,
+        Act::Card => carded(alloc, conn, &mut text)?,
+        Act::End => ended(alloc, conn, &mut text)?,
+        Act::Run => brought(alloc, conn, &mut text)?,
+        Act::Permit => permitted(alloc, conn, &mut text)?,
+    }
+    for query in queries {
+        show_rows(&mut text, conn, *query)?;
+    }
+    Ok(text)
+}
+
+fn told_in_memory(alloc: Global, done: Act, queries: &[Query]) -> Result<String, Fail> {
+    let mut conn = Connection::open_in_memory(alloc)?;
+    told(alloc, &mut conn, done, queries)
+}
+
+/// What is done, which queries are asked then, and what is told.
+type Case = (Act, &'static [Query], &'static str);
+
+fn see(rt: &impl Abort, alloc: Global, cases: &[Case]) -> Result<(), Fail> {
+    for &(done, queries, wanted) in cases {
+        let text = told_in_memory(alloc, done, queries)?;
+        assert_eq!(rt; text.as_str(), wanted);
+    }
+    Ok(())
+}
+
+const READERS: Query = ("SELECT ticket, until FROM reader ORDER BY ticket", 2);
+
+const ORDERS: Query = (
+    "SELECT id, ticket, container, day, state FROM orders ORDER BY id",
+    5,
+);
+
+const HOLDINGS: Query = (
+    "SELECT container, place, held_by FROM holding ORDER BY container",
+    3,
+);
+
+const RUNS: Query = ("SELECT id, day FROM run ORDER BY id", 2);
+
+const LINES: Query = (
+    "SELECT run, container, order_no, ticket FROM run_line ORDER BY run, container",
+    4,
+);
+
+const PERMITS: Query = (
+    "SELECT ticket, unit, until FROM permit ORDER BY ticket, unit",
+    3,
+);
+
+#[test]
+fn the_desk_keeps_its_register(rt: HostRuntime) -> Result<(), Fail> {
+    let cases: [Case; 5] = [
+        (Act::Sit, &[READERS], "1\n2\n2 1\n 1 19792\n 2 19783\n"),
+        (
+            Act::Card,
+            &[ORDERS, HOLDINGS],
+            "1\n1 1 2\n1 1 true\n2 2 false\ntrue\n\
+             \u{20}1 1 1 19783 2\n 2 1 2 19784 1\n\
+             \u{20}1 2 1\n 2 1 -\n",
+        ),
+        (
+            Act::End,
+            &[ORDERS, HOLDINGS],
+            "1\ntrue true\n 1 1 1 19783 3\n 2 1 2 19784 4\n 2 1 -\n",
+        ),
+        (
+            Act::Run,
+            &[RUNS, LINES],
+            "1\n1\n1 1 1\n 1 19784\n 1 2 2 1\n",
+        ),
+        (Act::Permit, &[PERMITS], "2 19792\n 1 2 19792\n"),
+    ];
+    see(&rt, rt.alloc(), &cases)
+}
