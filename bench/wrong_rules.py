@@ -18,7 +18,7 @@ E=[
 ('OpenDay though containers are out',O+'Rules.antt','    ∷ when (list_any (is_out s) (containers s)) StillIssued\n',''),
 ('OpenDay tells StillIssued first',O+'Rules.antt','unless (int_lt s.day day) DayNotLater\n    ∷ when (list_any (is_out s) (containers s)) StillIssued','when (list_any (is_out s) (containers s)) StillIssued\n    ∷ unless (int_lt s.day day) DayNotLater'),
 ('Renew changes nothing',O+'Rules.antt','renewed until (r ∷ rs) (suc zero) = record r { until = until } ∷ rs','renewed until (r ∷ rs) (suc zero) = r ∷ rs'),
-('a blank name is taken',O+'Rules.antt','(not (is_blank_text name) && list_all','(true && list_all'),
+('a blank name is taken',O+'Rules.antt','(not (is_blank_text name) && list_all','(Rattle.std.specs.Prelude.true && list_all'),
 ('a control character is taken in a name',O+'Rules.antt','nat_le 32 b && not (nat_eq b 127)','not (nat_eq b 127)'),
 ('a source may have a space',C+'Sources.antt','(nat_eq b 46 ||','(nat_eq b 32 ||'),
 ('any source is taken',O+'Rules.antt','unless (is_source source) BadName\n    ∷ bad_file','bad_file'),
