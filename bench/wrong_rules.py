@@ -139,6 +139,17 @@ E=[
 ('a holder without a seat',R+'DeskCauses.antt','is_seated s ticket && (nat_le','true && (nat_le'),
 ('hands without a limit',R+'DeskCauses.antt','nat_le (held s ticket) s.settings.hands && opens','true && opens'),
 ('closed to its holder',R+'DeskCauses.antt','(nat_le (held s ticket) s.settings.hands && opens s ticket c)','(nat_le (held s ticket) s.settings.hands)'),
+# numbers
+('an import renumbers the old containers',C+'Merging.antt','distinct (containers ++ flat_map (λ row. row.values.boxes) rows)','distinct (flat_map (λ row. row.values.boxes) rows ++ containers)'),
+('a new reader is put first',O+'Rules.antt','readers = s.readers ++ record { name = name; until = until } ∷ []','readers = record { name = name; until = until } ∷ s.readers'),
+('a new run is put first',O+'Rules.antt','runs = s.runs ++ next_run s ∷ []','runs = next_run s ∷ s.runs'),
+('a new order is put first',O+'Rules.antt','orders = s.orders ++ record { ticket = t; container = c; day = s.day } ∷ []','orders = record { ticket = t; container = c; day = s.day } ∷ s.orders'),
+('tickets begin at 0',O+'Rules.antt','done.Register (suc (length s.readers))','done.Register (length s.readers)'),
+('runs begin at 0',O+'Rules.antt','done.Run (suc (length s.runs))','done.Run (length s.runs)'),
+('unit numbers begin at 0',C+'Merging.antt','containers = []; next = 1','containers = []; next = 0'),
+('Remove gives a number back',C+'Moves.antt','record c { forest = cut (has_id id) c.forest }','record c { forest = cut (has_id id) c.forest; next = Rattle.std.specs.Prelude.cond (Rattle.std.specs.Prelude.nat_eq (Rattle.std.specs.Prelude.suc id) c.next) id c.next }'),
+('a ticket is renewed to another name',O+'Rules.antt','renewed until (r ∷ rs) (suc zero) = record r { until = until } ∷ rs','renewed until (r ∷ rs) (suc zero) = record { name = []; until = until } ∷ rs'),
+('a known unit moves to another source',C+'Merging.antt','then record unit { values = unwrap_or','then record unit { legacy = unit.source; values = unwrap_or'),
 # what is shown
 ('closed units are shown whole',O+'Queries.antt','public_of s.day s.catalogue.forest','public_of (Rattle.std.specs.Prelude.pos 4000000) s.catalogue.forest'),
 ('every element is found above',C+'Pages.antt','cond (is_found_above element) (nearest_value element higher) None','nearest_value element higher'),

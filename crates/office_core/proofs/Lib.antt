@@ -14,6 +14,8 @@ pub mod Places
 pub mod OrderLaws
 pub mod Boxes
 pub mod Numbers
+pub mod StaysNamed
+pub mod NumbersGiven
 pub mod SoundDesk
 pub mod WorkedAnswers
 pub mod NoLeak

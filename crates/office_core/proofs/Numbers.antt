@@ -1,65 +1,55 @@
--- No number is given twice.
-use Rattle.std.proofs.Common.{◌≡◌, ℕ, zero, suc, ◌+◌, ◌-◌, ◌<◌, ◌≤◌, List, [], ◌∷◌, ◌++◌, length, Option, Some, None, Ok, Err, refl, sym, ap, subst, arith, length-append}
+-- Numbers are given in order, from 1 on.
+use Rattle.std.proofs.Common.{◌≡◌, ℕ, zero, suc, ◌+◌, ◌-◌, ◌≤◌, List, [], ◌∷◌, ◌++◌, length, Option, Some, None, Ok, Err, refl, sym, ap, ◌∙◌, subst, arith, length-append}
 use Rattle.std.specs.Prelude.{ℤ, option_to_list}
-use Rattle.std.specs.List.{AllByRecursion}
 use Rattle.desk_core.specs.declared.reader.Place.TheVariants.{Shelf, Desk, Out}
 use Rattle.desk_core.specs.declared.reader.Place.{Place}
 use Rattle.office_core.specs.State.{State, Reader, container_of}
 use Rattle.office_core.specs.declared.command.Command.{Command}
 use Rattle.office_core.specs.declared.command.Command.TheVariants as command
-use Rattle.office_core.specs.Rules.{after, told, step, renewed, cancelled, issued, returned, imported, taken}
+use Rattle.office_core.specs.Rules.{after, told, step, state_after, renewed, cancelled, issued, returned, imported, taken}
 use Rattle.isad_core.specs.Texts.{Bytes}
 use Rattle.isad_core.specs.Boxes.{distinct}
 use Rattle.desk_core.specs.declared.refusal.Refusal.{Refusal}
 use Rattle.catalogue_core.specs.Intake.{Taken}
-use Rattle.office_core.specs.SoundDesk.{IsAscending}
-use Rattle.office_core.specs.Laws.{Kind, Tickets, Orders, Runs, Containers, Units, numbers_from, ticket_given, order_given, run_given, given, all_given}
-use Rattle.catalogue_core.proofs.EachOf.{all_append}
-use Rattle.catalogue_core.proofs.DistinctLists.{all_so}
+use Rattle.office_core.specs.Laws.{numbers_from}
+use Rattle.office_core.specs.Numbers.{Kind, Tickets, Orders, Runs, Containers, Units, next_number, ticket_given, order_given, run_given, given, all_given, GivenInOrder, StartsAtOne}
 use Rattle.office_core.proofs.Steps.{step_at}
 use Rattle.catalogue_core.proofs.Imported.{new_boxes, boxes_after, next_after}
 use Rattle.office_core.proofs.Boxes.{step_apart}
 
--- the next number that will be given
-next : Kind → State → ℕ
-next Tickets s = suc (length s.readers)
-next Orders s = suc (length s.orders)
-next Runs s = suc (length s.runs)
-next Containers s = suc (length s.catalogue.containers)
-next Units s = s.catalogue.next
-
--- these numbers ascend, from low to below high
-record AreBetween (low high : ℕ) (ns : List ℕ) : Type 0 where
-  ascend : IsAscending ns
-  above : AllByRecursion (λ n. low ≤ n) ns
-  within : AllByRecursion (λ n. n < high) ns
+-- these numbers are all from low to below high, in order
+record Fill (low high : ℕ) (ns : List ℕ) : Type 0 where
+  are : ns ≡ numbers_from low (high - low)
   no_lower : low ≤ high
 
-nothing : (low high : ℕ) → low ≤ high → AreBetween low high []
-nothing low high h = record { ascend = tt; above = tt; within = tt; no_lower = h }
+none_between : (low high : ℕ) → high ≡ low → Fill low high []
+none_between low high e =
+    let none : high - low ≡ 0 = omega (arith, e) in
+    record { are = ap (numbers_from low) (sym none); no_lower = omega (arith, e) }
 
-next_one : (n : ℕ) → AreBetween n (suc n) (n ∷ [])
-next_one n = record { ascend = (tt, tt); above = (omega arith, tt); within = (omega arith, tt); no_lower = omega arith }
+next_one : (n : ℕ) → Fill n (suc n) (n ∷ [])
+next_one n = let one : suc n - n ≡ 1 = omega arith in record { are = ap (numbers_from n) (sym one); no_lower = omega arith }
 
-ascending-append : (ms ns : List ℕ) (mid : ℕ) → IsAscending ms → IsAscending ns → AllByRecursion (λ m. m < mid) ms → AllByRecursion (λ n. mid ≤ n) ns → IsAscending (ms ++ ns)
-ascending-append [] ns mid a b h k = b
-ascending-append (m ∷ ms) ns mid a b h k =
-    let l = h.0 in
-    (all_append (λ n. m < n) ms ns a.0 (all_so (λ n. mid ≤ n) (λ n. m < n) (λ n i. omega (arith, i, l)) ns k), ascending-append ms ns mid a.1 b h.1 k)
+numbers_further : (m a b : ℕ) → numbers_from m a ++ numbers_from (m + a) b ≡ numbers_from m (a + b)
+numbers_further m zero b = let e : m + zero ≡ m = omega arith in let d : zero + b ≡ b = omega arith in ap (λ k. numbers_from k b) e ∙ ap (numbers_from m) (sym d)
+numbers_further m (suc a) b =
+    let e : m + suc a ≡ suc m + a = omega arith in
+    let d : suc a + b ≡ suc (a + b) = omega arith in
+    ap (λ k. m ∷ (numbers_from (suc m) a ++ numbers_from k b)) e ∙ (ap (λ l. m ∷ l) (numbers_further (suc m) a b) ∙ ap (numbers_from m) (sym d))
 
-from_between : (m n : ℕ) → AreBetween m (m + n) (numbers_from m n)
-from_between m zero = nothing m (m + zero) (omega arith)
-from_between m (suc n) =
-    let r = from_between (suc m) n in
+fill_further : (low mid high : ℕ) (ms ns : List ℕ) → Fill low mid ms → Fill mid high ns → Fill low high (ms ++ ns)
+fill_further low mid high ms ns x y =
+    let h = x.no_lower in
+    let k = y.no_lower in
+    let e : mid ≡ low + (mid - low) = omega (arith, h) in
+    let d : (mid - low) + (high - mid) ≡ high - low = omega (arith, h, k) in
     record {
-      ascend = (all_so (λ k. suc m ≤ k) (λ k. m < k) (λ k h. h) (numbers_from (suc m) n) r.above, r.ascend);
-      above = (omega arith, all_so (λ k. suc m ≤ k) (λ k. m ≤ k) (λ k h. omega (arith, h)) (numbers_from (suc m) n) r.above);
-      within = (omega arith, all_so (λ k. k < suc m + n) (λ k. k < m + suc n) (λ k h. omega (arith, h)) (numbers_from (suc m) n) r.within);
-      no_lower = omega arith;
+      are = ap (λ l. l ++ ns) x.are ∙ (ap (λ l. numbers_from low (mid - low) ++ l) (y.are ∙ ap (λ n. numbers_from n (high - mid)) e) ∙ (numbers_further low (mid - low) (high - mid) ∙ ap (numbers_from low) d));
+      no_lower = omega (arith, h, k);
     }
 
-between_at : (low high high' : ℕ) (ns : List ℕ) → high ≡ high' → AreBetween low high ns → AreBetween low high' ns
-between_at low high high' ns e b = subst (λ h. AreBetween low h ns) e b
+fill_at : (low high high' : ℕ) (ns : List ℕ) → high ≡ high' → Fill low high ns → Fill low high' ns
+fill_at low high high' ns e b = subst (λ h. Fill low h ns) e b
 
 -- how long the lists are after a command
 
@@ -132,15 +122,15 @@ grows_after s (command.SetClosure u until) b = record { boxes = omega arith; uni
 grows_after s (command.Move u parent) b = record { boxes = omega arith; units = omega arith }
 grows_after s (command.Remove u) b = record { boxes = omega arith; units = omega arith }
 
-same_between : (n m : ℕ) → m ≡ n → AreBetween n m []
-same_between n m e = nothing n m (omega (arith, e))
+same_between : (n m : ℕ) → m ≡ n → Fill n m []
+same_between = none_between
 
-counts_between : (n m : ℕ) → m ≡ n → AreBetween (suc n) (suc m) []
-counts_between n m e = nothing (suc n) (suc m) (omega (arith, e))
+counts_between : (n m : ℕ) → m ≡ n → Fill (suc n) (suc m) []
+counts_between n m e = none_between (suc n) (suc m) (ap suc e)
 
-tickets_after : (s : State) (asked : Command) → distinct s.catalogue.containers ≡ s.catalogue.containers → AreBetween (suc (length s.readers)) (suc (length (after s asked).readers)) (option_to_list (ticket_given asked (Ok (told s asked))))
+tickets_after : (s : State) (asked : Command) → distinct s.catalogue.containers ≡ s.catalogue.containers → Fill (suc (length s.readers)) (suc (length (after s asked).readers)) (option_to_list (ticket_given asked (Ok (told s asked))))
 tickets_after s (command.OpenDay day) b = same_between _ _ refl
-tickets_after s (command.Register name until) b = between_at _ _ _ _ (ap suc (sym (one_more s.readers _))) (next_one (suc (length s.readers)))
+tickets_after s (command.Register name until) b = fill_at _ _ _ _ (ap suc (sym (one_more s.readers _))) (next_one (suc (length s.readers)))
 tickets_after s (command.Renew t until) b = counts_between _ _ (length-renewed until s.readers t)
 tickets_after s (command.TakeSeat t) b = same_between _ _ refl
 tickets_after s (command.LeaveSeat t) b = same_between _ _ refl
@@ -158,13 +148,13 @@ tickets_after s (command.SetClosure u until) b = same_between _ _ refl
 tickets_after s (command.Move u parent) b = same_between _ _ refl
 tickets_after s (command.Remove u) b = same_between _ _ refl
 
-orders_after : (s : State) (asked : Command) → distinct s.catalogue.containers ≡ s.catalogue.containers → AreBetween (suc (length s.orders)) (suc (length (after s asked).orders)) (option_to_list (order_given asked (Ok (told s asked))))
+orders_after : (s : State) (asked : Command) → distinct s.catalogue.containers ≡ s.catalogue.containers → Fill (suc (length s.orders)) (suc (length (after s asked).orders)) (option_to_list (order_given asked (Ok (told s asked))))
 orders_after s (command.OpenDay day) b = same_between _ _ refl
 orders_after s (command.Register name until) b = same_between _ _ refl
 orders_after s (command.Renew t until) b = same_between _ _ refl
 orders_after s (command.TakeSeat t) b = same_between _ _ refl
 orders_after s (command.LeaveSeat t) b = same_between _ _ refl
-orders_after s (command.Order t c) b = between_at _ _ _ _ (ap suc (sym (one_more s.orders _))) (next_one (suc (length s.orders)))
+orders_after s (command.Order t c) b = fill_at _ _ _ _ (ap suc (sym (one_more s.orders _))) (next_one (suc (length s.orders)))
 orders_after s (command.Cancel o) b = counts_between _ _ (cancelled_same s o (container_of s o)).orders
 orders_after s command.Run b = same_between _ _ refl
 orders_after s command.Reshelve b = same_between _ _ refl
@@ -178,7 +168,7 @@ orders_after s (command.SetClosure u until) b = same_between _ _ refl
 orders_after s (command.Move u parent) b = same_between _ _ refl
 orders_after s (command.Remove u) b = same_between _ _ refl
 
-runs_after : (s : State) (asked : Command) → distinct s.catalogue.containers ≡ s.catalogue.containers → AreBetween (suc (length s.runs)) (suc (length (after s asked).runs)) (option_to_list (run_given asked (Ok (told s asked))))
+runs_after : (s : State) (asked : Command) → distinct s.catalogue.containers ≡ s.catalogue.containers → Fill (suc (length s.runs)) (suc (length (after s asked).runs)) (option_to_list (run_given asked (Ok (told s asked))))
 runs_after s (command.OpenDay day) b = same_between _ _ refl
 runs_after s (command.Register name until) b = same_between _ _ refl
 runs_after s (command.Renew t until) b = same_between _ _ refl
@@ -186,7 +176,7 @@ runs_after s (command.TakeSeat t) b = same_between _ _ refl
 runs_after s (command.LeaveSeat t) b = same_between _ _ refl
 runs_after s (command.Order t c) b = same_between _ _ refl
 runs_after s (command.Cancel o) b = counts_between _ _ (cancelled_same s o (container_of s o)).runs
-runs_after s command.Run b = between_at _ _ _ _ (ap suc (sym (one_more s.runs _))) (next_one (suc (length s.runs)))
+runs_after s command.Run b = fill_at _ _ _ _ (ap suc (sym (one_more s.runs _))) (next_one (suc (length s.runs)))
 runs_after s command.Reshelve b = same_between _ _ refl
 runs_after s (command.Issue c t) b = counts_between _ _ (issued_same s c (s.queue c)).runs
 runs_after s (command.Return c) b = counts_between _ _ (returned_same s c (s.place c)).runs
@@ -211,40 +201,37 @@ none_refused_r : (asked : Command) (why : Refusal) → run_given asked (Err why)
 none_refused_r command.Run why = refl
 none_refused_r _ why = refl
 
-refused_between : (n : ℕ) (o : Option ℕ) → o ≡ None → AreBetween n n (option_to_list o)
-refused_between n o e = subst (λ x. AreBetween n n (option_to_list x)) (sym e) (same_between n n refl)
+refused_between : (n : ℕ) (o : Option ℕ) → o ≡ None → Fill n n (option_to_list o)
+refused_between n o e = subst (λ x. Fill n n (option_to_list x)) (sym e) (same_between n n refl)
 
 step_grows : (s : State) (asked : Command) → distinct s.catalogue.containers ≡ s.catalogue.containers → Grows s (step s asked).0
 step_grows s asked b = step_at (λ t reply. Grows s t) s asked (λ why. record { boxes = omega arith; units = omega arith }) (λ ok. grows_after s asked b)
 
-range_between : (m n : ℕ) → m ≤ n → AreBetween m n (numbers_from m (n - m))
-range_between m n h = between_at _ _ _ _ (omega arith) (from_between m (n - m))
+range_between : (m n : ℕ) → m ≤ n → Fill m n (numbers_from m (n - m))
+range_between m n h = record { are = refl; no_lower = h }
 
-range_between_suc : (m n : ℕ) → m ≤ n → AreBetween (suc m) (suc n) (numbers_from (suc m) (n - m))
-range_between_suc m n h = between_at _ _ _ _ (omega arith) (from_between (suc m) (n - m))
+range_between_suc : (m n : ℕ) → m ≤ n → Fill (suc m) (suc n) (numbers_from (suc m) (n - m))
+range_between_suc m n h = let e : n - m ≡ suc n - suc m = omega arith in record { are = ap (numbers_from (suc m)) e; no_lower = omega (arith, h) }
 
-step_between : (kind : Kind) (s : State) (asked : Command) → distinct s.catalogue.containers ≡ s.catalogue.containers → AreBetween (next kind s) (next kind (step s asked).0) (given kind s asked)
-unfolding next
-step_between Tickets s asked b = step_at (λ t reply. AreBetween (suc (length s.readers)) (suc (length t.readers)) (option_to_list (ticket_given asked reply))) s asked (λ why. refused_between (suc (length s.readers)) _ (none_refused_t asked why)) (λ ok. tickets_after s asked b)
-step_between Orders s asked b = step_at (λ t reply. AreBetween (suc (length s.orders)) (suc (length t.orders)) (option_to_list (order_given asked reply))) s asked (λ why. refused_between (suc (length s.orders)) _ (none_refused_o asked why)) (λ ok. orders_after s asked b)
-step_between Runs s asked b = step_at (λ t reply. AreBetween (suc (length s.runs)) (suc (length t.runs)) (option_to_list (run_given asked reply))) s asked (λ why. refused_between (suc (length s.runs)) _ (none_refused_r asked why)) (λ ok. runs_after s asked b)
+step_between : (kind : Kind) (s : State) (asked : Command) → distinct s.catalogue.containers ≡ s.catalogue.containers → Fill (next_number kind s) (next_number kind (step s asked).0) (given kind s asked)
+step_between Tickets s asked b = step_at (λ t reply. Fill (suc (length s.readers)) (suc (length t.readers)) (option_to_list (ticket_given asked reply))) s asked (λ why. refused_between (suc (length s.readers)) _ (none_refused_t asked why)) (λ ok. tickets_after s asked b)
+step_between Orders s asked b = step_at (λ t reply. Fill (suc (length s.orders)) (suc (length t.orders)) (option_to_list (order_given asked reply))) s asked (λ why. refused_between (suc (length s.orders)) _ (none_refused_o asked why)) (λ ok. orders_after s asked b)
+step_between Runs s asked b = step_at (λ t reply. Fill (suc (length s.runs)) (suc (length t.runs)) (option_to_list (run_given asked reply))) s asked (λ why. refused_between (suc (length s.runs)) _ (none_refused_r asked why)) (λ ok. runs_after s asked b)
 step_between Containers s asked b = range_between_suc (length s.catalogue.containers) (length (step s asked).0.catalogue.containers) (step_grows s asked b).boxes
 step_between Units s asked b = range_between s.catalogue.next (step s asked).0.catalogue.next (step_grows s asked b).units
 
-given_above : (kind : Kind) (s : State) (later : List Command) (low : ℕ) → distinct s.catalogue.containers ≡ s.catalogue.containers → low ≤ next kind s → AllByRecursion (λ n. low ≤ n) (all_given kind s later)
-given_above kind s [] low b h = tt
-given_above kind s (asked ∷ later) low b h =
-    let x = step_between kind s asked b in
-    let up = x.no_lower in
-    all_append (λ n. low ≤ n) (given kind s asked) (all_given kind (step s asked).0 later)
-    (all_so (λ n. next kind s ≤ n) (λ n. low ≤ n) (λ n i. omega (arith, i, h)) (given kind s asked) x.above)
-    (given_above kind (step s asked).0 later low (step_apart s asked b) (omega (arith, up, h)))
+all_between : (kind : Kind) (s : State) (later : List Command) → distinct s.catalogue.containers ≡ s.catalogue.containers → Fill (next_number kind s) (next_number kind (state_after s later)) (all_given kind s later)
+all_between kind s [] b = none_between (next_number kind s) (next_number kind s) refl
+all_between kind s (asked ∷ later) b =
+    fill_further (next_number kind s) (next_number kind (step s asked).0) (next_number kind (state_after s (asked ∷ later))) (given kind s asked) (all_given kind (step s asked).0 later)
+    (step_between kind s asked b) (all_between kind (step s asked).0 later (step_apart s asked b))
 
-pub given_once : (kind : Kind) (s : State) (later : List Command) → distinct s.catalogue.containers ≡ s.catalogue.containers → IsAscending (all_given kind s later)
-given_once kind s [] b = tt
-given_once kind s (asked ∷ later) b =
-    let x = step_between kind s asked b in
-    let c = step_apart s asked b in
-    ascending-append (given kind s asked) (all_given kind (step s asked).0 later) (next kind (step s asked).0) x.ascend
-    (given_once kind (step s asked).0 later c) x.within
-    (given_above kind (step s asked).0 later (next kind (step s asked).0) c (omega arith))
+pub given_in_order : (kind : Kind) (s : State) (later : List Command) → distinct s.catalogue.containers ≡ s.catalogue.containers → GivenInOrder kind s later
+given_in_order kind s later b = (all_between kind s later b).are
+
+pub starts_at_one : (kind : Kind) → StartsAtOne kind
+starts_at_one Tickets settings day = refl
+starts_at_one Orders settings day = refl
+starts_at_one Runs settings day = refl
+starts_at_one Containers settings day = refl
+starts_at_one Units settings day = refl

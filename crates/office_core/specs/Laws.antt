@@ -63,56 +63,10 @@ OpenToHolders s = (c o : ℕ) → order_out (s.place c) ≡ Some o → (order : 
 
 -- ---- numbers
 
-pub data Kind : Type 0 where
-  Tickets : Kind
-  Orders : Kind
-  Runs : Kind
-  Containers : Kind
-  Units : Kind
-
 -- m and those after it, n in all
 abbrev pub numbers_from : ℕ → ℕ → List ℕ
 numbers_from m zero = []
 numbers_from m (suc n) = m ∷ numbers_from (suc m) n
-
-abbrev pub ticket_given : Command → Reply → Option ℕ
-ticket_given (command.Register name until) (Ok (done.Register t)) = Some t
-ticket_given _ _ = None
-
-abbrev pub order_given : Command → Reply → Option ℕ
-order_given (command.Order t c) (Ok (done.Order o)) = Some o
-order_given _ _ = None
-
-abbrev pub run_given : Command → Reply → Option ℕ
-run_given command.Run (Ok (done.Run n taken)) = Some n
-run_given _ _ = None
-
--- the numbers of a kind that a command gives: those of the reply, and those that containers and units get
-abbrev pub given : Kind → State → Command → List ℕ
-given Tickets s asked = option_to_list (ticket_given asked (step s asked).1)
-given Orders s asked = option_to_list (order_given asked (step s asked).1)
-given Runs s asked = option_to_list (run_given asked (step s asked).1)
-given Containers s asked =
-    numbers_from
-    (suc (length s.catalogue.containers))
-    (length (step s asked).0.catalogue.containers - length s.catalogue.containers)
-given Units s asked = numbers_from s.catalogue.next ((step s asked).0.catalogue.next - s.catalogue.next)
-
--- the numbers of a kind that a run of commands gives, one command after another
-abbrev pub all_given : Kind → State → List Command → List ℕ
-all_given kind s [] = []
-all_given kind s (asked ∷ later) = given kind s asked ++ all_given kind (step s asked).0 later
-
--- each unit that is there has a number that was given
-abbrev pub AreNumbered : State → Type 0
-AreNumbered s = (u : ℕ) → has_unit s.catalogue.forest u ≡ true → u < s.catalogue.next
-
--- a unit that comes has one of the numbers that the command gives
-abbrev pub ComesNew : State → State → Type 0
-ComesNew s t =
-    (u : ℕ)
-    → has_unit t.catalogue.forest u ≡ true
-    → (has_unit s.catalogue.forest u ≡ true) ⊎ ((s.catalogue.next ≤ u) × (u < t.catalogue.next))
 
 -- ---- an import that is done again
 

@@ -6,14 +6,16 @@ ghost use Rattle.std.specs.List.{AllByRecursion};
 ghost use Rattle.office_core.specs.declared.command.Command.{Command};
 ghost use Rattle.office_core.specs.State.{State, Settings, start};
 ghost use Rattle.office_core.specs.Rules.{step, state_after};
-ghost use Rattle.office_core.specs.SoundDesk.{IsSoundDesk, IsAscending};
+ghost use Rattle.office_core.specs.SoundDesk.{IsSoundDesk};
 ghost use Rattle.isad_core.specs.Days.{IsDayNumber};
 ghost use Rattle.tree_core.specs.Spans.{number};
 ghost use Rattle.office_core.specs.Soundness.{AreGoodDays, AreGoodSettings, IsSound, NamesDays};
 ghost use Rattle.office_core.specs.Imported.{ImportsBringTheNew, ImportsKeepTheCatalogue};
 ghost use Rattle.office_core.specs.Secrecy.{SamePublic, AnswersAlike, ShowsOnlyPublished};
 ghost use Rattle.office_core.specs.Laws.{OutApart, GoesOn, IssuesTheFirst, OpenToHolders};
-ghost use Rattle.office_core.specs.Laws.{ImportsAgain, Kind, all_given, ComesNew};
+ghost use Rattle.office_core.specs.Laws.{ImportsAgain};
+ghost use Rattle.office_core.specs.Numbers.{StaysNamed, Kind, GivenInOrder, StartsAtOne, NamesWhatCame};
+ghost use Rattle.office_core.specs.Numbers.{ComesNew, EachIsUnits};
 
 /// The reading room of a new office is sound, and it stays sound.
 pub fn desk_stays_sound()
@@ -43,10 +45,20 @@ pub fn open_to_holders()
     ensures { (s : State) (commands : List Command) → IsSoundDesk s → OpenToHolders (state_after s commands) }
 {}
 
-/// No number of a ticket, an order, a run, a container or a unit is given twice.
-pub fn given_once()
-    ensures { (kind : Kind) (s : State) (commands : List Command) → IsSoundDesk s →
-        IsAscending (all_given kind s commands) }
+/// What a number names, it goes on to name: containers, orders, runs, readers, and units as long as they are there.
+pub fn numbers_stay()
+    ensures { (s : State) (commands : List Command) → IsSoundDesk s → StaysNamed s (state_after s commands) }
+{}
+
+/// Numbers of tickets, orders, runs, containers and units are given from 1 on, in order, each once.
+pub fn given_in_order()
+    ensures first { (kind : Kind) → StartsAtOne kind }
+    ensures on { (kind : Kind) (s : State) (commands : List Command) → IsSoundDesk s → GivenInOrder kind s commands }
+{}
+
+/// The number that the reply tells is that of the reader, the order or the run that came.
+pub fn told_by_number()
+    ensures { (s : State) (asked : Command) → NamesWhatCame s (step s asked).0 asked (step s asked).1 }
 {}
 
 /// Two offices whose public parts are equal give equal answers to the public's questions.
@@ -64,9 +76,10 @@ pub fn imports_again()
     ensures { (s : State) → ImportsAgain s }
 {}
 
-/// A unit that comes with a command has one of the unit numbers that the command gives.
+/// A unit that comes with a command has one of the unit numbers that the command gives, and each of these is a unit's.
 pub fn units_come_new()
-    ensures { (s : State) (asked : Command) → ComesNew s (step s asked).0 }
+    ensures new { (s : State) (asked : Command) → ComesNew s (step s asked).0 }
+    ensures each { (s : State) (asked : Command) → IsSound s → EachIsUnits s (step s asked).0 }
 {}
 
 /// Every day that is kept stays a day of the calendar, where the commands name such days.

@@ -1,5 +1,9 @@
 use Rattle.office_core.proofs.Comes.{comes_new}
+use Rattle.office_core.proofs.NumbersGiven.{each_is_units}
 use Rattle.office_core.proofs.laws.units_come_new.Goals as goal
 
-pub returns : goal.returns
-returns c = comes_new
+pub returns-clause-new : goal.returns-clause-new
+returns-clause-new c = comes_new
+
+pub returns-clause-each : goal.returns-clause-each
+returns-clause-each c = each_is_units

@@ -1,0 +1,261 @@
+-- What a number names, it goes on to name.
+use Rattle.std.proofs.Common.{◌≡◌, ℕ, zero, suc, ◌+◌, ◌<◌, ◌≤◌, Bool, true, false, ◌&&◌, List, [], ◌∷◌, ◌++◌, Option, Some, None, Ok, Err, refl, sym, ap, ◌∙◌, subst, inl, inr, arith}
+use Rattle.std.specs.Prelude.{ℤ, cond, find, length, nat_eq, option_map, unwrap_or}
+use Rattle.std.specs.List.{list_any, AllByRecursion}
+use Rattle.std.specs.Str.{bytes_eq}
+use Rattle.std.proofs.lemmas.Bool.{false≢true, eqb-true, eq-eqb, or_cases, or_left, or_right, and_parts}
+use Rattle.isad_core.specs.Texts.{Bytes}
+use Rattle.isad_core.specs.declared.values.BoxKey.{BoxKey}
+use Rattle.isad_core.specs.Boxes.{distinct}
+use Rattle.atom_csv.specs.declared.file.Row.{Row}
+use Rattle.tree_core.specs.Forest.{Forest, nodes, each, has}
+use Rattle.desk_core.specs.declared.reader.Place.{Place}
+use Rattle.desk_core.specs.declared.reader.Place.TheVariants.{Shelf, Desk, Out}
+use Rattle.catalogue_core.specs.Units.{Unit, has_id, is_from}
+use Rattle.catalogue_core.specs.Merging.{Catalogue, New, numbered_from, new_unit, revised, merged_forest, has_legacy}
+use Rattle.catalogue_core.specs.Statuses.{is_chosen, chosen}
+use Rattle.catalogue_core.specs.Intake.{Intake, Taken}
+use Rattle.catalogue_core.proofs.ImportedAgain.{same_text, one_text, all_merged, all_each}
+use Rattle.catalogue_core.proofs.Imported.{new_rows, new_boxes, boxes_after, next_after, taken_is}
+use Rattle.catalogue_core.proofs.DistinctLists.{all_so}
+use Rattle.catalogue_core.proofs.EachAfter.{all_cut, all_moved}
+use Rattle.catalogue_core.proofs.GoodChanges.{KeepsUnits}
+use Rattle.catalogue_core.proofs.KeptUnits.{status_keeps, closure_keeps}
+use Rattle.catalogue_core.proofs.UnitsAfter.{ids_between}
+use Rattle.office_core.specs.declared.command.Command.{Command}
+use Rattle.office_core.specs.declared.command.Command.TheVariants as command
+use Rattle.office_core.specs.Words.{numbered}
+use Rattle.office_core.specs.State.{State, Reader, container_of}
+use Rattle.office_core.specs.Rules.{after, step, state_after, renewed, cancelled, issued, returned, imported, taken}
+use Rattle.office_core.specs.Numbers.{name_of, is_there, StaysNamed}
+use Rattle.office_core.proofs.Boxes.{step_apart}
+use Rattle.office_core.proofs.Extends.{numbered_kept}
+use Rattle.office_core.proofs.Steps.{step_at}
+
+-- ---- lists
+
+kept_behind : {X : Type 0} (xs ys : List X) (n : ℕ) (x : X) → numbered xs n ≡ Some x → numbered (xs ++ ys) n ≡ Some x
+kept_behind xs ys zero x e = absurd (cc)
+kept_behind [] ys (suc n) x e = absurd (cc)
+kept_behind (y ∷ xs) ys (suc zero) x e = e
+kept_behind (y ∷ xs) ys (suc (suc n)) x e = kept_behind xs ys (suc n) x e
+
+name_renewed : (until : ℤ) (rs : List Reader) (t n : ℕ) → option_map (λ (r : Reader). r.name) (numbered (renewed until rs t) n) ≡ option_map (λ (r : Reader). r.name) (numbered rs n)
+name_renewed until rs zero n = refl
+name_renewed until [] (suc t) n = refl
+name_renewed until (r ∷ rs) (suc zero) zero = refl
+name_renewed until (r ∷ rs) (suc zero) (suc zero) = refl
+name_renewed until (r ∷ rs) (suc zero) (suc (suc n)) = refl
+name_renewed until (r ∷ rs) (suc (suc t)) zero = refl
+name_renewed until (r ∷ rs) (suc (suc t)) (suc zero) = refl
+name_renewed until (r ∷ rs) (suc (suc t)) (suc (suc n)) = name_renewed until rs (suc t) (suc n)
+
+some_name : (o : Option Reader) (name : Bytes) → option_map (λ (r : Reader). r.name) o ≡ Some name → (reader : Reader) × (o ≡ Some reader) × (reader.name ≡ name)
+some_name None name e = absurd (cc)
+some_name (Some reader) name e = (reader, refl, cc)
+
+name_kept : (rs : List Reader) (new : Reader) (n : ℕ) (name : Bytes) → option_map (λ (r : Reader). r.name) (numbered rs n) ≡ Some name → option_map (λ (r : Reader). r.name) (numbered (rs ++ new ∷ []) n) ≡ Some name
+name_kept rs new n name e =
+    let it = some_name (numbered rs n) name e in
+    ap (option_map (λ (r : Reader). r.name)) (numbered_kept rs new it.0 n it.1) ∙ ap Some it.2
+
+-- ---- units
+
+abbrev is_unit : Unit → Unit → Bool
+is_unit unit other = has_id unit.id other && is_from unit.source unit.legacy other
+
+itself : (unit : Unit) → is_unit unit unit ≡ true
+itself unit = rw (eq-eqb unit.id unit.id refl, same_text unit.source, same_text unit.legacy) refl
+
+-- the same number, source and number in the source
+one_unit : (a b c : Unit) → is_unit a b ≡ true → is_unit b c ≡ true → is_unit a c ≡ true
+one_unit a b c e f =
+    let x = and_parts (has_id a.id b) (is_from a.source a.legacy b) e in
+    let y = and_parts (bytes_eq b.source a.source) (bytes_eq b.legacy a.legacy) x.1 in
+    let i = eqb-true a.id b.id x.0 in
+    let s = one_text b.source a.source y.0 in
+    let l = one_text b.legacy a.legacy y.1 in
+    subst (λ n. (nat_eq n c.id && (bytes_eq c.source a.source && bytes_eq c.legacy a.legacy)) ≡ true) (sym i)
+    (subst (λ t. (nat_eq b.id c.id && (bytes_eq c.source t && bytes_eq c.legacy a.legacy)) ≡ true) s
+    (subst (λ t. (nat_eq b.id c.id && (bytes_eq c.source b.source && bytes_eq c.legacy t)) ≡ true) l f))
+
+-- units that are in the list, told one by one
+each_itself : (us all : List Unit) → ((p : Unit → Bool) → list_any p us ≡ true → list_any p all ≡ true) → AllByRecursion (λ unit. list_any (is_unit unit) all ≡ true) us
+each_itself [] all f = tt
+each_itself (u ∷ us) all f = (f (is_unit u) (or_left (is_unit u u) (list_any (is_unit u) us) (itself u)), each_itself us all (λ p h. f p (or_right (p u) (list_any p us) h)))
+
+abbrev WasThere : State → Unit → Type 0
+WasThere s unit = unit.id < s.catalogue.next → is_there s.catalogue.forest unit ≡ true
+
+there_already : (s : State) → AllByRecursion (λ unit. is_there s.catalogue.forest unit ≡ true) (nodes s.catalogue.forest)
+there_already s = each_itself (nodes s.catalogue.forest) (nodes s.catalogue.forest) (λ p h. h)
+
+units_stay : (s : State) → AllByRecursion (WasThere s) (nodes s.catalogue.forest)
+units_stay s = all_so (λ unit. is_there s.catalogue.forest unit ≡ true) (WasThere s) (λ unit h l. h) (nodes s.catalogue.forest) (there_already s)
+
+-- a unit that was there, of which number, source and number there are kept
+kept_there : (f : Forest Unit) (old new : Unit) → new.id ≡ old.id → new.source ≡ old.source → new.legacy ≡ old.legacy → is_there f old ≡ true → is_there f new ≡ true
+kept_there f old new i s l h =
+    subst (λ n. has (λ (other : Unit). has_id n other && is_from new.source new.legacy other) f ≡ true) (sym i)
+    (subst (λ t. has (λ (other : Unit). has_id old.id other && is_from t new.legacy other) f ≡ true) (sym s)
+    (subst (λ t. has (λ (other : Unit). has_id old.id other && is_from old.source t other) f ≡ true) (sym l) h))
+
+each_stay : (s : State) (g : Unit → Unit) → KeepsUnits g → AllByRecursion (WasThere s) (nodes (each g s.catalogue.forest))
+each_stay s g k =
+    all_each (WasThere s) g s.catalogue.forest
+    (all_so (λ unit. is_there s.catalogue.forest unit ≡ true) (λ unit. WasThere s (g unit)) (λ unit h l. kept_there s.catalogue.forest unit (g unit) (k.id unit) (k.source unit) (k.legacy unit) h) (nodes s.catalogue.forest) (there_already s))
+
+revised_keeps : (source : Bytes) (rows : List Row) (u : Unit) → ((revised source rows u).id ≡ u.id) × ((revised source rows u).source ≡ u.source) × ((revised source rows u).legacy ≡ u.legacy)
+revised_keeps source rows u = at (bytes_eq u.source source)
+  where
+    at : (b : Bool) → let r = cond b (record u { values = unwrap_or (option_map (λ row. row.values) (find (has_legacy u.legacy) rows)) u.values }) u in (r.id ≡ u.id) × (r.source ≡ u.source) × (r.legacy ≡ u.legacy)
+    at true = (refl, refl, refl)
+    at false = (refl, refl, refl)
+
+merged_stay : (s : State) (source : Bytes) (rows : List Row) → AllByRecursion (WasThere s) (nodes (merged_forest source rows (numbered_from s.catalogue.forest source s.catalogue.next [] (new_rows s.catalogue source rows)) s.catalogue.forest))
+merged_stay s source rows =
+    let new : List New = numbered_from s.catalogue.forest source s.catalogue.next [] (new_rows s.catalogue source rows) in
+    all_merged (WasThere s) source rows new s.catalogue.forest
+    (all_so (λ x. (s.catalogue.next ≤ x.id) × (x.id < s.catalogue.next + length new)) (λ x. WasThere s (new_unit source x)) (λ x h l. absurd (let a = h.0 in omega (arith, a, l))) new (ids_between s.catalogue.forest source s.catalogue.next [] (new_rows s.catalogue source rows)))
+    (all_so (λ unit. is_there s.catalogue.forest unit ≡ true) (λ unit. WasThere s (revised source rows unit)) (λ unit h l. let k = revised_keeps source rows unit in kept_there s.catalogue.forest unit (revised source rows unit) k.0 k.1 k.2 h) (nodes s.catalogue.forest) (there_already s))
+
+-- ---- one command
+
+same_named : (s t : State) → t.readers ≡ s.readers → t.orders ≡ s.orders → t.runs ≡ s.runs → t.catalogue ≡ s.catalogue → StaysNamed s t
+same_named s t er eo en ec =
+    record {
+      containers = λ c box. subst (λ (k : Catalogue). numbered s.catalogue.containers c ≡ Some box → numbered k.containers c ≡ Some box) (sym ec) (λ h. h);
+      orders = λ o order. subst (λ os. numbered s.orders o ≡ Some order → numbered os o ≡ Some order) (sym eo) (λ h. h);
+      runs = λ n run. subst (λ rs. numbered s.runs n ≡ Some run → numbered rs n ≡ Some run) (sym en) (λ h. h);
+      readers = λ r name. subst (λ rs. name_of s r ≡ Some name → option_map (λ (reader : Reader). reader.name) (numbered rs r) ≡ Some name) (sym er) (λ h. h);
+      units = subst (λ (k : Catalogue). AllByRecursion (WasThere s) (nodes k.forest)) (sym ec) (units_stay s);
+      next = subst (λ (k : Catalogue). s.catalogue.next ≤ k.next) (sym ec) (omega arith);
+    }
+
+pub itself_named : (s : State) → StaysNamed s s
+itself_named s = same_named s s refl refl refl refl
+
+forest_named : (s : State) (f : Forest Unit) → AllByRecursion (WasThere s) (nodes f) → StaysNamed s (record s { catalogue = record s.catalogue { forest = f } })
+forest_named s f u = record { containers = λ c box h. h; orders = λ o order h. h; runs = λ n run h. h; readers = λ r name h. h; units = u; next = omega arith }
+
+cancelled_named : (s : State) (o : ℕ) (k : Option ℕ) → StaysNamed s (cancelled s o k)
+cancelled_named s o None = itself_named s
+cancelled_named s o (Some c) = same_named s (cancelled s o (Some c)) refl refl refl refl
+
+issued_named : (s : State) (c : ℕ) (q : List ℕ) → StaysNamed s (issued s c q)
+issued_named s c [] = itself_named s
+issued_named s c (o ∷ os) = same_named s (issued s c (o ∷ os)) refl refl refl refl
+
+returned_named : (s : State) (c : ℕ) (p : Place) → StaysNamed s (returned s c p)
+returned_named s c Shelf = itself_named s
+returned_named s c Desk = itself_named s
+returned_named s c (Out o) = same_named s (returned s c (Out o)) refl refl refl refl
+
+imported_named : (s : State) (source file : Bytes) (t : Taken) → taken s source file ≡ t → distinct s.catalogue.containers ≡ s.catalogue.containers → StaysNamed s (imported s t)
+imported_named s source file (Err fault) e b = itself_named s
+imported_named s source file (Ok intake) e b =
+    let boxes = boxes_after s.catalogue source file intake e b in
+    record {
+      containers = λ c box h. subst (λ bs. numbered bs c ≡ Some box) (sym boxes) (kept_behind s.catalogue.containers (new_boxes s.catalogue.containers intake.file.rows) c box h);
+      orders = λ o order h. h;
+      runs = λ n run h. h;
+      readers = λ r name h. h;
+      units = subst (λ (k : Catalogue). AllByRecursion (WasThere s) (nodes k.forest)) (sym (taken_is s.catalogue source file intake e).is) (merged_stay s source intake.file.rows);
+      next = next_after s.catalogue source file intake e;
+    }
+
+named_after : (s : State) (asked : Command) → distinct s.catalogue.containers ≡ s.catalogue.containers → StaysNamed s (after s asked)
+named_after s (command.Import source file) b = imported_named s source file (taken s source file) refl b
+named_after s (command.SetStatus u draft whole) b = forest_named s _ (each_stay s _ (status_keeps (chosen whole u s.catalogue) draft))
+named_after s (command.SetClosure u until) b = forest_named s _ (each_stay s _ (closure_keeps until u))
+named_after s (command.Move u parent) b = forest_named s _ (all_moved (WasThere s) u parent s.catalogue.forest (units_stay s))
+named_after s (command.Remove u) b =
+    record {
+      containers = λ c box h. h;
+      orders = λ o order h. h;
+      runs = λ n run h. h;
+      readers = λ r name h. h;
+      units = all_cut (WasThere s) (has_id u) s.catalogue.forest (units_stay s);
+      next = omega arith;
+    }
+named_after s (command.Register name until) b =
+    record {
+      containers = λ c box h. h;
+      orders = λ o order h. h;
+      runs = λ n run h. h;
+      readers = λ r known h. name_kept s.readers (record { name = name; until = until }) r known h;
+      units = units_stay s;
+      next = omega arith;
+    }
+named_after s (command.Renew t until) b =
+    record {
+      containers = λ c box h. h;
+      orders = λ o order h. h;
+      runs = λ n run h. h;
+      readers = λ r name h. name_renewed until s.readers t r ∙ h;
+      units = units_stay s;
+      next = omega arith;
+    }
+named_after s (command.Order t c) b =
+    record {
+      containers = λ c box h. h;
+      orders = λ o order h. kept_behind s.orders _ o order h;
+      runs = λ n run h. h;
+      readers = λ r name h. h;
+      units = units_stay s;
+      next = omega arith;
+    }
+named_after s command.Run b =
+    record {
+      containers = λ c box h. h;
+      orders = λ o order h. h;
+      runs = λ n run h. kept_behind s.runs _ n run h;
+      readers = λ r name h. h;
+      units = units_stay s;
+      next = omega arith;
+    }
+named_after s (command.Cancel o) b = cancelled_named s o (container_of s o)
+named_after s (command.Issue c t) b = issued_named s c (s.queue c)
+named_after s (command.Return c) b = returned_named s c (s.place c)
+named_after s (command.OpenDay day) b = same_named s (after s (command.OpenDay day)) refl refl refl refl
+named_after s (command.TakeSeat t) b = same_named s (after s (command.TakeSeat t)) refl refl refl refl
+named_after s (command.LeaveSeat t) b = same_named s (after s (command.LeaveSeat t)) refl refl refl refl
+named_after s command.Reshelve b = same_named s (after s command.Reshelve) refl refl refl refl
+named_after s (command.Permit t u until) b = same_named s (after s (command.Permit t u until)) refl refl refl refl
+named_after s (command.Revoke t u) b = same_named s (after s (command.Revoke t u)) refl refl refl refl
+
+step_named : (s : State) (asked : Command) → distinct s.catalogue.containers ≡ s.catalogue.containers → StaysNamed s (step s asked).0
+step_named s asked b = step_at (λ t reply. StaysNamed s t) s asked (λ why. itself_named s) (λ ok. named_after s asked b)
+
+-- ---- one command after another
+
+-- a unit of the last state is that of the first
+was_there : (s t : State) (unit : Unit) → s.catalogue.next ≤ t.catalogue.next → unit.id < s.catalogue.next → (us : List Unit) → AllByRecursion (WasThere s) us → list_any (is_unit unit) us ≡ true → is_there s.catalogue.forest unit ≡ true
+was_there s t unit n l [] a h = absurd (false≢true h)
+was_there s t unit n l (u ∷ us) a h =
+    elim (or_cases (is_unit unit u) (list_any (is_unit unit) us) h) [
+      | inl e ↦
+          let x = and_parts (has_id unit.id u) (is_from unit.source unit.legacy u) e in
+          let y = and_parts (bytes_eq u.source unit.source) (bytes_eq u.legacy unit.legacy) x.1 in
+          let i = eqb-true unit.id u.id x.0 in
+          kept_there s.catalogue.forest u unit i (sym (one_text u.source unit.source y.0)) (sym (one_text u.legacy unit.legacy y.1)) (a.0 (omega (arith, i, l)))
+      | inr r ↦ was_there s t unit n l us a.1 r
+    ]
+
+pub named_further : (s t v : State) → StaysNamed s t → StaysNamed t v → StaysNamed s v
+named_further s t v x y =
+    let n = x.next in
+    let m = y.next in
+    record {
+      containers = λ c box h. y.containers c box (x.containers c box h);
+      orders = λ o order h. y.orders o order (x.orders o order h);
+      runs = λ k run h. y.runs k run (x.runs k run h);
+      readers = λ r name h. y.readers r name (x.readers r name h);
+      units = all_so (WasThere t) (WasThere s) (λ unit h l. was_there s t unit n l (nodes t.catalogue.forest) x.units (h (omega (arith, n, l)))) (nodes v.catalogue.forest) y.units;
+      next = omega (arith, n, m);
+    }
+
+pub stays_named : (s : State) (later : List Command) → distinct s.catalogue.containers ≡ s.catalogue.containers → StaysNamed s (state_after s later)
+stays_named s [] b = itself_named s
+stays_named s (asked ∷ later) b =
+    named_further s (step s asked).0 (state_after s (asked ∷ later)) (step_named s asked b) (stays_named (step s asked).0 later (step_apart s asked b))

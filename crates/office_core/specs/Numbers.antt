@@ -1,0 +1,114 @@
+-- What numbers name, and which are given.
+use Rattle.std.specs.Prelude.{◌≡◌, ℕ, ℤ, zero, suc, ◌-◌, ◌<◌, ◌≤◌, Bool, true, ◌&&◌, List, [], ◌∷◌, ◌++◌, length, Option, Some, None, Ok, option_map, option_to_list, ◌⊎◌}
+use Rattle.std.specs.List.{AllByRecursion}
+use Rattle.isad_core.specs.Texts.{Bytes}
+use Rattle.isad_core.specs.declared.values.BoxKey.{BoxKey}
+use Rattle.tree_core.specs.Forest.{Forest, nodes, has}
+use Rattle.catalogue_core.specs.Units.{Unit, has_id, is_from}
+use Rattle.catalogue_core.specs.Finding.{has_unit}
+use Rattle.office_core.specs.Words.{numbered}
+use Rattle.office_core.specs.State.{Reader, Order, Run, State, Settings, start, next_run}
+use Rattle.office_core.specs.declared.command.Command.{Command}
+use Rattle.office_core.specs.declared.command.Command.TheVariants as command
+use Rattle.office_core.specs.declared.done.Done.TheVariants as done
+use Rattle.office_core.specs.Rules.{Reply, step, state_after}
+use Rattle.office_core.specs.Laws.{numbers_from}
+
+-- ---- what a number names
+
+-- the name of the reader with this ticket
+abbrev pub name_of : State → ℕ → Option Bytes
+name_of s t = option_map (λ (reader : Reader). reader.name) (numbered s.readers t)
+
+-- a unit with this one's number, source and number in the source is there
+abbrev pub is_there : Forest Unit → Unit → Bool
+is_there f unit = has (λ (other : Unit). has_id unit.id other && is_from unit.source unit.legacy other) f
+
+-- What a number names in s, it names in t: a container with its name, location and kind, an order of that ticket for that
+-- container from that day, a run of that day with its lines, and a reader with that name. A unit of t whose number was given in s
+-- is that unit of s, from the same source, with the same number there.
+pub record StaysNamed (s t : State) : Type 0 where
+  pub containers : (c : ℕ) (box : BoxKey) → numbered s.catalogue.containers c ≡ Some box → numbered t.catalogue.containers c ≡ Some box
+  pub orders : (o : ℕ) (order : Order) → numbered s.orders o ≡ Some order → numbered t.orders o ≡ Some order
+  pub runs : (n : ℕ) (run : Run) → numbered s.runs n ≡ Some run → numbered t.runs n ≡ Some run
+  pub readers : (r : ℕ) (name : Bytes) → name_of s r ≡ Some name → name_of t r ≡ Some name
+  pub units : AllByRecursion (λ (unit : Unit). unit.id < s.catalogue.next → is_there s.catalogue.forest unit ≡ true) (nodes t.catalogue.forest)
+  -- a unit's number that was given stays given
+  pub next : s.catalogue.next ≤ t.catalogue.next
+
+-- ---- which numbers are given
+
+pub data Kind : Type 0 where
+  Tickets : Kind
+  Orders : Kind
+  Runs : Kind
+  Containers : Kind
+  Units : Kind
+
+-- the number that is given next
+abbrev pub next_number : Kind → State → ℕ
+next_number Tickets s = suc (length s.readers)
+next_number Orders s = suc (length s.orders)
+next_number Runs s = suc (length s.runs)
+next_number Containers s = suc (length s.catalogue.containers)
+next_number Units s = s.catalogue.next
+
+abbrev pub ticket_given : Command → Reply → Option ℕ
+ticket_given (command.Register name until) (Ok (done.Register t)) = Some t
+ticket_given _ _ = None
+
+abbrev pub order_given : Command → Reply → Option ℕ
+order_given (command.Order t c) (Ok (done.Order o)) = Some o
+order_given _ _ = None
+
+abbrev pub run_given : Command → Reply → Option ℕ
+run_given command.Run (Ok (done.Run n taken)) = Some n
+run_given _ _ = None
+
+-- the numbers of a kind that a command gives: those of the reply, and those that containers and units get
+abbrev pub given : Kind → State → Command → List ℕ
+given Tickets s asked = option_to_list (ticket_given asked (step s asked).1)
+given Orders s asked = option_to_list (order_given asked (step s asked).1)
+given Runs s asked = option_to_list (run_given asked (step s asked).1)
+given Containers s asked =
+    numbers_from
+    (suc (length s.catalogue.containers))
+    (length (step s asked).0.catalogue.containers - length s.catalogue.containers)
+given Units s asked = numbers_from s.catalogue.next ((step s asked).0.catalogue.next - s.catalogue.next)
+
+-- the numbers of a kind that a run of commands gives, one command after another
+abbrev pub all_given : Kind → State → List Command → List ℕ
+all_given kind s [] = []
+all_given kind s (asked ∷ later) = given kind s asked ++ all_given kind (step s asked).0 later
+
+-- They are the next ones, each once, in their order: no number is left out or given twice.
+abbrev pub GivenInOrder : Kind → State → List Command → Type 0
+GivenInOrder kind s commands =
+    all_given kind s commands
+    ≡ numbers_from (next_number kind s) (next_number kind (state_after s commands) - next_number kind s)
+
+-- The first number of each kind is 1.
+abbrev pub StartsAtOne : Kind → Type 0
+StartsAtOne kind = (settings : Settings) (day : ℤ) → next_number kind (start settings day) ≡ 1
+
+-- ---- what a number is given to
+
+-- The number that is told is that of the reader, the order or the run that came.
+abbrev pub NamesWhatCame : State → State → Command → Reply → Type 0
+NamesWhatCame s t (command.Register name until) (Ok (done.Register r)) =
+    numbered t.readers r ≡ Some (record { name = name; until = until })
+NamesWhatCame s t (command.Order ticket c) (Ok (done.Order o)) =
+    numbered t.orders o ≡ Some (record { ticket = ticket; container = c; day = s.day })
+NamesWhatCame s t command.Run (Ok (done.Run n taken)) = numbered t.runs n ≡ Some (next_run s)
+NamesWhatCame s t _ _ = Prim.Unit {0}
+
+-- a unit that comes has one of the numbers that the command gives
+abbrev pub ComesNew : State → State → Type 0
+ComesNew s t =
+    (u : ℕ)
+    → has_unit t.catalogue.forest u ≡ true
+    → (has_unit s.catalogue.forest u ≡ true) ⊎ ((s.catalogue.next ≤ u) × (u < t.catalogue.next))
+
+-- each unit number that a command gives is the number of a unit
+abbrev pub EachIsUnits : State → State → Type 0
+EachIsUnits s t = (u : ℕ) → s.catalogue.next ≤ u → u < t.catalogue.next → has_unit t.catalogue.forest u ≡ true
