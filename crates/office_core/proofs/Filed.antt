@@ -7,13 +7,14 @@ use Rattle.std.proofs.lemmas.Bool.{eqb-true, cases_eq, false≢true, and_parts, 
 use Rattle.office_core.specs.Words.{numbered, numbers_to, some_and, stands, without, first, is_empty}
 use Rattle.desk_core.specs.declared.reader.Place.TheVariants.{Shelf, Desk, Out}
 use Rattle.desk_core.specs.declared.reader.Place.{Place}
-use Rattle.office_core.specs.State.{State, Order, Line, Run, End, Done, Cancelled, container_of, order_out, is_shelf, is_desk, waits, is_due, picked, line_for, next_run, brings, is_idle, idle, containers, opens}
+use Rattle.office_core.specs.State.{State, Order, Line, Run, End, Done, Cancelled, container_of, order_out, is_shelf, is_desk, waits, is_due, picked, line_for, is_line_before, next_run, brings, is_idle, idle, containers, opens}
 use Rattle.office_core.specs.declared.command.Command.{Command}
 use Rattle.office_core.specs.declared.command.Command.TheVariants as command
 use Rattle.office_core.specs.Rules.{checks, after, ordered, cancelled, fetched, reshelved, issued, returned, state_after, imported, taken}
 use Rattle.catalogue_core.specs.Intake.{Taken}
 use Rattle.office_core.specs.SoundDesk.{ExactlyOne, IsFiled, is_out_for, IsAscending, AreFiled}
 use Rattle.office_core.proofs.Words.{same_number, other_number, put_here, put_there, put_each, stands-push, stands-without_other, stands-without_same, below_none, ascending-without, ascending-push, all_from_stands, numbered_within, numbered-push, numbered-push_last, numbered_past}
+use Rattle.office_core.proofs.LineOrder.{any-in_order}
 use Rattle.office_core.proofs.Steps.{held_so, Passes, run_keeps}
 
 -- One order, by where it stands
@@ -333,7 +334,7 @@ desk_in_house Desk e = refl
 desk_in_house (Out o) e = absurd (false≢true e)
 
 pub fetched_out : (s : State) (c : ℕ) → order_out ((fetched s).place c) ≡ order_out (s.place c)
-fetched_out s c = in_house (brings (next_run s) c) (s.place c) Desk refl (λ b. shelf_in_house (s.place c) (brings_from_shelf s c (picked s) (picked_due s) b))
+fetched_out s c = in_house (brings (next_run s) c) (s.place c) Desk refl (λ b. shelf_in_house (s.place c) (brings_from_shelf s c (picked s) (picked_due s) (sym (any-in_order is_line_before (λ line. nat_eq line.container c) (filter_map (line_for s) (picked s))) ∙ b)))
 
 pub reshelved_out : (s : State) (c : ℕ) → order_out ((reshelved s).place c) ≡ order_out (s.place c)
 reshelved_out s c =

@@ -55,7 +55,7 @@ desk_with s n d =
         known = d.places.known;
       };
       runs = record {
-        each = λ k run e. (let g = d.runs.each k run e in record { day = g.day; some = g.some; few = g.few; apart = g.apart; lines = all_so (IsGoodLine s) (IsGoodLine (with_next n s)) (λ line l. record { order = l.order; ticket = l.ticket }) run.lines g.lines });
+        each = λ k run e. (let g = d.runs.each k run e in record { day = g.day; some = g.some; few = g.few; by_container = g.by_container; lines = all_so (IsGoodLine s) (IsGoodLine (with_next n s)) (λ line l. record { order = l.order; ticket = l.ticket }) run.lines g.lines });
         few = d.runs.few;
       };
       readers = record { names = d.readers.names; few = d.readers.few };

@@ -6,6 +6,7 @@ pub mod Words
 pub mod Filed
 pub mod Extends
 pub mod Seats
+pub mod LineOrder
 pub mod RunLines
 pub mod Readers
 pub mod Opening

@@ -1,10 +1,9 @@
 -- Equal public parts give equal public answers.
-use Rattle.std.proofs.Common.{◌≡◌, ℕ, ◌+◌, cond, List, [], ◌∷◌, ◌++◌, ap, ◌∙◌}
+use Rattle.std.proofs.Common.{◌≡◌, ℕ, cond, List, [], ◌∷◌, ◌++◌, ap, ◌∙◌}
 use Rattle.std.specs.Prelude.{decimal}
 use Rattle.std.specs.List.{flat_map}
 use Rattle.isad_core.specs.Printed.{aid, head_line, line}
 use Rattle.isad_core.specs.declared.shown.Shown.{Shown}
-use Rattle.isad_core.specs.declared.shown.Page.{Page}
 use Rattle.isad_core.specs.declared.values.BoxKey.{BoxKey}
 use Rattle.tree_core.specs.Forest.{Forest, nodes, has, path, tree}
 use Rattle.catalogue_core.specs.Publishing.{PublicUnit}

@@ -9,13 +9,14 @@ use Rattle.catalogue_core.specs.Housing.{is_open}
 use Rattle.isad_core.specs.Boxes.{distinct}
 use Rattle.desk_core.specs.declared.reader.Place.TheVariants.{Shelf, Desk, Out}
 use Rattle.desk_core.specs.declared.reader.Place.{Place}
-use Rattle.office_core.specs.State.{State, Permit, is_permitted, is_seat_of, Order, Line, Run, is_seated, containers, is_container, opens, container_of, is_by, order_out, is_out, is_out_with, held, picked, line_for, next_run, brings, idle, granted}
+use Rattle.office_core.specs.State.{State, Permit, is_permitted, is_seat_of, Order, Line, Run, is_seated, containers, is_container, opens, container_of, is_by, order_out, is_out, is_out_with, held, picked, line_for, is_line_before, next_run, brings, idle, granted}
 use Rattle.office_core.specs.declared.command.Command.{Command}
 use Rattle.office_core.specs.declared.command.Command.TheVariants as command
 use Rattle.office_core.specs.Rules.{is_kept_from_holder, kept, checks, after, ordered, cancelled, fetched, reshelved, issued, returned, imported, taken}
 use Rattle.catalogue_core.specs.Intake.{Taken}
 use Rattle.office_core.specs.SoundDesk.{is_out_for, AreFiled, AreGoodOrders, IsGoodHolder, AreGoodPlaces}
 use Rattle.office_core.proofs.Words.{same_number, put_here, put_there, put_each, numbered_within}
+use Rattle.office_core.proofs.LineOrder.{any-in_order}
 use Rattle.office_core.proofs.Steps.{held_so, held_not, passes_gate, Passes}
 use Rattle.office_core.proofs.Filed.{out_with, fetched_out, reshelved_out}
 use Rattle.office_core.proofs.Extends.{Extends, extends_after}
@@ -109,7 +110,7 @@ brings_order s c (o ∷ os) e = brought s c o (numbered s.orders o) (filter_map 
 
 fetched_known : (s : State) (c : ℕ) (b : Bool) → brings (next_run s) c ≡ b → AreGoodOrders s → AreGoodPlaces s → is_container s c ≡ false → cond b Desk (s.place c) ≡ Shelf
 fetched_known s c true e f g h =
-    let x = brings_order s c (picked s) e in
+    let x = brings_order s c (picked s) (sym (any-in_order is_line_before (λ line. nat_eq line.container c) (filter_map (line_for s) (picked s))) ∙ e) in
     absurd (false≢true (sym h ∙ subst (λ k. is_container s k ≡ true) x.3 (f.each x.0 x.1 x.2).container))
 fetched_known s c false e f g h = g.known c h
 

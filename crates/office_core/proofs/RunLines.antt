@@ -6,7 +6,7 @@ use Rattle.std.proofs.lemmas.Bool.{eqb-true, leb-false, cases_eq, false≢true, 
 use Rattle.office_core.specs.Words.{numbered, numbers_to, some_and, first, is_empty}
 use Rattle.desk_core.specs.declared.reader.Place.TheVariants.{Shelf, Desk, Out}
 use Rattle.desk_core.specs.declared.reader.Place.{Place}
-use Rattle.office_core.specs.State.{State, Order, Line, Run, container_of, is_shelf, opens, is_due, picked, line_for, next_run}
+use Rattle.office_core.specs.State.{State, Order, Line, Run, container_of, is_shelf, opens, is_due, picked, line_for, is_line_before, next_run}
 use Rattle.office_core.specs.declared.command.Command.{Command}
 use Rattle.office_core.specs.declared.command.Command.TheVariants as command
 use Rattle.isad_core.specs.Limits.{most_runs}
@@ -14,7 +14,8 @@ use Rattle.office_core.specs.Rules.{checks, after, fetched, cancelled, issued, r
 use Rattle.isad_core.specs.Boxes.{distinct}
 use Rattle.catalogue_core.proofs.DistinctLists.{all_so}
 use Rattle.catalogue_core.specs.Intake.{Taken}
-use Rattle.office_core.specs.SoundDesk.{IsAscending, IsGoodLine, AreApart, IsGoodRun, AreGoodRuns}
+use Rattle.office_core.specs.SoundDesk.{IsAscending, IsGoodLine, IsGoodRun, AreGoodRuns}
+use Rattle.office_core.proofs.LineOrder.{AreApart, all-in_order, length-in_order, by_container-in_order}
 use Rattle.office_core.proofs.Words.{same_number, all-push, ascending-push, numbered-push, numbered-push_last}
 use Rattle.office_core.proofs.Steps.{held_not, Passes}
 use Rattle.office_core.proofs.Filed.{all_taken, picked_due}
@@ -129,7 +130,7 @@ good_run s t run e g =
       day = no_later_than run.day s.day t.day a b;
       some = g.some;
       few = subst (λ settings. length run.lines ≤ settings.run_size) (sym e.settings) g.few;
-      apart = g.apart;
+      by_container = g.by_container;
       lines = all_so (IsGoodLine s) (IsGoodLine t) (λ l h. good_line s t l e h) run.lines g.lines;
     }
 
@@ -143,15 +144,16 @@ runs_same s t e er g =
 run_good : (s : State) → is_empty (picked s) ≡ false → IsGoodRun (fetched s) (next_run s)
 run_good s some =
     let all = picked_due s in
-    let n = count_lines s (picked s) all in
+    let lines = filter_map (line_for s) (picked s) in
+    let n = length-in_order is_line_before lines ∙ count_lines s (picked s) all in
     let one = not_empty (picked s) some in
     let most = length-take s.settings.run_size (filter (is_due s) (numbers_to (length s.orders))) in
     record {
       day = same_day s.day;
       some = omega (arith, n, one);
       few = omega (arith, n, most);
-      apart = apart_lines s (picked s) all (ascending_picked s);
-      lines = all_so (IsGoodLine s) (IsGoodLine (fetched s)) (λ l h. record { order = h.order; ticket = h.ticket }) (next_run s).lines (good_lines s (picked s) all);
+      by_container = by_container-in_order lines (apart_lines s (picked s) all (ascending_picked s));
+      lines = all_so (IsGoodLine s) (IsGoodLine (fetched s)) (λ l h. record { order = h.order; ticket = h.ticket }) (next_run s).lines (all-in_order is_line_before (IsGoodLine s) lines (good_lines s (picked s) all));
     }
 
 fetched_runs : (s : State) → Extends s (fetched s) → is_empty (picked s) ≡ false → length s.runs < most_runs → AreGoodRuns s → AreGoodRuns (fetched s)

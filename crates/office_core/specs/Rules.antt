@@ -1,5 +1,5 @@
 -- The rules of the office: what each command asks for, in order, what it does, and what is told of it.
-use Rattle.std.specs.Prelude.{option_map, ℕ, ℤ, int_lt, zero, suc, ◌+◌, Bool, not, ◌&&◌, cond, List, [], ◌∷◌, ◌++◌, length, filter, replicate, Option, Some, None, Result, Ok, Err, unwrap_or, is_some, nat_eq, nat_lt, nat_le}
+use Rattle.std.specs.Prelude.{option_map, ℕ, ℤ, int_lt, zero, suc, Bool, not, ◌&&◌, cond, List, [], ◌∷◌, ◌++◌, length, filter, replicate, Option, Some, None, Result, Ok, Err, unwrap_or, is_some, nat_eq, nat_lt, nat_le}
 use Rattle.std.specs.List.{list_any, list_all}
 use Rattle.isad_core.specs.Limits.{most_deep, most_tickets, most_runs, most_permits}
 use Rattle.isad_core.specs.Texts.{Bytes, is_blank_text}

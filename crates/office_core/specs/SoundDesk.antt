@@ -87,15 +87,16 @@ pub record IsGoodLine (s : State) (line : Line) : Type 0 where
   pub order : container_of s line.order ≡ Some line.container
   pub ticket : is_by s line.ticket line.order ≡ true
 
-abbrev pub AreApart : List Line → Type 0
-AreApart [] = Unit {0}
-AreApart (line ∷ lines) = AllByRecursion (λ other. line.container ≢ other.container) lines × AreApart lines
+-- each container once, in the order of their numbers
+abbrev pub ByContainer : List Line → Type 0
+ByContainer [] = Unit {0}
+ByContainer (line ∷ lines) = AllByRecursion (λ other. line.container < other.container) lines × ByContainer lines
 
 pub record IsGoodRun (s : State) (run : Run) : Type 0 where
   pub day : run.day ≤ℤ s.day
   pub some : 1 ≤ length run.lines
   pub few : length run.lines ≤ s.settings.run_size
-  pub apart : AreApart run.lines
+  pub by_container : ByContainer run.lines
   pub lines : AllByRecursion (IsGoodLine s) run.lines
 
 pub record AreGoodRuns (s : State) : Type 0 where

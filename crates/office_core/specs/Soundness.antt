@@ -4,7 +4,6 @@ use Rattle.std.specs.List.{list_all, AllByRecursion}
 use Rattle.isad_core.specs.Texts.{Bytes}
 use Rattle.isad_core.specs.Days.{IsDayNumber}
 use Rattle.tree_core.specs.Forest.{nodes}
-use Rattle.catalogue_core.specs.Units.{Unit}
 use Rattle.office_core.specs.declared.command.Command.{Command}
 use Rattle.office_core.specs.declared.command.Command.TheVariants as command
 use Rattle.office_core.specs.State.{Settings, State}

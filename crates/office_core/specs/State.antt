@@ -3,6 +3,7 @@ use Rattle.std.specs.Prelude.{ℕ, ℤ, int_lt, int_le, Bool, true, false, not, 
 use Rattle.std.specs.Ordering.{int_eq}
 use Rattle.std.specs.List.{list_any}
 use Rattle.isad_core.specs.Texts.{Bytes}
+use Rattle.desk_core.specs.Orders.{in_order}
 use Rattle.desk_core.specs.declared.reader.Place.{Place}
 use Rattle.desk_core.specs.declared.reader.Place.TheVariants.{Shelf, Desk, Out}
 use Rattle.catalogue_core.specs.Merging.{Catalogue, empty_catalogue}
@@ -34,7 +35,7 @@ pub record Line : Type 0 where
 
 pub record Run : Type 0 where
   pub day : ℤ
-  pub lines : List Line
+  pub lines : List Line  -- by container
 
 -- how an order ended
 pub data End : Type 0 where
@@ -188,8 +189,12 @@ abbrev pub line_for : State → ℕ → Option Line
 line_for s o =
     option_map (λ order. record { container = order.container; order = o; ticket = order.ticket }) (numbered s.orders o)
 
+abbrev pub is_line_before : Line → Line → Bool
+is_line_before a b = nat_lt a.container b.container
+
+-- its lines are kept by the numbers of their containers
 abbrev pub next_run : State → Run
-next_run s = record { day = s.day; lines = filter_map (line_for s) (picked s) }
+next_run s = record { day = s.day; lines = in_order is_line_before (filter_map (line_for s) (picked s)) }
 
 abbrev pub brings : Run → ℕ → Bool
 brings run c = list_any (λ line. nat_eq line.container c) run.lines

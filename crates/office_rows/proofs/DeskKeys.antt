@@ -9,7 +9,7 @@ use Rattle.desk_core.specs.declared.reader.Place.TheVariants.{Shelf, Desk, Out}
 use Rattle.office_core.specs.Words.{numbers_to}
 use Rattle.office_core.specs.State.{State, Line, Run, Permit, is_seat_of, containers}
 use Rattle.catalogue_core.specs.Members.{StandsIn}
-use Rattle.office_core.specs.SoundDesk.{IsAscending, SitOnce, AreApart, ByUnit, IsSoundDesk}
+use Rattle.office_core.specs.SoundDesk.{IsAscending, SitOnce, ByContainer, ByUnit, IsSoundDesk}
 use Rattle.office_rows.specs.DeskRows.{ReaderRow, reader_row, SeatRow, seat_rows_from, OrderRow, order_row, HoldingRow, holding_row, RunRow, run_row, RunLineRow, run_line_row, lines_from, PermitRow, permit_row}
 use Rattle.tree_core.specs.Versions.{Version}
 use Rattle.office_rows.specs.Reading.{tables}
@@ -82,19 +82,20 @@ holdings_order place (n ∷ ns) h = at (holding_row n (place n)) refl (holdings_
 -- ---- lines of runs
 
 abbrev pub LineBefore : RunLineRow → RunLineRow → Type 0
-LineBefore a b = (a.run < b.run) ⊎ ((a.run ≡ b.run) × (a.container ≢ b.container))
+LineBefore a b = (a.run < b.run) ⊎ ((a.run ≡ b.run) × (a.container < b.container))
 
-own_lines_order : (n : ℕ) (lines : List Line) → AreApart lines → AreInOrder LineBefore (map (run_line_row n) lines)
+own_lines_order : (n : ℕ) (lines : List Line) → ByContainer lines → AreInOrder LineBefore (map (run_line_row n) lines)
 own_lines_order n [] h = tt
 own_lines_order n (l ∷ ls) h = (
   all_of_in (LineBefore (run_line_row n l)) (map (run_line_row n) ls) (λ x k.
       let i = in_map (run_line_row n) ls x k in
-      let apart = all_in (λ (other : Line). l.container ≢ other.container) ls i.0 h.0 i.1 in
-      inr (sym (ap (λ (row : RunLineRow). row.run) i.2), λ e. apart (e ∙ ap (λ (row : RunLineRow). row.container) i.2))),
+      let less = all_in (λ (other : Line). l.container < other.container) ls i.0 h.0 i.1 in
+      let c = ap (λ (row : RunLineRow). row.container) i.2 in
+      inr (sym (ap (λ (row : RunLineRow). row.run) i.2), omega (arith, less, c))),
   own_lines_order n ls h.1,
 )
 
-lines_order : (n : ℕ) (runs : List Run) → AllByRecursion (λ (run : Run). AreApart run.lines) runs → AreInOrder LineBefore (lines_from n runs)
+lines_order : (n : ℕ) (runs : List Run) → AllByRecursion (λ (run : Run). ByContainer run.lines) runs → AreInOrder LineBefore (lines_from n runs)
 lines_order n [] h = tt
 lines_order n (run ∷ runs) h =
     order-append LineBefore (map (run_line_row n) run.lines) (lines_from (suc n) runs) (own_lines_order n run.lines h.0) (lines_order (suc n) runs h.1) (λ x y k l.
@@ -136,8 +137,8 @@ permits_order permits (t ∷ ts) h u =
 
 -- ---- all of them
 
-runs_apart : (s : State) → IsSoundDesk s → AllByRecursion (λ (run : Run). AreApart run.lines) s.runs
-runs_apart s g = all_of_in (λ (run : Run). AreApart run.lines) s.runs (λ run k. let i = stands_at s.runs run k in (g.runs.each i.0 run i.1).apart)
+by_container : (s : State) → IsSoundDesk s → AllByRecursion (λ (run : Run). ByContainer run.lines) s.runs
+by_container s g = all_of_in (λ (run : Run). ByContainer run.lines) s.runs (λ run k. let i = stands_at s.runs run k in (g.runs.each i.0 run i.1).by_container)
 
 pub meets_keys : (version : Version) (s : State) → IsSoundDesk s → MeetsDeskKeys (tables version s)
 meets_keys version s g =
@@ -149,6 +150,6 @@ meets_keys version s g =
       orders = in_order (λ (row : OrderRow). row.id) 1 t.orders (rows_are_numbered (order_row s) (λ row. row.id) (λ n x. refl) 1 s.orders);
       holdings = holdings_order s.place (containers s) (ascending_to (length s.catalogue.containers));
       runs = in_order (λ (row : RunRow). row.id) 1 t.runs (rows_are_numbered run_row (λ row. row.id) (λ n x. refl) 1 s.runs);
-      run_lines = lines_order 1 s.runs (runs_apart s g);
+      run_lines = lines_order 1 s.runs (by_container s g);
       permits = permits_order s.permits (numbers_to (length s.readers)) (ascending_to (length s.readers)) g.permits.by_unit;
     }

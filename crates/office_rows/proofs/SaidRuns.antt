@@ -1,5 +1,5 @@
 -- Runs whose rows pass are sound, and show those rows again.
-use Rattle.std.proofs.Common.{◌≡◌, ◌≢◌, ℕ, suc, ◌≤◌, true, ◌&&◌, List, [], ◌∷◌, ◌++◌, length, Option, Some, None, refl, sym, ap, ◌∙◌, subst, inl, inr, arith}
+use Rattle.std.proofs.Common.{◌≡◌, ℕ, suc, ◌<◌, ◌≤◌, true, ◌&&◌, List, [], ◌∷◌, ◌++◌, length, Option, Some, None, refl, sym, ap, ◌∙◌, subst, inl, inr, arith}
 use Rattle.std.specs.Prelude.{map, filter, nat_eq, nat_le, int_le, ◌≤ℤ◌, option_map, count_by}
 use Rattle.std.specs.List.{list_all, list_any, flat_map, AllByRecursion}
 use Rattle.std.proofs.lemmas.Bool.{eqb-true, false≢true, and_parts, leb-true}
@@ -11,7 +11,7 @@ use Rattle.office_core.specs.Words.{numbered, some_and}
 use Rattle.office_core.specs.State.{Order, Line, Run, State, container_of, is_by}
 use Rattle.catalogue_core.specs.Members.{StandsIn}
 use Rattle.office_core.specs.Laws.{numbers_from}
-use Rattle.office_core.specs.SoundDesk.{IsGoodLine, AreApart, IsGoodRun, AreGoodRuns}
+use Rattle.office_core.specs.SoundDesk.{IsGoodLine, ByContainer, IsGoodRun, AreGoodRuns}
 use Rattle.catalogue_core.specs.Sources.{is_between}
 use Rattle.isad_core.specs.Limits.{most_runs}
 use Rattle.office_rows.specs.DeskRows.{OrderRow, order_from, RunRow, run_row, run_rows, RunLineRow, run_line_row, lines_from, run_line_rows}
@@ -60,9 +60,9 @@ line_order s o c ticket (Some order) e h =
       ap (some_and (λ (order : Order). nat_eq order.ticket ticket)) e ∙ b.1,
     )
 
-apart_lines : (lines : List Line) → AreInOrder (λ (a b : Line). a.container ≢ b.container) lines → AreApart lines
-apart_lines [] h = tt
-apart_lines (line ∷ lines) h = (h.0, apart_lines lines h.1)
+by_container : (lines : List Line) → AreInOrder (λ (a b : Line). a.container < b.container) lines → ByContainer lines
+by_container [] h = tt
+by_container (line ∷ lines) h = (h.0, by_container lines h.1)
 
 own_rows_again : (n : ℕ) (rows : List RunLineRow) → ((row : RunLineRow) → StandsIn row rows → row.run ≡ n) → map (run_line_row n) (map line_from rows) ≡ rows
 own_rows_again n [] f = refl
@@ -99,9 +99,9 @@ module _ (t : Rows) (k : MeetsDeskKeys t) (o : OrdersParts t) (p : RunParts t) w
         day = (p.days row l).1;
         some = omega (arith, low, all, same);
         few = omega (arith, high, all, same);
-        apart = apart_lines (map line_from mine) (order-map LineBefore (λ (a b : Line). a.container ≢ b.container) line_from mine (λ a b m n h. elim h [
+        by_container = by_container (map line_from mine) (order-map LineBefore (λ (a b : Line). a.container < b.container) line_from mine (λ a b m n h. elim h [
           | inl less ↦ (let x = (is_of row.id a m).1 in let y = (is_of row.id b n).1 in absurd (omega (arith, x, y, less)))
-          | inr apart ↦ apart.1
+          | inr later ↦ later.1
         ]) (order-filter LineBefore (λ (line : RunLineRow). nat_eq line.run row.id) t.run_lines k.run_lines));
         lines = all_of_in (IsGoodLine (state_of t)) (map line_from mine) (λ line m.
             let i = in_map line_from mine line m in

@@ -1,5 +1,5 @@
 -- Why rows of doubtful origin are unsound, causes 6 to 10: what a clerk checks in the tables of the reading room. The rows of a
--- table are taken by its key, as they are read; the lines of a run are taken together, in whatever order.
+-- table are taken by its key, as they are read.
 use Rattle.std.specs.Prelude.{◌≡◌, ◌≢◌, ◌⊎◌, ℕ, ◌<◌, int_le, Bool, true, not, ◌&&◌, ◌||◌, List, [], ◌∷◌, length, count_by, suc, Option, is_none, option_map, option_and_then, nat_eq, nat_le}
 use Rattle.std.specs.Ordering.{int_eq}
 use Rattle.std.specs.List.{list_any, list_all, AllByRecursion}
@@ -20,8 +20,7 @@ abbrev pub AreInOrder : {R : Type 0} → (R → R → Type 0) → List R → Typ
 AreInOrder Before [] = Unit {0}
 AreInOrder Before (row ∷ rows) = AllByRecursion (Before row) rows × AreInOrder Before rows
 
--- No primary key stands twice, nor does a ticket on two seats. The rows are in ascending order of their keys, but the lines of
--- a run are only side by side.
+-- No primary key stands twice, nor does a ticket on two seats. The rows are in ascending order of their keys.
 pub record MeetsDeskKeys (t : Rows) : Type 0 where
   pub readers : AreInOrder (λ (a b : ReaderRow). a.ticket < b.ticket) t.readers
   pub seats : AreInOrder (λ (a b : SeatRow). a.seat < b.seat) t.seats
@@ -29,7 +28,7 @@ pub record MeetsDeskKeys (t : Rows) : Type 0 where
   pub orders : AreInOrder (λ (a b : OrderRow). a.id < b.id) t.orders
   pub holdings : AreInOrder (λ (a b : HoldingRow). a.container < b.container) t.holdings
   pub runs : AreInOrder (λ (a b : RunRow). a.id < b.id) t.runs
-  pub run_lines : AreInOrder (λ (a b : RunLineRow). (a.run < b.run) ⊎ ((a.run ≡ b.run) × (a.container ≢ b.container))) t.run_lines
+  pub run_lines : AreInOrder (λ (a b : RunLineRow). (a.run < b.run) ⊎ ((a.run ≡ b.run) × (a.container < b.container))) t.run_lines
   pub permits : AreInOrder (λ (a b : PermitRow). (a.ticket < b.ticket) ⊎ ((a.ticket ≡ b.ticket) × (a.unit < b.unit))) t.permits
 
 -- the rows, taken by key, have the numbers from n on, without a gap

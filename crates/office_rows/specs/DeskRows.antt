@@ -1,7 +1,6 @@
 -- The rows of the desk's tables that show a state, and what is read back from rows.
-use Rattle.std.specs.Prelude.{◌≡◌, ℕ, ℤ, suc, ◌&&◌, ◌++◌, Ok, cond, List, [], ◌∷◌, map, filter, filter_map, length, Option, Some, None, option_and_then, unwrap_or, nat_eq}
+use Rattle.std.specs.Prelude.{◌≡◌, ℕ, suc, ◌++◌, Ok, cond, List, [], ◌∷◌, map, filter_map, length, Option, Some, None, option_and_then, unwrap_or, nat_eq}
 use Rattle.std.specs.List.{flat_map}
-use Rattle.isad_core.specs.Texts.{Bytes}
 use Rattle.desk_core.specs.declared.reader.Place.{Place}
 use Rattle.desk_core.specs.declared.reader.Place.TheVariants.{Shelf, Desk, Out}
 pub use Rattle.desk_core.specs.DeskRows.{ReaderRow, SeatRow, OrderRow, with_state, waiting_for, HoldingRow, RunRow, RunLineRow, PermitRow}
