@@ -21,3 +21,5 @@ pub mod RunRows
 pub mod RunCalls
 pub mod LoanRows
 pub mod LoanCalls
+pub mod OpeningRows
+pub mod OpeningCalls

@@ -13,3 +13,4 @@ pub mod Meaning
 pub mod Changing
 pub mod Asking
 pub mod Calls
+pub mod Shared
