@@ -25,6 +25,7 @@ pub mod Comes
 pub mod Days
 pub mod Starts
 pub mod StaysSound
+pub mod Texts
 pub mod WorkedSound
 pub mod ImportedUnits
 pub mod ImportedCounts
