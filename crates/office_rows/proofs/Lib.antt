@@ -3,6 +3,7 @@ pub mod TableLaws
 pub mod ReadingRows
 pub mod ReadBack
 pub mod Nested
+pub mod PlaceNumbers
 pub mod Linked
 pub mod UnitRows
 pub mod Whole

@@ -30,12 +30,12 @@ use Rattle.office_core.specs.Laws.{numbers_from}
 use Rattle.catalogue_core.specs.CatalogueRows.{OfficeRow, UnitRow, unit_row, ElementRow, ContainerRow, HousingRow, place_rows, box_from, text_said, places_said, housings_of}
 use Rattle.office_rows.specs.Reading.{number_of, Rows, state_of, boxes_said, unit_said, unit_from}
 use Rattle.office_rows.specs.DeskCauses.{are_numbered_from}
-use Rattle.office_rows.specs.CatalogueCauses.{is_good_office, are_good_places, is_some_day, is_good_unit_row, unit_numbers, place_numbers, all_stand_in, are_good_units, is_good_element, is_good_housing, are_good_container_rows, office_is_bad, places_are_bad, units_are_bad, elements_are_bad, containers_are_bad, is_named_alike, MeetsCatalogueKeys, ArePlacesOf, IsCatalogueOf}
+use Rattle.office_rows.specs.CatalogueCauses.{is_good_office, is_unit_number, are_good_places, is_some_day, is_good_unit_row, unit_numbers, place_numbers, all_stand_in, are_good_units, is_good_element, is_good_housing, are_good_container_rows, office_is_bad, places_are_bad, units_are_bad, elements_are_bad, containers_are_bad, is_named_alike, MeetsCatalogueKeys, ArePlacesOf, IsCatalogueOf}
 use Rattle.office_rows.specs.Causes.{catalogue_cause}
 use Rattle.office_rows.specs.Judged.{IsSoundCatalogue, SaysTheCatalogue}
 use Rattle.office_rows.proofs.Judging.{none_held}
 use Rattle.office_rows.proofs.RowsByNumber.{in_map, all_in, stands_in}
-use Rattle.office_rows.proofs.ToldPlaces.{ArePlaced, good_places}
+use Rattle.office_rows.proofs.ToldPlaces.{ArePlaced, good_places, numbers_given}
 use Rattle.office_rows.proofs.ToldUnits.{AreUnitsOf, each_said, units_are_said, said_id}
 use Rattle.office_rows.proofs.ToldElements.{IsGoodElement, good_element, elements_are_said, texts_are_good}
 use Rattle.office_rows.proofs.ToldContainers.{containers_are_said, boxes_apart, stay_distinct}
@@ -114,16 +114,15 @@ record IsGoodRow (next : ℕ) (row : UnitRow) : Type 0 where
   level_short : length row.level ≤ most_bytes
   until : IsSomeDay row.until
 
-good_row : (next : ℕ) (row : UnitRow) → is_good_unit_row next row ≡ true → IsGoodRow next row
-good_row next row h =
-    let a = and_parts (nat_le 1 row.id) _ h in
-    let b = and_parts (nat_lt row.id next) _ a.1 in
+good_row : (next : ℕ) (row : UnitRow) → is_unit_number row.id ≡ true → is_good_unit_row next row ≡ true → IsGoodRow next row
+good_row next row n h =
+    let b = and_parts (nat_lt row.id next) _ h in
     let c = and_parts (is_source row.source) _ b.1 in
     let d = and_parts (not (is_blank_text row.legacy)) _ c.1 in
     let e = and_parts (nat_le (length row.legacy) most_bytes) _ d.1 in
     let f = and_parts (nat_le (length row.level) most_bytes) (is_some_day row.until) e.1 in
     record {
-      given = (leb-true 1 row.id a.0, ltb-true row.id next b.0);
+      given = ((within 1 most_unit_numbers row.id n).0, ltb-true row.id next b.0);
       source = c.0;
       legacy = not-true (is_blank_text row.legacy) d.0;
       legacy_short = leb-true (length row.legacy) most_bytes e.0;
@@ -138,14 +137,16 @@ record AreGoodRows (t : Rows) : Type 0 where
   few : length t.units ≤ most_units
   depth : height (state_of t).catalogue.forest ≤ most_deep
 
-good_rows : (t : Rows) → are_good_units t ≡ true → AreGoodRows t
-good_rows t h =
+good_rows : (version : Version) (t : Rows) → are_good_places version t.places ≡ true → are_good_units t ≡ true → AreGoodRows t
+good_rows version t p h =
     let a = and_parts (list_all (is_good_unit_row t.office.next_unit) t.units) _ h in
     let b = and_parts (all_stand_in (place_numbers t.places) (unit_numbers t)) _ a.1 in
     let c = and_parts (all_stand_in (unit_numbers t) (place_numbers t.places)) _ b.1 in
     let d = and_parts (nat_le (length t.units) most_units) (nat_le (height (state_of t).catalogue.forest) most_deep) c.1 in
+    let number : (row : UnitRow) → In row t.units → is_unit_number row.id ≡ true = λ row i.
+    numbers_given version t.places row.id p (stands_in row.id (place_numbers t.places) (all_in (λ n. stands n (place_numbers t.places)) (unit_numbers t) row.id b.0 (In-map (λ (row : UnitRow). row.id) t.units row i))) in
     record {
-      each = λ row i. good_row t.office.next_unit row (all_in (is_good_unit_row t.office.next_unit) t.units row a.0 i);
+      each = λ row i. good_row t.office.next_unit row (number row i) (all_in (is_good_unit_row t.office.next_unit) t.units row a.0 i);
       placed = b.0;
       told = c.0;
       few = leb-true (length t.units) most_units d.0;
@@ -224,7 +225,7 @@ module _ (version : Version) (t : Rows) (k : MeetsCatalogueKeys t) (n : HasNoCau
   placed = good_places version t.places n.places
 
   rows : AreGoodRows t
-  rows = good_rows t n.units
+  rows = good_rows version t n.places n.units
 
   units : AreUnitsOf t (places_said t.places)
   units = units_of version t placed rows

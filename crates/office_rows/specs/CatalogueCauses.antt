@@ -1,7 +1,8 @@
 -- Why the rows of the catalogue's tables show no sound state (causes 1 to 5), which keys they have, and when they are the
 -- rows that show a state. Rows of containers stand by number, and span rows by lft.
-use Rattle.std.specs.Prelude.{◌≡◌, ℕ, ℤ, ◌+◌, Bool, true, false, not, ◌&&◌, List, [], ◌∷◌, length, map, Option, Some, None, is_some, nat_eq, nat_le, nat_lt}
+use Rattle.std.specs.Prelude.{◌≡◌, ℕ, ℤ, ◌+◌, ◌^◌, Bool, true, false, not, ◌&&◌, List, [], ◌∷◌, length, map, Option, Some, None, is_some, nat_eq, nat_le, nat_lt}
 use Rattle.std.specs.List.{list_all, IsDistinct}
+use Rattle.std.specs.Option.{option_map_or}
 use Rattle.std.specs.List.Sorted.{IsPermutation}
 use Rattle.std.specs.Str.{bytes_eq}
 use Rattle.isad_core.specs.Texts.{is_blank_text}
@@ -36,10 +37,25 @@ office_is_bad version t = not (is_good_office version t.office)
 
 -- ---- 2: the places
 
--- they are of the version, and have no fault
+-- a number that a unit may have
+abbrev pub is_unit_number : ℕ → Bool
+is_unit_number n = is_between 1 most_unit_numbers n
+
+-- the number of a place fits into 32 bits
+abbrev pub is_place_number : ℕ → Bool
+is_place_number n = nat_lt n (2 ^ 32)
+
+abbrev pub is_good_link : Link → Bool
+is_good_link link =
+    is_unit_number link.id && (option_map_or is_unit_number link.parent true && is_place_number link.ord)
+
+abbrev pub is_good_span : Span → Bool
+is_good_span span = is_unit_number span.id && (is_place_number span.lft && is_place_number span.rgt)
+
+-- they are of the version, in numbers that they may have, and have no fault
 abbrev pub are_good_places : Version → PlaceRows → Bool
-are_good_places Links (LinkRows links) = not (is_some (link_fault links))
-are_good_places Spans (SpanRows spans) = not (is_some (span_fault spans))
+are_good_places Links (LinkRows links) = list_all is_good_link links && not (is_some (link_fault links))
+are_good_places Spans (SpanRows spans) = list_all is_good_span spans && not (is_some (span_fault spans))
 are_good_places _ _ = false
 
 abbrev pub places_are_bad : Version → Rows → Bool
@@ -54,8 +70,8 @@ is_some_day (Some day) = is_day_number day
 -- it has a number below the next, a source, a number there and a level that are none too long, and no closure but until a day
 abbrev pub is_good_unit_row : ℕ → UnitRow → Bool
 is_good_unit_row next row =
-    nat_le 1 row.id && (nat_lt row.id next && (is_source row.source && (not (is_blank_text row.legacy)
-    && (nat_le (length row.legacy) most_bytes && (nat_le (length row.level) most_bytes && is_some_day row.until)))))
+    nat_lt row.id next && (is_source row.source && (not (is_blank_text row.legacy)
+    && (nat_le (length row.legacy) most_bytes && (nat_le (length row.level) most_bytes && is_some_day row.until))))
 
 abbrev pub unit_numbers : Rows → List ℕ
 unit_numbers t = map (λ (row : UnitRow). row.id) t.units

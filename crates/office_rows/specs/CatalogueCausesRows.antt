@@ -1,5 +1,5 @@
 -- What each of the causes 1 to 5 says where one row of a small sound office is changed.
-use Rattle.std.specs.Prelude.{◌≡◌, ℕ, zero, suc, pos, List, [], ◌∷◌, Option, Some, None, codes, replicate}
+use Rattle.std.specs.Prelude.{◌≡◌, ℕ, ◌+◌, ◌^◌, zero, suc, pos, List, [], ◌∷◌, Option, Some, None, codes, replicate}
 use Rattle.tree_core.specs.declared.rows.Link.{Link}
 use Rattle.tree_core.specs.Worked.{link, span}
 use Rattle.tree_core.specs.Versions.{Links, Spans}
@@ -61,11 +61,18 @@ pub record Told : Type 0 where
   pub no_parent : told (record sound { places = LinkRows (link 1 (Some 9) 1 ∷ []) }) ≡ Some 2
   pub gap : cause Spans (record nested { places = SpanRows (span 1 1 3 ∷ []) }) ≡ Some 2
   pub places_of_the_other_version : cause Spans (record nested { places = LinkRows (link 1 None 1 ∷ []) }) ≡ Some 2
+  pub place_number_0 : told (record sound { units = record plans { id = 0 } ∷ []; places = LinkRows (link 0 None 1 ∷ []); elements = []; housings = [] }) ≡ Some 2
+  pub place_past_the_last_number : told (record sound { places = LinkRows (link 100000001 None 1 ∷ []) }) ≡ Some 2
+  pub below_number_0 : told (record sound { places = LinkRows (link 1 (Some 0) 1 ∷ []) }) ≡ Some 2
+  pub ord_past_32_bits : told (record sound { places = LinkRows (link 1 None (2 ^ 32) ∷ []) }) ≡ Some 2
+  pub span_number_0 : cause Spans (record nested { units = record plans { id = 0 } ∷ []; places = SpanRows (span 0 1 2 ∷ []); elements = []; housings = [] }) ≡ Some 2
+  pub span_past_the_last_number : cause Spans (record nested { places = SpanRows (span 100000001 1 2 ∷ []) }) ≡ Some 2
+  pub lft_past_32_bits : cause Spans (record nested { places = SpanRows (span 1 (2 ^ 32) (2 ^ 32 + 1) ∷ []) }) ≡ Some 2
+  pub rgt_past_32_bits : cause Spans (record nested { places = SpanRows (span 1 1 (2 ^ 32) ∷ []) }) ≡ Some 2
   -- the units
   pub unit_without_a_place : told (record sound { places = LinkRows [] }) ≡ Some 3
   pub place_without_a_unit : told (record sound { places = LinkRows (link 1 None 1 ∷ link 2 (Some 1) 1 ∷ []) }) ≡ Some 3
   pub next_is_there : told (record sound { office = record sound.office { next_unit = 1 } }) ≡ Some 3
-  pub unit_without_a_number : told (record sound { units = record plans { id = 0 } ∷ []; places = LinkRows (link 0 None 1 ∷ []); elements = []; housings = [] }) ≡ Some 3
   pub no_source : told (record sound { units = record plans { source = codes "a b" } ∷ [] }) ≡ Some 3
   pub blank_number : told (record sound { units = record plans { legacy = codes " " } ∷ [] }) ≡ Some 3
   pub number_too_long : told (record sound { units = record plans { legacy = replicate 65536 49 } ∷ [] }) ≡ Some 3
