@@ -1,5 +1,5 @@
 -- The statements on the office's row, and the counts: what their texts mean, what they leave or tell, and why they fail.
-use Rattle.std.proofs.Common.{◌≡◌, ℕ, pos, List, [], ◌∷◌, length, map, drop, codes, true, false, Ordering, Equal, Result, OnOk, IfOk, IfErr, refl, ap, ◌∙◌}
+use Rattle.std.proofs.Common.{◌≡◌, ℕ, pos, List, [], ◌∷◌, length, map, drop, codes, true, false, Equal, Result, OnOk, IfOk, IfErr, refl, ap, ◌∙◌}
 use Rattle.std.proofs.Math.Nat.{le_refl}
 use Rattle.std.proofs.lemmas.Bool.{both_ways}
 use Rattle.std.proofs.lemmas.Result.{IfOk-weaker}
@@ -31,7 +31,7 @@ use Rattle.office_tables.specs.Counting.{capped}
 use Rattle.office_tables.specs.Faults.{IsUnlimited, HasCause}
 use Rattle.office_tables.specs.Meaning.{Means}
 use Rattle.office_tables.specs.Schema.{schema, office, unit, container}
-use Rattle.office_tables.specs.Step.{Holds, HasRows}
+use Rattle.office_tables.specs.Step.{HasRows}
 use Rattle.office_tables.specs.declared.fault.StoreFault.{StoreFault}
 use Rattle.catalogue_rows.specs.Rows.{office_row, settings_cells}
 use Rattle.catalogue_rows.specs.Settings.{AreLegibleSettings}

@@ -13,3 +13,5 @@ pub mod Meaning
 pub mod Changing
 pub mod Asking
 pub mod Calls
+pub mod Numbered
+pub mod Permits
