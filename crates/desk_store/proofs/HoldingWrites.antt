@@ -55,7 +55,7 @@ use Rattle.office_tables.proofs.Steps.{is_referred_to}
 use Rattle.office_tables.proofs.Tests.{only, same_number}
 use Rattle.office_tables.proofs.Touching.{touched_again}
 use Rattle.desk_store.proofs.Frames.{with_holdings}
-use Rattle.desk_store.proofs.OnlyOf.{delete_only}
+use Rattle.office_tables.proofs.OnlyOf.{delete_only}
 use Rattle.desk_store.proofs.PutAgain.{put_gone}
 
 -- ---- a container has no row any more

@@ -1,5 +1,4 @@
 pub mod Creations
-pub mod OnlyOf
 pub mod SeatRows
 pub mod Frames
 pub mod Counted

@@ -53,7 +53,7 @@ use Rattle.office_tables.proofs.UpdateCauses.{KeepsTable}
 use Rattle.office_tables.proofs.UpdateOf.{changing, update_leaves, update_faults}
 use Rattle.desk_store.proofs.Counted.{counted_again, counted_free, counted_more, counted_rises, put_end}
 use Rattle.desk_store.proofs.Frames.{with_orders}
-use Rattle.desk_store.proofs.OnlyOf.{update_only}
+use Rattle.office_tables.proofs.OnlyOf.{update_only}
 
 -- ---- a new order
 

@@ -50,7 +50,7 @@ use Rattle.office_tables.proofs.InsertOf.{insert_puts, insert_faults}
 use Rattle.office_tables.proofs.SelectOf.{asking, select_finds, select_faults}
 use Rattle.office_tables.proofs.Steps.{is_referred_to}
 use Rattle.office_tables.proofs.Tests.{only, both, same_number, by_two_ints}
-use Rattle.desk_store.proofs.OnlyOf.{delete_only}
+use Rattle.office_tables.proofs.OnlyOf.{delete_only}
 use Rattle.desk_store.proofs.OwnNumbers.{none_numbered, all_numbered, those_left}
 
 -- ---- a permit for a unit that has its row

@@ -56,7 +56,7 @@ use Rattle.office_tables.proofs.UpdateCauses.{KeepsTable}
 use Rattle.office_tables.proofs.UpdateOf.{changing, update_leaves, update_faults}
 use Rattle.desk_store.proofs.Counted.{counted_rises}
 use Rattle.desk_store.proofs.LastOf.{last_of, last_finds, last_faults}
-use Rattle.desk_store.proofs.OnlyOf.{update_only}
+use Rattle.office_tables.proofs.OnlyOf.{update_only}
 
 -- ---- a new reader
 

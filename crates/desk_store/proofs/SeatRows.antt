@@ -46,7 +46,7 @@ use Rattle.office_tables.proofs.InsertOf.{insert_puts, insert_faults}
 use Rattle.office_tables.proofs.SelectOf.{asking, select_finds, select_faults}
 use Rattle.office_tables.proofs.Steps.{is_referred_to}
 use Rattle.office_tables.proofs.Tests.{only, same_number, by_one_int}
-use Rattle.desk_store.proofs.OnlyOf.{delete_only}
+use Rattle.office_tables.proofs.OnlyOf.{delete_only}
 
 -- ---- a seat is taken
 
