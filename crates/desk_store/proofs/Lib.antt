@@ -15,3 +15,5 @@ pub mod RunRows
 pub mod RunCalls
 pub mod LoanRows
 pub mod LoanCalls
+pub mod OpeningRows
+pub mod OpeningCalls

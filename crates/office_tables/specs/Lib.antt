@@ -15,3 +15,4 @@ pub mod Asking
 pub mod Calls
 pub mod Numbered
 pub mod Permits
+pub mod Shared
