@@ -5,10 +5,12 @@ mod command;
 mod done;
 pub mod laws;
 pub mod laws_of_texts;
+mod machine;
 mod query;
 pub mod worked;
 
 pub use command::Command;
 pub use desk_core::Refusal;
 pub use done::{Done, Remark};
+pub use machine::{Busy, Machine, Reply};
 pub use query::{Answer, Query};

@@ -1,0 +1,11 @@
+pub mod Places
+pub mod Cutting
+pub mod Courses
+pub mod Public
+pub mod Leaks
+pub mod Fills
+pub mod Sends
+pub mod Printed
+pub mod Turns
+pub mod Sessions
+pub mod Wholes

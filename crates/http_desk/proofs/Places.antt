@@ -1,0 +1,15 @@
+-- Lemmas on what stands where a head is looked for.
+use Rattle.std.proofs.Common.{◌≡◌, ◌<◌, ◌⊎◌, inl, inr, ℕ, List, length}
+use Rattle.http_messages.specs.declared.ending.Place.{Place}
+use Rattle.http_messages.specs.declared.ending.Place.TheVariants.{Lead, LeadReturn, Start, StartReturn, Middle}
+use Rattle.http_messages.specs.declared.ending.Scan.TheVariants.{Open}
+use Rattle.http_messages.specs.Ending.{scan}
+use Rattle.http_desk.specs.Messages.{IsBlank, IsHeadCut}
+
+-- an open head is nothing but empty lines, or it has begun
+pub blank_or_cut : (input : List ℕ) (p : Place) → length input < 16384 → scan input ≡ Open p → IsBlank input ⊎ IsHeadCut input
+blank_or_cut input Lead h e = inl (h, e)
+blank_or_cut input LeadReturn h e = inr (h, LeadReturn, (λ q. absurd (cc)), e)
+blank_or_cut input Start h e = inr (h, Start, (λ q. absurd (cc)), e)
+blank_or_cut input StartReturn h e = inr (h, StartReturn, (λ q. absurd (cc)), e)
+blank_or_cut input Middle h e = inr (h, Middle, (λ q. absurd (cc)), e)

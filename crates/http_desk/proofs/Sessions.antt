@@ -1,0 +1,133 @@
+-- Lemmas on sessions, one place after the other.
+use Rattle.std.proofs.Common.{◌≡◌, ◌<◌, ◌+◌, ℕ, suc, List, [], ◌∷◌, ◌++◌, length, refl, sym, ap, ◌∙◌, subst, arith, true, false, Bool, append-nil, Option, length-append}
+use Rattle.std.specs.Prelude.{◌||◌, nat_eq}
+use Rattle.std.specs.List.{AllByRecursion}
+use Rattle.std.specs.Io.KnownBytes.{Consumes, Appends}
+use Rattle.std.proofs.KnownBytes.{Consumes-nil, Consumes-trans, Appends-nil, Appends-trans}
+use Rattle.std.proofs.lemmas.Bool.Decides.{nat_tests}
+use Rattle.isad_core.specs.Texts.{Bytes}
+use Rattle.office_core.specs.State.{State}
+use Rattle.http_desk.specs.declared.ended.Ended.{Ended}
+use Rattle.http_desk.specs.declared.ended.Next.{Next}
+use Rattle.http_desk.specs.declared.ended.Next.TheVariants.{Goes, Ends}
+use Rattle.http_desk.specs.Messages.{Message, Cuts}
+use Rattle.http_desk.specs.Session.{most_answers, StaysOpen, Stops, Session, message_text, state_after, text_after_all, state_after_all}
+use Rattle.http_desk.specs.Talking.{GoesOn, Turn, Through, Exchange, Talks}
+use Rattle.http_desk.proofs.Turns.{begins_more}
+use Rattle.http_desk.proofs.Leaks.{cuts_more, text_append}
+
+pub cuts_longer : (input : Bytes) (ms : List Message) (rest more : Bytes) → Cuts input ms rest → Cuts (input ++ more) ms (rest ++ more)
+cuts_longer input [] rest more e = ap (λ l. l ++ more) e
+cuts_longer input (m ∷ ms) rest more (later, begins, others) = (later ++ more, begins_more input m later more begins, cuts_longer later ms rest more others)
+
+all_and_one : (P : Message → Type 0) (ms : List Message) (m : Message) → AllByRecursion P ms → P m → AllByRecursion P (ms ++ m ∷ [])
+all_and_one P [] m h p = (p, tt)
+all_and_one P (n ∷ ms) m h p = (h.0, all_and_one P ms m h.1 p)
+
+pub state_append : (ms : List Message) (m : Message) (s : State) → state_after_all s (ms ++ m ∷ []) ≡ state_after (state_after_all s ms) m
+state_append [] m s = refl
+state_append (n ∷ ms) m s = state_append ms m (state_after s n)
+
+-- so many messages were answered, and each left the connection open
+pub record Begun (number : ℕ) (s : State) (read written : Bytes) (t : State) (rest : Bytes) : Type 0 where
+  pub messages : List Message
+  pub cut : Cuts read messages rest
+  pub stay : AllByRecursion StaysOpen messages
+  pub few : length messages < most_answers
+  pub count : suc (length messages) ≡ number
+  pub says : written ≡ text_after_all s messages
+  pub leaves : t ≡ state_after_all s messages
+
+begun_none : (s : State) (buffer : Bytes) → buffer ≡ [] → Begun 1 s [] [] s buffer
+begun_none s buffer e = record { messages = []; cut = sym e; stay = tt; few = omega arith; count = refl; says = refl; leaves = refl }
+
+open_is : (a b : Bool) → (a || b) ≡ false → a ≡ false
+open_is true b e = cc
+open_is false b e = refl
+
+not_last : (a b : Bool) → (a || b) ≡ false → b ≡ false
+not_last true b e = absurd (cc)
+not_last false b e = e
+
+still_few : (n number : ℕ) → n < most_answers → suc n ≡ number → nat_eq number most_answers ≡ false → suc n < most_answers
+still_few n number few e h = grind (arith, nat_tests)
+
+begun_on : (number : ℕ) (s t u : State) (read written buffer more out rest : Bytes) → Begun number s read written t buffer → GoesOn number t (buffer ++ more) out u rest
+    → Begun (number + 1) s (read ++ more) (written ++ out) u rest
+begun_on number s t u read written buffer more out rest b g =
+    let before = state_after_all s b.messages in
+    let one : out ≡ message_text false before g.message = g.says ∙ ap (λ x. message_text false x g.message) b.leaves in
+    let len = length-append b.messages (g.message ∷ []) in
+    let few : suc (length b.messages) < most_answers = still_few (length b.messages) number b.few b.count (not_last g.message.request.closes (nat_eq number most_answers) g.stays) in
+    record {
+      messages = b.messages ++ g.message ∷ [];
+      cut = cuts_more (read ++ more) b.messages (buffer ++ more) g.message rest (cuts_longer read b.messages buffer more b.cut) g.begins;
+      stay = all_and_one StaysOpen b.messages g.message b.stay (open_is g.message.request.closes (nat_eq number most_answers) g.stays);
+      few = omega arith;
+      count = omega (arith, b.count);
+      says = (λ i. b.says i ++ one i) ∙ ap (λ l. text_after_all s b.messages ++ l) (sym (append-nil (message_text false before g.message))) ∙ sym (text_append b.messages (g.message ∷ []) s);
+      leaves = g.leaves ∙ ap (λ x. state_after x g.message) b.leaves ∙ sym (state_append b.messages g.message s);
+    }
+
+begun_ends : (number : ℕ) (s t u : State) (read written buffer more out : Bytes) (end : Ended) → Begun number s read written t buffer → Stops number t (buffer ++ more) out end u
+    → Session s (read ++ more) (written ++ out) end u
+begun_ends number s t u read written buffer more out end b g = record {
+  messages = b.messages;
+  rest = buffer ++ more;
+  out = out;
+  cut = cuts_longer read b.messages buffer more b.cut;
+  stay = b.stay;
+  few = b.few;
+  stops = subst (λ n. Stops n (state_after_all s b.messages) (buffer ++ more) out end u) (sym b.count) (subst (λ x. Stops number x (buffer ++ more) out end u) b.leaves g);
+  says = ap (λ l. l ++ out) b.says;
+}
+
+pub not_over : (s t : State) (read written buffer : Bytes) → Begun 10001 s read written t buffer → ⊥
+not_over s t read written buffer b = omega (arith, b.few, b.count)
+
+module _ {M : Type 0} (shows : M → State → Type 0) (is_intact : M → Type 0) where
+  -- what was read and written so far
+  abbrev pub Carried : Option Bytes → Option Bytes → Option Bytes → Option Bytes → M → M → ℕ → Bytes → Type 0
+  Carried a b c d start now number buffer =
+      (read : Bytes) × (written : Bytes) × Consumes a b read × Appends c d written
+      × (is_intact now → is_intact start)
+      × Through shows is_intact start now (λ s t. Begun number s read written t buffer)
+
+  pub carried_none : (a c : Option Bytes) (start : M) (buffer : Bytes) → buffer ≡ [] → Carried a a c c start start 1 buffer
+  carried_none a c start buffer e = ([], [], Consumes-nil a, Appends-nil c, (λ i. i), λ i s h. (s, h, begun_none s buffer e))
+
+  pub carried_on : (a b b2 c d d2 : Option Bytes) (start now new : M) (number : ℕ) (buffer rest : Bytes) (next : Next)
+      → next ≡ Goes → (is_intact new → is_intact now) → Carried a b c d start now number buffer → Exchange shows is_intact number b b2 d d2 now buffer next new rest
+      → Carried a b2 c d2 start new (number + 1) rest
+  carried_on a b b2 c d d2 start now new number buffer rest next e before (read, written, consumed, appended, intact, through) (read2, written2, consumed2, appended2, through2) = (
+    read ++ read2,
+    written ++ written2,
+    Consumes-trans a b b2 read read2 consumed consumed2,
+    Appends-trans c d d2 written written2 appended appended2,
+    (λ i. intact (before i)),
+    λ i s h.
+        let (t, shown, begun) = through (before i) s h in
+        let (u, shown2, turn) = through2 i t shown in
+        let goes : GoesOn number t (buffer ++ read2) written2 u rest = subst (λ n. Turn number t (buffer ++ read2) n written2 u rest) e turn in
+        (u, shown2, begun_on number s t u read written buffer read2 written2 rest begun goes),
+  )
+
+  pub carried_to_end : (a b b2 c d d2 : Option Bytes) (start now new : M) (number : ℕ) (buffer rest : Bytes) (next : Next) (end : Ended)
+      → next ≡ Ends end → (is_intact new → is_intact now) → Carried a b c d start now number buffer → Exchange shows is_intact number b b2 d d2 now buffer next new rest
+      → Talks shows is_intact a b2 c d2 start end new
+  carried_to_end a b b2 c d d2 start now new number buffer rest next end e before (read, written, consumed, appended, intact, through) (read2, written2, consumed2, appended2, through2) = (
+    read ++ read2,
+    written ++ written2,
+    Consumes-trans a b b2 read read2 consumed consumed2,
+    Appends-trans c d d2 written written2 appended appended2,
+    λ i s h.
+        let (t, shown, begun) = through (before i) s h in
+        let (u, shown2, turn) = through2 i t shown in
+        let stops : Stops number t (buffer ++ read2) written2 end u = subst (λ n. Turn number t (buffer ++ read2) n written2 u rest) e turn in
+        (u, shown2, begun_ends number s t u read written buffer read2 written2 end begun stops),
+  )
+
+  -- no more than 10,000 messages are answered
+  pub carried_over : (a b c d : Option Bytes) (start now : M) (buffer : Bytes) (end : Ended) → Carried a b c d start now 10001 buffer → Talks shows is_intact a b c d start end now
+  carried_over a b c d start now buffer end (read, written, consumed, appended, intact, through) =
+      (read, written, consumed, appended, λ i s h. let (t, shown, begun) = through i s h in absurd (not_over s t read written buffer begun))

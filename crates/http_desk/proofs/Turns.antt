@@ -1,0 +1,277 @@
+-- Lemmas on one message's place.
+use Rattle.std.proofs.Common.{◌≡◌, ◌<◌, ◌≤◌, ◌+◌, ◌-◌, ◌⊎◌, inl, inr, ℕ, [], ◌++◌, length, take, drop, refl, sym, ap, ◌∙◌, subst, arith, true, false, Bool, append_assoc, Option, length-take, length-drop, length-append, take-append-drop, drop-drop}
+use Rattle.std.specs.Prelude.{◌||◌, nat_eq}
+use Rattle.std.specs.Io.KnownBytes.{Appends}
+use Rattle.std.proofs.KnownBytes.{Consumes-nil}
+use Rattle.std.proofs.lemmas.List.{take-append-le, drop-append-le}
+use Rattle.isad_core.specs.Texts.{Bytes}
+use Rattle.office_core.specs.State.{State}
+use Rattle.http_desk.specs.declared.ended.Ended.{Ended}
+use Rattle.http_desk.specs.declared.ended.Ended.TheVariants.{Closed, Cut, ReadFault, Bound}
+use Rattle.http_desk.specs.declared.ended.Next.{Next}
+use Rattle.http_desk.specs.declared.ended.Next.TheVariants.{Goes, Ends}
+use Rattle.http_messages.specs.declared.ending.Scan.TheVariants.{Whole}
+use Rattle.http_desk.specs.declared.sending.Sent.{Sent}
+use Rattle.http_desk.specs.declared.sending.Sent.TheVariants.{All, Failed, Bound as OutOfTurns}
+use Rattle.http_messages.specs.declared.status.Status.{Status}
+use Rattle.http_messages.specs.declared.status.Status.TheVariants.{Busy}
+use Rattle.http_messages.specs.Ending.{scan}
+use Rattle.http_messages.specs.Heads.{Request, Verdict, Accepted, Judges, is_head, body_length}
+use Rattle.http_messages.specs.Answers.{Answer, error, answer_text, answered}
+use Rattle.http_desk.specs.Messages.{longest_head, HasHead, Message, Begins, Last, Nothing, HeadCut, BodyCut, Answers, Fails, Stands, MayFail, IsBlank, IsHeadCut}
+use Rattle.http_desk.specs.Session.{IsFront, Stops, IsClosing, closes, leave_if, refusal, message_text, state_after, last_text, state_after_last}
+use Rattle.http_desk.specs.Sending.{Sends}
+use Rattle.http_desk.specs.Talking.{Turn, Through, Exchange, AtEndIf, Refused, after_sending}
+use Rattle.http_messages.proofs.Scans.{scan_take_more}
+
+-- ---- heads
+
+-- more input changes no head
+pub head_more : (input block : Bytes) (v : Verdict) (more rest : Bytes) → HasHead input block v more → HasHead (input ++ rest) block v (more ++ rest)
+head_more input block v more rest h = record {
+  ends = scan_take_more longest_head input rest (length block) h.ends;
+  whole = ap (λ l. l ++ rest) h.whole ∙ append_assoc block more rest;
+  judged = h.judged;
+}
+
+-- the head that was found
+pub head_found : (items : Bytes) (size : ℕ) (v : Verdict) → scan (take longest_head items) ≡ Whole size → size ≤ length items → Judges (take size items) v → HasHead items (take size items) v (drop size items)
+head_found items size v e h j =
+    let len : length (take size items) ≡ size = omega (arith, length-take size items) in
+    record { ends = e ∙ ap Whole (sym len); whole = sym (take-append-drop size items); judged = j }
+
+pub begins_more : (input : Bytes) (m : Message) (rest more : Bytes) → Begins input m rest → Begins (input ++ more) m (rest ++ more)
+begins_more input m rest more b = record {
+  block = b.block;
+  head = subst (λ l. HasHead (input ++ more) b.block (Accepted m.request) l) (append_assoc m.body rest more) (head_more input b.block (Accepted m.request) (m.body ++ rest) more b.head);
+  complete = b.complete;
+}
+
+-- ---- what a sending leaves
+
+pub IsWritten : Sent → Bytes → Bytes → Type 0
+IsWritten All full written = written ≡ full
+IsWritten Failed full written = IsFront written full
+IsWritten OutOfTurns full written = IsFront written full
+
+pub written_of : (a b : Option Bytes) (full : Bytes) (sent : Sent) → Sends a b full sent → (written : Bytes) × Appends a b written × IsWritten sent full written
+unfolding IsWritten
+written_of a b full All s = (full, s, refl)
+written_of a b full Failed (front, f, s) = (front, s, f)
+written_of a b full OutOfTurns (front, f, s) = (front, s, f)
+
+front_after : (before front full : Bytes) → IsFront front full → IsFront (before ++ front) (before ++ full)
+front_after before front full (rest, e) = (rest, ap (λ l. before ++ l) e ∙ sym (append_assoc before front rest))
+
+-- the answer that closes was sent, or broken off
+pub closed_turn : (number : ℕ) (s : State) (input before full written rest : Bytes) (new : State) (last : Last) (sent : Sent)
+    → Stands input last → IsClosing number last → before ++ full ≡ last_text number s last → new ≡ state_after_last s last → IsWritten sent full written
+    → Turn number s input (after_sending sent (Ends Closed)) (before ++ written) new rest
+unfolding IsWritten
+closed_turn number s input before full written rest new last All x c e n w =
+    record { last = last; stands = x; ends = c; written = ap (λ l. before ++ l) w ∙ e; leaves = n }
+closed_turn number s input before full written rest new last Failed x c e n w =
+    record { last = last; stands = x; ends = tt; written = subst (IsFront (before ++ written)) e (front_after before written full w); leaves = n }
+closed_turn number s input before full written rest new last OutOfTurns x c e n w =
+    record { last = last; stands = x; ends = tt; written = subst (IsFront (before ++ written)) e (front_after before written full w); leaves = n }
+
+-- the answer that leaves the connection open was sent, or broken off
+pub open_turn : (number : ℕ) (s : State) (input before full written rest : Bytes) (new : State) (m : Message) (sent : Sent)
+    → Begins input m rest → closes number m ≡ false → before ++ full ≡ message_text false s m → new ≡ state_after s m → IsWritten sent full written
+    → Turn number s input (after_sending sent Goes) (before ++ written) new rest
+unfolding IsWritten
+open_turn number s input before full written rest new m All x c e n w =
+    record { message = m; begins = x; stays = c; says = ap (λ l. before ++ l) w ∙ e; leaves = n }
+open_turn number s input before full written rest new m Failed x c e n w =
+    let all : before ++ full ≡ last_text number s (Answers m) = e ∙ ap (λ b. message_text b s m) (sym c) in
+    record { last = Answers m; stands = (rest, x); ends = tt; written = subst (IsFront (before ++ written)) all (front_after before written full w); leaves = n }
+open_turn number s input before full written rest new m OutOfTurns x c e n w =
+    let all : before ++ full ≡ last_text number s (Answers m) = e ∙ ap (λ b. message_text b s m) (sym c) in
+    record { last = Answers m; stands = (rest, x); ends = tt; written = subst (IsFront (before ++ written)) all (front_after before written full w); leaves = n }
+
+-- ---- places where the office is left alone
+
+never : {X : Type 0} → false ≡ true → X
+never e = cc
+
+-- 503 may stand anywhere
+pub may_fail : (input : Bytes) → MayFail input false false
+may_fail input = record { leave_due = λ e. never e; to_head = λ e. never e }
+
+-- and after 100 Continue, where a head that came whole waits for it
+pub may_fail_after : (input block more : Bytes) (r : Request) → HasHead input block (Accepted r) more → MayFail input r.waits false
+may_fail_after input block more r h = record { leave_due = λ e. (block, more, Accepted r, h, e); to_head = λ e. never e }
+
+module _ {M : Type 0} (shows : M → State → Type 0) (is_intact : M → Type 0) where
+  -- what stands last changes nothing in the office
+  abbrev pub AloneAt : ℕ → Last → Bytes → Type 0
+  AloneAt number last text = (s : State) → (text ≡ last_text number s last) × (s ≡ state_after_last s last)
+
+  -- a fixed answer was sent
+  pub refused : (number : ℕ) (old new : M) (input before rest : Bytes) (last : Last) (bare : Bool) (status : Status) (a b : Option Bytes) (next : Next)
+      → Refused a b bare status next → Stands input last → IsClosing number last → AloneAt number last (before ++ refusal bare (error status))
+      → (is_intact new → (s : State) → shows old s → shows new s)
+      → (written : Bytes) × Appends a b written × Through shows is_intact old new (λ s t. Turn number s input next (before ++ written) t rest)
+  refused number old new input before rest last bare status a b next (sent, sends, e) x c alone kept =
+      let (written, appended, is) = written_of a b (refusal bare (error status)) sent sends in (
+        written,
+        appended,
+        λ i s h. (
+          s,
+          kept i s h,
+          subst (λ n. Turn number s input n (before ++ written) s rest) (sym e)
+              (closed_turn number s input before (refusal bare (error status)) written rest s last sent x c (alone s).0 (alone s).1 is),
+        ),
+      )
+
+  -- the session stops, and nothing more was written
+  pub stopped : (number : ℕ) (office : M) (input before rest : Bytes) (last : Last) (end : Ended)
+      → ((s : State) → Stops number s input before end s) → Through shows is_intact office office (λ s t. Turn number s input (Ends end) before t rest)
+  stopped number office input before rest last end h = λ i s shown. (s, shown, h s)
+
+  -- the body of a message in a buffer
+  abbrev pub body_at : Bytes → ℕ → ℕ → Bytes
+  body_at items size n = take ((size + n) - size) (drop size items)
+
+  message_at : (items : Bytes) (size n : ℕ) (request : Request) (rest : Bytes)
+      → HasHead items (take size items) (Accepted request) (drop size items) → size + n ≤ length items → n ≡ body_length request → rest ≡ drop (size + n) items
+      → Begins items (record { request = request; body = body_at items size n }) rest
+  message_at items size n request rest h within e r =
+      let same : (size + n) - size ≡ n = omega arith in
+      let split : drop size items ≡ body_at items size n ++ rest =
+      sym (take-append-drop n (drop size items)) ∙ ap (λ k. take k (drop size items) ++ drop n (drop size items)) (sym same)
+      ∙ ap (λ l. body_at items size n ++ l) (drop-drop n size items ∙ sym r) in
+      record {
+        block = take size items;
+        head = subst (HasHead items (take size items) (Accepted request)) split h;
+        complete = omega (arith, length-take ((size + n) - size) (drop size items), length-drop size items);
+      }
+
+  -- the office answered, and its answer was sent
+  pub acted_closing : (number : ℕ) (old new : M) (items : Bytes) (size n : ℕ) (request : Request) (told : Answer) (bare : Bool) (rest : Bytes) (a b : Option Bytes) (sent : Sent) (next : Next)
+      → HasHead items (take size items) (Accepted request) (drop size items) → size + n ≤ length items → n ≡ body_length request → rest ≡ drop (size + n) items
+      → bare ≡ is_head request.method → (request.closes || nat_eq number 10000) ≡ true → next ≡ after_sending sent (Ends Closed)
+      → Sends a b (answer_text bare true told) sent
+      → (is_intact new → (s : State) → shows old s → shows new (answered s request (body_at items size n)).1 × (told ≡ (answered s request (body_at items size n)).0))
+      → (written : Bytes) × Appends a b written × Through shows is_intact old new (λ s t. Turn number s items next (leave_if request.waits ++ written) t rest)
+  acted_closing number old new items size n request told bare rest a b sent next h within e r is_bare closing ends sends answers =
+      let (written, appended, is) = written_of a b (answer_text bare true told) sent sends in
+      let message : Message = record { request = request; body = body_at items size n } in
+      let begins = message_at items size n request rest h within e r in (
+        written,
+        appended,
+        λ i s shown.
+            let (shown_after, told_is) = answers i s shown in
+            let says : leave_if request.waits ++ answer_text bare true told ≡ last_text number s (Answers message) =
+            λ j. leave_if request.waits ++ answer_text (is_bare j) (sym closing j) (told_is j) in (
+              state_after s message,
+              shown_after,
+              subst (λ x. Turn number s items x (leave_if request.waits ++ written) (state_after s message) rest) (sym ends)
+                  (closed_turn number s items (leave_if request.waits) (answer_text bare true told) written rest (state_after s message) (Answers message) sent (rest, begins) closing says refl is),
+            ),
+      )
+
+  pub acted_open : (number : ℕ) (old new : M) (items : Bytes) (size n : ℕ) (request : Request) (told : Answer) (bare : Bool) (rest : Bytes) (a b : Option Bytes) (sent : Sent) (next : Next)
+      → HasHead items (take size items) (Accepted request) (drop size items) → size + n ≤ length items → n ≡ body_length request → rest ≡ drop (size + n) items
+      → bare ≡ is_head request.method → (request.closes || nat_eq number 10000) ≡ false → next ≡ after_sending sent Goes
+      → Sends a b (answer_text bare false told) sent
+      → (is_intact new → (s : State) → shows old s → shows new (answered s request (body_at items size n)).1 × (told ≡ (answered s request (body_at items size n)).0))
+      → (written : Bytes) × Appends a b written × Through shows is_intact old new (λ s t. Turn number s items next (leave_if request.waits ++ written) t rest)
+  acted_open number old new items size n request told bare rest a b sent next h within e r is_bare closing ends sends answers =
+      let (written, appended, is) = written_of a b (answer_text bare false told) sent sends in
+      let message : Message = record { request = request; body = body_at items size n } in
+      let begins = message_at items size n request rest h within e r in (
+        written,
+        appended,
+        λ i s shown.
+            let (shown_after, told_is) = answers i s shown in
+            let says : leave_if request.waits ++ answer_text bare false told ≡ message_text false s message =
+            λ j. leave_if request.waits ++ answer_text (is_bare j) false (told_is j) in (
+              state_after s message,
+              shown_after,
+              subst (λ x. Turn number s items x (leave_if request.waits ++ written) (state_after s message) rest) (sym ends)
+                  (open_turn number s items (leave_if request.waits) (answer_text bare false told) written rest (state_after s message) message sent begins closing says refl is),
+            ),
+      )
+
+  -- the leave to send a body was broken off
+  pub leave_broken : (number : ℕ) (office : M) (items block more : Bytes) (request : Request) (a b c : Option Bytes) (sent : Sent) (next result : Next)
+      → (sent ≡ All → ⊥) → result ≡ after_sending sent next → HasHead items block (Accepted request) more → Sends b c (leave_if request.waits) sent
+      → Exchange shows is_intact number a a b c office items result office items × AtEndIf a result
+  leave_broken number office items block more request a b c All next result n e h s = absurd (n refl)
+  leave_broken number office items block more request a b c Failed next result n e h (front, (others, f), s) =
+      let there : HasHead (items ++ []) block (Accepted request) (more ++ []) = head_more items block (Accepted request) more [] h in (
+        (
+          [],
+          front,
+          Consumes-nil a,
+          s,
+          λ i x shown. (
+            x,
+            shown,
+            subst (λ r. Turn number x (items ++ []) r front x items) (sym e) (record {
+              last = Fails request.waits false;
+              stands = may_fail_after (items ++ []) block (more ++ []) request there;
+              ends = tt;
+              written = (others ++ refusal false (error Busy), ap (λ l. l ++ refusal false (error Busy)) f ∙ append_assoc front others (refusal false (error Busy)));
+              leaves = refl;
+            }),
+          ),
+        ),
+        subst (AtEndIf a) (sym e) tt,
+      )
+  leave_broken number office items block more request a b c OutOfTurns next result n e h (front, (others, f), s) =
+      let there : HasHead (items ++ []) block (Accepted request) (more ++ []) = head_more items block (Accepted request) more [] h in (
+        (
+          [],
+          front,
+          Consumes-nil a,
+          s,
+          λ i x shown. (
+            x,
+            shown,
+            subst (λ r. Turn number x (items ++ []) r front x items) (sym e) (record {
+              last = Fails request.waits false;
+              stands = may_fail_after (items ++ []) block (more ++ []) request there;
+              ends = tt;
+              written = (others ++ refusal false (error Busy), ap (λ l. l ++ refusal false (error Busy)) f ∙ append_assoc front others (refusal false (error Busy)));
+              leaves = refl;
+            }),
+          ),
+        ),
+        subst (AtEndIf a) (sym e) tt,
+      )
+
+-- a head that was found is the same in a buffer that has grown
+pub front_same : (items new got : Bytes) (size : ℕ) → size ≤ length items → new ≡ items ++ got → take size items ≡ take size new
+front_same items new got size h e = sym (ap (take size) e ∙ take-append-le size items got h)
+
+pub head_grown : (items new got : Bytes) (size : ℕ) (v : Verdict) → size ≤ length items → new ≡ items ++ got
+    → HasHead items (take size items) v (drop size items) → HasHead new (take size new) v (drop size new)
+head_grown items new got size v h e a =
+    let t : take size items ≡ take size new = sym (ap (take size) e ∙ take-append-le size items got h) in
+    let d : drop size items ++ got ≡ drop size new = sym (ap (drop size) e ∙ drop-append-le size items got h) in
+    let one : HasHead (items ++ got) (take size items) v (drop size items ++ got) = head_more items (take size items) v (drop size items) got a in
+    let two = subst (λ b. HasHead (items ++ got) b v (drop size items ++ got)) t one in
+    let three = subst (λ m. HasHead (items ++ got) (take size new) v m) d two in
+    subst (λ i. HasHead i (take size new) v (drop size new)) (sym e) three
+
+-- the input stops inside a body
+pub stops_in_body : (number : ℕ) (s : State) (items new got : Bytes) (size : ℕ) (r : Request) (end : Ended) → size ≤ length items → new ≡ items ++ got → length new < size + body_length r
+    → HasHead items (take size items) (Accepted r) (drop size items) → ((end ≡ Cut) ⊎ (end ≡ ReadFault)) → Stops number s (items ++ got) (leave_if r.waits) end s
+stops_in_body number s items new got size r end h e l a which =
+    let len : length new ≡ length items + length got = ap length e ∙ length-append items got in
+    let stands : Stands (items ++ got) (BodyCut r) = (take size items, drop size items ++ got, head_more items (take size items) (Accepted r) (drop size items) got a, omega (arith, length-append (drop size items) got, length-drop size items)) in
+    elim which as (λ w. Stops number s (items ++ got) (leave_if r.waits) end s) [
+      | inl f ↦ subst (λ x. Stops number s (items ++ got) (leave_if r.waits) x s) (sym f) (record { last = BodyCut r; stands = stands; ends = tt; written = refl; leaves = refl })
+      | inr f ↦ subst (λ x. Stops number s (items ++ got) (leave_if r.waits) x s) (sym f) (record { last = BodyCut r; stands = stands; ends = inr tt; written = refl; leaves = refl })
+    ]
+
+-- the input stops before a head or inside it
+pub stops_early : (number : ℕ) (s : State) (input : Bytes) → (IsBlank input ⊎ IsHeadCut input) → Stops number s input [] ReadFault s
+stops_early number s input (inl h) = record { last = Nothing; stands = h; ends = inl refl; written = refl; leaves = refl }
+stops_early number s input (inr h) = record { last = HeadCut; stands = h; ends = inr tt; written = refl; leaves = refl }
+
+-- a bound, where a head may have asked for leave
+pub bound_here : (number : ℕ) (s : State) (input : Bytes) (leave : Bool) → MayFail input leave false → Stops number s input (leave_if leave) Bound s
+bound_here number s input leave m = record { last = Fails leave false; stands = m; ends = tt; written = (refusal false (error Busy), refl); leaves = refl }

@@ -1,0 +1,70 @@
+-- The session of the whole input: what follows a closing answer means nothing.
+use Rattle.std.proofs.Common.{◌≡◌, ℕ, suc, [], ◌++◌, length, length-append, Option, None, Some, Bool, sym, ap, ◌∙◌, subst, append-nil, arith}
+use Rattle.std.proofs.lemmas.List.{take-append-le}
+use Rattle.isad_core.specs.Texts.{Bytes}
+use Rattle.office_core.specs.State.{State}
+use Rattle.http_desk.specs.declared.ended.Ended.{Ended}
+use Rattle.http_desk.specs.declared.ended.Ended.TheVariants.{End, Closed, Cut, ReadFault, WriteFault, Bound}
+use Rattle.http_desk.specs.declared.ended.Next.TheVariants.{Ends}
+use Rattle.http_messages.specs.Ending.{scan}
+use Rattle.http_messages.specs.Heads.{Verdict}
+use Rattle.http_desk.specs.Messages.{longest_head, Last, Nothing, HeadCut, BodyCut, NoHead, Refuses, Answers, Fails, Stands, SomeHead, IsTooLong}
+use Rattle.http_desk.specs.Session.{IsClosing, Session}
+use Rattle.http_desk.specs.Talking.{AtEndIf, Talks, TalksWhole}
+use Rattle.http_desk.proofs.Turns.{head_more, begins_more}
+use Rattle.http_desk.proofs.Sessions.{cuts_longer}
+
+too_long_more : (input more : Bytes) → IsTooLong input → IsTooLong (input ++ more)
+too_long_more input more (long, place, is_open) =
+    (omega (arith, length-append input more), place, ap scan (take-append-le longest_head input more long) ∙ is_open)
+
+some_head_more : (input more : Bytes) (test : Verdict → Bool) → SomeHead input test → SomeHead (input ++ more) test
+some_head_more input more test (block, rest, verdict, h, e) = (block, rest ++ more, verdict, head_more input block verdict rest more h, e)
+
+stands_more : (number : ℕ) (input more : Bytes) (last : Last) → IsClosing number last → Stands input last → Stands (input ++ more) last
+stands_more number input more Nothing c x = absurd c
+stands_more number input more HeadCut c x = absurd c
+stands_more number input more (BodyCut r) c x = absurd c
+stands_more number input more NoHead c x = too_long_more input more x
+stands_more number input more (Refuses status bare) c x = (x.0, x.1 ++ more, head_more input x.0 _ x.1 more x.2)
+stands_more number input more (Answers m) c x = (x.0 ++ more, begins_more input m x.0 more x.1)
+stands_more number input more (Fails leave bare) c x = record {
+  leave_due = λ e. some_head_more input more _ (x.leave_due e);
+  to_head = λ e. some_head_more input more _ (x.to_head e);
+}
+
+-- what follows a closing answer means nothing
+pub nothing_follows : (s : State) (input out more : Bytes) (new : State) → Session s input out Closed new → Session s (input ++ more) out Closed new
+nothing_follows s input out more new a = record {
+  messages = a.messages;
+  rest = a.rest ++ more;
+  out = a.out;
+  cut = cuts_longer input a.messages a.rest more a.cut;
+  stay = a.stay;
+  few = a.few;
+  stops = record {
+    last = a.stops.last;
+    stands = stands_more (suc (length a.messages)) a.rest more a.stops.last a.stops.ends a.stops.stands;
+    ends = a.stops.ends;
+    written = a.stops.written;
+    leaves = a.stops.leaves;
+  };
+  says = a.says;
+}
+
+all_read : (xs ys read : Bytes) → xs ≡ read ++ ys → ys ≡ [] → read ≡ xs
+all_read xs ys read e f = sym (e ∙ ap (λ l. read ++ l) f ∙ append-nil read)
+
+pub talks_whole : {M : Type 0} (shows : M → State → Type 0) (is_intact : M → Type 0) (a b c d : Option Bytes) (old new : M) (end : Ended)
+    → Talks shows is_intact a b c d old end new → AtEndIf b (Ends end) → TalksWhole shows is_intact a c d old end new
+talks_whole shows is_intact None b c d old new end t at_end = tt
+talks_whole shows is_intact (Some xs) None c d old new end (read, written, q, p, through) at_end = absurd q
+talks_whole shows is_intact (Some xs) (Some ys) c d old new End (read, written, q, p, through) at_end =
+    λ h. (written, p, λ i s x. let (t, y, session) = through i s x in (t, y, subst (λ l. Session s l written End t) (all_read xs ys read q at_end) session))
+talks_whole shows is_intact (Some xs) (Some ys) c d old new Cut (read, written, q, p, through) at_end =
+    λ h. (written, p, λ i s x. let (t, y, session) = through i s x in (t, y, subst (λ l. Session s l written Cut t) (all_read xs ys read q at_end) session))
+talks_whole shows is_intact (Some xs) (Some ys) c d old new Closed (read, written, q, p, through) at_end =
+    λ h. (written, p, λ i s x. let (t, y, session) = through i s x in (t, y, subst (λ l. Session s l written Closed t) (sym q) (nothing_follows s read written ys t session)))
+talks_whole shows is_intact (Some xs) (Some ys) c d old new ReadFault t at_end = λ h. absurd h
+talks_whole shows is_intact (Some xs) (Some ys) c d old new WriteFault t at_end = λ h. absurd h
+talks_whole shows is_intact (Some xs) (Some ys) c d old new Bound t at_end = λ h. absurd h

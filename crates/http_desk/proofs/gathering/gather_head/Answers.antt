@@ -1,0 +1,72 @@
+use Rattle.std.proofs.Common.{◌≡◌, ◌<◌, ◌+◌, length, take, arith, ap, sym, ◌∙◌, subst}
+use Rattle.http_messages.specs.Ending.{scan}
+use Rattle.http_messages.specs.declared.ending.Scan.TheVariants.{Open}
+use Rattle.http_desk.specs.Quiet.{QuietFill}
+use Rattle.http_desk.proofs.Fills.{reads_trans}
+use Rattle.http_messages.specs.declared.ending.Place.TheVariants.{Lead}
+use Rattle.http_desk.specs.declared.filling.Filled.TheVariants.{More, AtEnd, Failed}
+use Rattle.http_messages.proofs.Scans.{scan_take_within, scan_take_limit, scan_take_open}
+use Rattle.http_desk.proofs.Places.{blank_or_cut}
+use Rattle.http_desk.proofs.gathering.gather_head.Goals as goal
+
+more_not_end : AtEnd ≡ More → ⊥
+more_not_end e = cc
+
+more_not_failed : Failed ≡ More → ⊥
+more_not_failed e = cc
+
+pub returns-in-Whole-clause-found : goal.returns-in-Whole-clause-found
+returns-in-Whole-clause-found g c =
+    let e = ap (λ b. scan (take 16384 b)) (sym c.deref.ensures.value) ∙ sym c.look.ensures ∙ c.in-Whole.is in
+    (e, scan_take_within 16384 c.loop-size.buffer.items c.in-Whole.size e, scan_take_limit 16384 c.loop-size.buffer.items c.in-Whole.size e)
+
+pub loop-size-preserved : goal.loop-size-preserved
+loop-size-preserved g c = record {
+  came = reads_trans _ _ _ _ _ _ c.loop-size.invariant.came c.fill.ensures.got;
+  quiet = λ q.
+      let (before, one) = c.fill.ensures.quiet q in
+      let (first, kept) = c.loop-size.invariant.quiet before in
+      let more = c.fill.ensures.more c.in-More.is in
+      let took : c.fill.new.turns + 1 ≡ c.loop-size.turns = subst (λ f. QuietFill f c.loop-size.turns c.fill.new.turns) c.in-More.is one in
+      (first, omega arith);
+}
+
+pub returns-in-Lead-clause-got : goal.returns-in-Lead-clause-got
+returns-in-Lead-clause-got g c = reads_trans _ _ _ _ _ _ c.loop-size.invariant.came c.fill.ensures.got
+
+pub returns-in-Lead-clause-found : goal.returns-in-Lead-clause-found
+returns-in-Lead-clause-found g c =
+    let same = c.fill.ensures.same (λ e. more_not_end (sym c.in-AtEnd.is ∙ e)) in
+    let seen = ap (λ b. scan (take 16384 b)) (sym c.deref.ensures.value) ∙ sym c.look.ensures ∙ c.in-Open.is ∙ ap Open c.in-Lead.is in
+    let short : length c.loop-size.buffer.items < 16384 = omega arith in
+    scan_take_open c.loop-size.buffer.items c.fill.new.buffer.items Lead same short seen
+
+pub returns-in_default : goal.returns-in_default
+returns-in_default g c =
+    let same = c.fill.ensures.same (λ e. more_not_end (sym c.in-AtEnd.is ∙ e)) in
+    let seen = ap (λ b. scan (take 16384 b)) (sym c.deref.ensures.value) ∙ sym c.look.ensures ∙ c.in-Open.is in
+    let short : length c.loop-size.buffer.items < 16384 = omega arith in
+    let (below, «open») = scan_take_open c.loop-size.buffer.items c.fill.new.buffer.items c.in-Open.place same short seen in
+    record {
+      got = reads_trans _ _ _ _ _ _ c.loop-size.invariant.came c.fill.ensures.got;
+      found = (below, c.in-Open.place, c.in_default.not-Lead, «open»);
+      at_end = c.fill.ensures.at_end c.in-AtEnd.is;
+      quiet = λ q. let (before, one) = c.fill.ensures.quiet q in ((c.loop-size.invariant.quiet before).0, tt);
+    }
+
+pub returns-in-Failed-clause-got : goal.returns-in-Failed-clause-got
+returns-in-Failed-clause-got g c = reads_trans _ _ _ _ _ _ c.loop-size.invariant.came c.fill.ensures.got
+
+pub returns-in-Bound-clause-got : goal.returns-in-Bound-clause-got
+returns-in-Bound-clause-got g c = reads_trans _ _ _ _ _ _ c.loop-size.invariant.came c.fill.ensures.got
+
+pub returns-in-NoMemory-clause-got : goal.returns-in-NoMemory-clause-got
+returns-in-NoMemory-clause-got g c = reads_trans _ _ _ _ _ _ c.loop-size.invariant.came c.fill.ensures.got
+
+pub returns-in-Failed-clause-found : goal.returns-in-Failed-clause-found
+returns-in-Failed-clause-found g c =
+    let same = c.fill.ensures.same (λ e. more_not_failed (sym c.in-Failed.is ∙ e)) in
+    let seen = ap (λ b. scan (take 16384 b)) (sym c.deref.ensures.value) ∙ sym c.look.ensures ∙ c.in-Open.is in
+    let short : length c.loop-size.buffer.items < 16384 = omega arith in
+    let (below, «open») = scan_take_open c.loop-size.buffer.items c.fill.new.buffer.items c.in-Open.place same short seen in
+    blank_or_cut c.fill.new.buffer.items c.in-Open.place below «open»

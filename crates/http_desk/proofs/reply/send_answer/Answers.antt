@@ -1,0 +1,19 @@
+use Rattle.std.proofs.Common.{ap, ◌∙◌, length}
+use Rattle.std.specs.Prelude.{decimal}
+use Rattle.http_messages.specs.Answers.{number_of, phrase_of, type_name, body_text}
+use Rattle.http_messages.specs.Replies.{answer_in}
+use Rattle.http_desk.proofs.Printed.{sent_pieces}
+use Rattle.http_desk.proofs.reply.send_answer.Goals as goal
+
+pub returns-clause-sends : goal.returns-clause-sends
+returns-clause-sends g c =
+    let a = answer_in c.args.answer.now in
+    sent_pieces _ _ c.send_pieces.result c.args.closing a (body_text c.args.bare a) _ _ _ _ _ _ _
+    (c.as_bytes-number.ensures.value ∙ c.format.ensures.text ∙ ap decimal (c.as_u16.ensures.value ∙ c.code_of.ensures ∙ ap number_of c.status-status.ensures))
+    (c.phrase.ensures.phrase ∙ ap phrase_of c.status-status.ensures)
+    (c.type_of.ensures.name ∙ ap type_name c.is_text.ensures)
+    (c.as_bytes-length.ensures.value ∙ c.format-2.ensures.text ∙ ap (λ b. decimal (length b)) c.body.ensures)
+    c.allow_line.ensures.line
+    c.close_line.ensures.line
+    c.written_body.ensures
+    c.send_pieces.ensures.sends

@@ -1,0 +1,7 @@
+use Rattle.http_messages.specs.Answers.{continue_text}
+use Rattle.http_desk.proofs.Sends.{sends}
+use Rattle.http_desk.proofs.reply.send_continue.Goals as goal
+
+pub returns-clause-sends : goal.returns-clause-sends
+unfolding continue_text
+returns-clause-sends g c = sends _ _ _ c.send.result c.send.ensures.all c.send.ensures.front

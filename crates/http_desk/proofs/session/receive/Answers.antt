@@ -1,0 +1,89 @@
+use Rattle.std.proofs.Common.{◌<◌, ◌+◌, ◌++◌, length, take, drop, refl, subst, inl, inr, arith, false}
+use Rattle.std.specs.Prelude.{unwrap_or}
+use Rattle.std.proofs.KnownBytes.{Appends-trans}
+use Rattle.http_messages.specs.Heard.{request_in}
+use Rattle.http_messages.specs.Heads.{Accepted}
+use Rattle.http_desk.specs.Messages.{HasHead, Fails}
+use Rattle.http_desk.specs.Session.{leave_if}
+use Rattle.http_desk.specs.Talking.{Turn, Through}
+use Rattle.http_messages.specs.declared.status.Status.TheVariants.{Busy}
+use Rattle.http_desk.specs.declared.ended.Ended.TheVariants.{Cut, ReadFault}
+use Rattle.http_desk.proofs.Turns.{leave_broken, front_same, head_grown, head_more, stops_in_body, bound_here, may_fail_after, refused}
+use Rattle.http_desk.proofs.session.receive.Goals as goal
+
+pub returns-in_default : goal.returns-in_default
+returns-in_default g c =
+    let items = c.args.buffer.now.items in
+    let size = c.args.size in
+    let (turn, at_end) = leave_broken g.M.Machine.shows g.M.Machine.is_intact c.args.number c.args.office.now items (take size items) (drop size items) (request_in (take size items) c.args.head) (g.R.Read.remaining c.args.reader.now) _ _ c.give_leave.result _ c.after.result
+    c.in_default.not-All c.after.ensures c.requires.accepted c.give_leave.ensures.sends in
+    record { turn = turn; intact = λ i. i; at_end = at_end; quiet = λ q. absurd (c.in_default.not-All (c.give_leave.ensures.quiet q).1) }
+
+pub act-requires-clause-accepted : goal.act-requires-clause-accepted
+act-requires-clause-accepted g c =
+    let items = c.args.buffer.now.items in
+    let new = c.gather_body.new.buffer.items in
+    let size = c.args.size in
+    let (got, consumed, e) = c.gather_body.ensures.got in
+    subst (λ b. HasHead new (take size new) (Accepted (request_in b c.args.head)) (drop size new)) (front_same items new got size c.requires.within e)
+    (head_grown items new got size (Accepted (request_in (take size items) c.args.head)) c.requires.within e c.requires.accepted)
+
+pub returns-in-Whole-clause-turn : goal.returns-in-Whole-clause-turn
+returns-in-Whole-clause-turn g c =
+    let (got, consumed, e) = c.gather_body.ensures.got in
+    let (written, appended, through) = c.act.ensures.turn in (
+      got,
+      leave_if c.args.head.waits ++ written,
+      consumed,
+      Appends-trans _ _ _ _ _ c.in-All.ensures.sends appended,
+      subst (λ input. Through g.M.Machine.shows g.M.Machine.is_intact c.args.office.now c.act.new.office (λ s t. Turn c.args.number s input c.act.result (leave_if c.args.head.waits ++ written) t c.act.new.buffer.items)) e through,
+    )
+
+pub returns-in-Cut-clause-turn : goal.returns-in-Cut-clause-turn
+returns-in-Cut-clause-turn g c =
+    let items = c.args.buffer.now.items in
+    let size = c.args.size in
+    let (got, consumed, e) = c.gather_body.ensures.got in
+    let short : length c.gather_body.new.buffer.items < size + unwrap_or c.args.head.length 0 = omega (arith, c.in-Cut.ensures.found) in (
+      got,
+      leave_if c.args.head.waits,
+      consumed,
+      c.in-All.ensures.sends,
+      λ i s shown. (s, shown, stops_in_body c.args.number s items c.gather_body.new.buffer.items got size (request_in (take size items) c.args.head) Cut c.requires.within e short c.requires.accepted (inl refl)),
+    )
+
+pub returns-in-Failed-clause-turn : goal.returns-in-Failed-clause-turn
+returns-in-Failed-clause-turn g c =
+    let items = c.args.buffer.now.items in
+    let size = c.args.size in
+    let (got, consumed, e) = c.gather_body.ensures.got in
+    let short : length c.gather_body.new.buffer.items < size + unwrap_or c.args.head.length 0 = omega (arith, c.in-Failed.ensures.found) in (
+      got,
+      leave_if c.args.head.waits,
+      consumed,
+      c.in-All.ensures.sends,
+      λ i s shown. (s, shown, stops_in_body c.args.number s items c.gather_body.new.buffer.items got size (request_in (take size items) c.args.head) ReadFault c.requires.within e short c.requires.accepted (inr refl)),
+    )
+
+pub returns-in-Bound-clause-turn : goal.returns-in-Bound-clause-turn
+returns-in-Bound-clause-turn g c =
+    let items = c.args.buffer.now.items in
+    let size = c.args.size in
+    let (got, consumed, e) = c.gather_body.ensures.got in
+    let there = head_more items (take size items) (Accepted (request_in (take size items) c.args.head)) (drop size items) got c.requires.accepted in (
+      got,
+      leave_if c.args.head.waits,
+      consumed,
+      c.in-All.ensures.sends,
+      λ i s shown. (s, shown, bound_here c.args.number s (items ++ got) c.args.head.waits (may_fail_after (items ++ got) (take size items) (drop size items ++ got) (request_in (take size items) c.args.head) there)),
+    )
+
+pub returns-in-NoMemory-clause-turn : goal.returns-in-NoMemory-clause-turn
+returns-in-NoMemory-clause-turn g c =
+    let items = c.args.buffer.now.items in
+    let size = c.args.size in
+    let (got, consumed, e) = c.gather_body.ensures.got in
+    let there = head_more items (take size items) (Accepted (request_in (take size items) c.args.head)) (drop size items) got c.requires.accepted in
+    let (written, appended, through) = refused g.M.Machine.shows g.M.Machine.is_intact c.args.number c.args.office.now c.args.office.now (items ++ got) (leave_if c.args.head.waits) c.gather_body.new.buffer.items (Fails c.args.head.waits false) false Busy _ _ _ c.refuse.ensures.sent
+    (may_fail_after (items ++ got) (take size items) (drop size items ++ got) (request_in (take size items) c.args.head) there) tt (λ s. (refl, refl)) (λ i s h. h) in
+    (got, leave_if c.args.head.waits ++ written, consumed, Appends-trans _ _ _ _ _ c.in-All.ensures.sends appended, through)

@@ -1,0 +1,77 @@
+-- What each part of a session's code says of one message's place.
+use Rattle.std.specs.Prelude.{◌≡◌, ℕ, ◌++◌, Bool, false, Option, IfSome}
+use Rattle.std.specs.Io.KnownBytes.{Consumes, Appends, IsAtEnd}
+use Rattle.isad_core.specs.Texts.{Bytes}
+use Rattle.office_core.specs.State.{State}
+use Rattle.http_desk.specs.declared.ended.Ended.{Ended}
+use Rattle.http_desk.specs.declared.ended.Ended.TheVariants.{End, Closed, Cut, WriteFault, Bound}
+use Rattle.http_desk.specs.declared.ended.Next.{Next}
+use Rattle.http_desk.specs.declared.ended.Next.TheVariants.{Goes, Ends}
+use Rattle.http_desk.specs.declared.sending.Sent.{Sent}
+use Rattle.http_desk.specs.declared.sending.Sent.TheVariants.{All, Failed, Bound as OutOfTurns}
+use Rattle.http_messages.specs.declared.status.Status.{Status}
+use Rattle.http_messages.specs.Answers.{error}
+use Rattle.http_desk.specs.Sending.{Sends}
+use Rattle.http_desk.specs.Messages.{Message, Begins}
+use Rattle.http_desk.specs.Session.{closes, message_text, state_after, refusal, Stops, Session}
+use Rattle.http_desk.specs.Laws.{HasEnded}
+
+-- a message was answered, and the next may come
+pub record GoesOn (number : ℕ) (s : State) (input out : Bytes) (new : State) (rest : Bytes) : Type 0 where
+  pub message : Message
+  pub begins : Begins input message rest
+  pub stays : closes number message ≡ false
+  pub says : out ≡ message_text false s message
+  pub leaves : new ≡ state_after s message
+
+abbrev pub Turn : ℕ → State → Bytes → Next → Bytes → State → Bytes → Type 0
+Turn number s input Goes out new rest = GoesOn number s input out new rest
+Turn number s input (Ends end) out new rest = Stops number s input out end new
+
+-- from one office to another, where the store has returned what was written
+abbrev pub Through : {M : Type 0} → (M → State → Type 0) → (M → Type 0) → M → M → (State → State → Type 0) → Type 0
+Through shows is_intact old new P = is_intact new → (s : State) → shows old s → (t : State) × shows new t × P s t
+
+-- what stood in a buffer and what a reader gave then, answered on a writer, is one message's place
+abbrev pub Exchange : {M : Type 0} → (M → State → Type 0) → (M → Type 0) → ℕ → Option Bytes → Option Bytes
+    → Option Bytes → Option Bytes → M → Bytes → Next → M → Bytes → Type 0
+Exchange shows is_intact number left left_after held held_after old buffer next new rest =
+    (read : Bytes) × (written : Bytes) × Consumes left left_after read × Appends held held_after written
+    × Through shows is_intact old new (λ s t. Turn number s (buffer ++ read) next written t rest)
+
+-- what was read and written in a session
+abbrev pub Talks : {M : Type 0} → (M → State → Type 0) → (M → Type 0) → Option Bytes → Option Bytes → Option Bytes
+    → Option Bytes → M → Ended → M → Type 0
+Talks shows is_intact left left_after held held_after old end new =
+    (read : Bytes) × (written : Bytes) × Consumes left left_after read × Appends held held_after written
+    × Through shows is_intact old new (λ s t. Session s read written end t)
+
+-- these say that the input has ended
+abbrev pub AtEndIf : Option Bytes → Next → Type 0
+AtEndIf left (Ends End) = IsAtEnd left
+AtEndIf left (Ends Cut) = IsAtEnd left
+AtEndIf left _ = Unit {0}
+
+-- what comes after a sending that may have failed
+abbrev pub after_sending : Sent → Next → Next
+after_sending All next = next
+after_sending Failed next = Ends WriteFault
+after_sending OutOfTurns next = Ends Bound
+
+-- neither is the end of the input
+abbrev pub IsNoEnd : Next → Type 0
+IsNoEnd (Ends End) = ⊥
+IsNoEnd (Ends Cut) = ⊥
+IsNoEnd _ = Unit {0}
+
+-- an answer that closes was sent
+abbrev pub Refused : Option Bytes → Option Bytes → Bool → Status → Next → Type 0
+Refused held held_after bare status next = (sent : Sent) × Sends held held_after (refusal bare (error status)) sent
+    × (next ≡ after_sending sent (Ends Closed))
+
+-- the session of the whole input that a reader had
+abbrev pub TalksWhole : {M : Type 0} → (M → State → Type 0) → (M → Type 0) → Option Bytes → Option Bytes
+    → Option Bytes → M → Ended → M → Type 0
+TalksWhole shows is_intact remaining held held_after old end new =
+    IfSome remaining (λ input. HasEnded end → (written : Bytes) × Appends held held_after written
+    × Through shows is_intact old new (λ s t. Session s input written end t))

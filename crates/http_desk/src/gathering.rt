@@ -1,0 +1,121 @@
+//! Gathers a head, or a body, in a buffer.
+ghost use Rattle.std.specs.Prelude.{◌≡◌, ◌+◌, ◌≤◌, length, take, false};
+ghost use Rattle.http_desk.specs.Quiet.{QuietHead, QuietBody};
+ghost use Rattle.http_desk.specs.Gathering.{FindsHead, FindsBody, AtEndIfHead, AtEndIfBody, Reads};
+ghost use Rattle.http_messages.specs.Ending.{scan};
+
+use crate::filling::{Filled, fill};
+use http_messages::ending::{Place, Scan, scan_head};
+use std::io::Read;
+
+/// How many bytes a head may have, with the empty lines before it.
+pub const HEAD_LIMIT: usize = 16384;
+
+/// What the front of the input is.
+#[derive(Clone, Copy, Debug, PartialEq, Eq, Drop)]
+pub enum FoundHead {
+    /// A head of that many bytes.
+    Whole(usize),
+    /// No head ends within the limit.
+    TooLong,
+    /// The input has ended with nothing but empty lines.
+    Blank,
+    /// The input has ended within a head.
+    Cut,
+    /// A read failed.
+    Failed,
+    /// The turns were used up.
+    Bound,
+    /// There was no memory.
+    NoMemory,
+}
+
+/// How the reading of a body ended.
+#[derive(Clone, Copy, Debug, PartialEq, Eq, Drop)]
+pub enum FoundBody {
+    /// It is whole.
+    Whole,
+    /// The input has ended within it.
+    Cut,
+    /// A read failed.
+    Failed,
+    /// The turns were used up.
+    Bound,
+    /// There was no memory.
+    NoMemory,
+}
+
+/// What the bytes so far say, if they say it.
+fn look(buffer: &[u8]) -> Scan
+    ensures { result ≡ scan (take 16384 buffer.now) }
+{
+    if buffer.len() <= HEAD_LIMIT {
+        scan_head(buffer)
+    } else {
+        scan_head(&buffer[..HEAD_LIMIT])
+    }
+}
+
+/// Reads until a whole head stands in the buffer.
+pub fn gather_head<R: Read>(
+    reader: &mut R,
+    buffer: &mut Vec<u8>,
+    turns: &mut u32,
+    disturbed: &mut bool,
+) -> FoundHead
+    ensures got { Reads (R.remaining reader.old) (R.remaining reader.new) buffer.old.items buffer.new.items }
+    ensures found { FindsHead buffer.new.items result }
+    ensures at_end { AtEndIfHead (R.remaining reader.new) result }
+    ensures quiet { disturbed.new ≡ false
+        → (disturbed.old ≡ false)
+        × QuietHead result (turns.old + length buffer.old.items) (turns.new + length buffer.new.items) }
+{
+    loop {
+        match look(buffer) {
+            Scan::Whole(size) => return FoundHead::Whole(size),
+            Scan::Open(place) => {
+                if buffer.len() >= HEAD_LIMIT {
+                    return FoundHead::TooLong;
+                }
+                match fill(reader, buffer, turns, disturbed) {
+                    Filled::More => {}
+                    Filled::AtEnd => {
+                        return match place {
+                            Place::Lead => FoundHead::Blank,
+                            _ => FoundHead::Cut,
+                        };
+                    }
+                    Filled::Failed => return FoundHead::Failed,
+                    Filled::Bound => return FoundHead::Bound,
+                    Filled::NoMemory => return FoundHead::NoMemory,
+                }
+            }
+        }
+    }
+}
+
+/// Reads until so many bytes stand in the buffer.
+pub fn gather_body<R: Read>(
+    reader: &mut R,
+    buffer: &mut Vec<u8>,
+    end: usize,
+    turns: &mut u32,
+    disturbed: &mut bool,
+) -> FoundBody
+    ensures got { Reads (R.remaining reader.old) (R.remaining reader.new) buffer.old.items buffer.new.items }
+    ensures found { FindsBody end buffer.new.items result }
+    ensures at_end { AtEndIfBody (R.remaining reader.new) result }
+    ensures quiet { disturbed.new ≡ false
+        → (disturbed.old ≡ false) × QuietBody end result (turns.old + length buffer.old.items) }
+{
+    while buffer.len() < end {
+        match fill(reader, buffer, turns, disturbed) {
+            Filled::More => {}
+            Filled::AtEnd => return FoundBody::Cut,
+            Filled::Failed => return FoundBody::Failed,
+            Filled::Bound => return FoundBody::Bound,
+            Filled::NoMemory => return FoundBody::NoMemory,
+        }
+    }
+    FoundBody::Whole
+}

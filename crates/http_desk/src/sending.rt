@@ -1,0 +1,103 @@
+//! Writes whole answers. Nothing here takes an allocator.
+ghost use Rattle.std.specs.Prelude.{◌≡◌, ◌+◌, ◌<◌, ◌^◌, ℕ, List, [], ◌++◌, length, false};
+ghost use Rattle.http_desk.specs.Quiet.{QuietSend};
+ghost use Rattle.std.specs.List.{flat_map};
+ghost use Rattle.std.specs.Io.KnownBytes.{Appends};
+ghost use Rattle.http_desk.specs.Session.{IsFront};
+
+use std::io::{ErrorKind, Write};
+
+/// How a writing ended.
+#[derive(Clone, Copy, Debug, PartialEq, Eq, Drop)]
+pub enum Sent {
+    /// All bytes were written and flushed.
+    All,
+    /// A write or a flush failed, or a write took nothing.
+    Failed,
+    /// The turns were used up.
+    Bound,
+}
+
+/// Turns beyond one for each byte.
+const EXTRA_TURNS: u64 = 16;
+
+/// Writes the bytes, in as many turns as are left.
+fn send_piece<W: Write>(writer: &mut W, piece: &[u8], turns: &mut u64, disturbed: &mut bool) -> Sent
+    ensures all { result ≡ Sent.All → Appends (W.contents writer.old) (W.contents writer.new) piece.now }
+    ensures front { (written : List ℕ) × IsFront written piece.now
+        × Appends (W.contents writer.old) (W.contents writer.new) written }
+    ensures quiet { disturbed.new ≡ false
+        → (disturbed.old ≡ false) × QuietSend result turns.old turns.new (length piece.now) }
+{
+    let mut rest = piece;
+    while !rest.is_empty() {
+        if *turns == 0 {
+            return Sent::Bound;
+        }
+        *turns -= 1;
+        match writer.write(rest) {
+            Ok(0) => {
+                *disturbed = true;
+                return Sent::Failed;
+            }
+            Ok(n) => rest = &rest[n..],
+            Err(e) => {
+                *disturbed = true;
+                if e.kind() != ErrorKind::Interrupted {
+                    return Sent::Failed;
+                }
+            }
+        }
+    }
+    Sent::All
+}
+
+/// Flushes, in as many turns as are left.
+fn flush<W: Write>(writer: &mut W, turns: u64, disturbed: &mut bool) -> Sent
+    ensures nothing { Appends (W.contents writer.old) (W.contents writer.new) [] }
+    ensures quiet { disturbed.new ≡ false → (disturbed.old ≡ false) × (0 < turns → result ≡ Sent.All) }
+{
+    for _turn in 0..turns {
+        match writer.flush() {
+            Ok(()) => return Sent::All,
+            Err(e) => {
+                *disturbed = true;
+                if e.kind() != ErrorKind::Interrupted {
+                    return Sent::Failed;
+                }
+            }
+        }
+    }
+    Sent::Bound
+}
+
+/// How many turns the pieces have: one for each byte, and some more.
+fn turns_of(pieces: &[&[u8]]) -> u64
+    requires { length (flat_map (λ p. p.now) pieces.now) + 16 < 2 ^ 64 }
+    ensures { result ≡ length (flat_map (λ p. p.now) pieces.now) + 16 }
+{
+    let mut turns = EXTRA_TURNS;
+    for piece in pieces {
+        turns += piece.len() as u64;
+    }
+    turns
+}
+
+/// Writes the pieces one after the other and flushes, in one turn for each byte and 16 more.
+pub fn send<W: Write>(writer: &mut W, pieces: &[&[u8]], disturbed: &mut bool) -> Sent
+    requires { length (flat_map (λ p. p.now) pieces.now) + 16 < 2 ^ 64 }
+    ensures all { result ≡ Sent.All
+        → Appends (W.contents writer.old) (W.contents writer.new) (flat_map (λ p. p.now) pieces.now) }
+    ensures quiet { disturbed.new ≡ false → (disturbed.old ≡ false) × (result ≡ Sent.All) }
+    ensures front { (written : List ℕ) × IsFront written (flat_map (λ p. p.now) pieces.now)
+        × Appends (W.contents writer.old) (W.contents writer.new) written }
+{
+    let mut turns = turns_of(pieces);
+    for piece in pieces {
+        match send_piece(writer, piece, &mut turns, disturbed) {
+            Sent::All => {}
+            fault => return fault,
+        }
+    }
+    flush(writer, turns, disturbed)
+}

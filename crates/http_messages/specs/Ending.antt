@@ -1,0 +1,33 @@
+-- Where a head ends: with its first empty line. A line ends with LF, with or without CR before it.
+use Rattle.std.specs.Prelude.{ℕ, ◌+◌, List, [], ◌∷◌, ◌==◌, if◌then◌else◌, Option, Some, None}
+use Rattle.http_messages.specs.declared.ending.Place.{Place}
+use Rattle.http_messages.specs.declared.ending.Place.TheVariants.{Lead, LeadReturn, Start, StartReturn, Middle}
+use Rattle.http_messages.specs.declared.ending.Scan.{Scan}
+use Rattle.http_messages.specs.declared.ending.Scan.TheVariants.{Whole, Open}
+
+-- where a byte leads, or none where it ends the head
+abbrev pub next_place : Place → ℕ → Option Place
+next_place Lead b = if b == 10 then Some Lead else if b == 13 then Some LeadReturn else Some Middle
+next_place LeadReturn b = if b == 10 then Some Lead else Some Middle
+next_place Start b = if b == 10 then None else if b == 13 then Some StartReturn else Some Middle
+next_place StartReturn b = if b == 10 then None else Some Middle
+next_place Middle b = if b == 10 then Some Start else Some Middle
+
+-- what is found after one byte more
+abbrev pub one_more : Scan → Scan
+one_more (Whole n) = Whole (n + 1)
+one_more (Open p) = Open p
+
+-- what is found where a byte leads to a place, and the bytes after it go on from there
+abbrev pub found_after : Option Place → (Place → Scan) → Scan
+found_after None more = Whole 1
+found_after (Some place) more = one_more (more place)
+
+-- what the bytes after that place hold
+abbrev pub scan_from : Place → List ℕ → Scan
+scan_from p [] = Open p
+scan_from p (b ∷ bytes) = found_after (next_place p b) (λ q. scan_from q bytes)
+
+-- what the bytes hold of a head, from the empty lines before it on
+unfoldable pub scan : List ℕ → Scan
+scan bytes = scan_from Lead bytes

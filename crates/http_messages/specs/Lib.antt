@@ -1,0 +1,10 @@
+pub mod Ending
+pub mod Heads
+pub mod Heard
+pub mod Targets
+pub mod Routes
+pub mod Routing
+pub mod Members
+pub mod Answers
+pub mod Replies
+pub mod Worked

@@ -1,0 +1,14 @@
+-- The answers that the code holds.
+use Rattle.std.specs.Prelude.{true, false, None}
+use Rattle.http_messages.specs.declared.answered.Answered.{Answered}
+use Rattle.http_messages.specs.declared.answered.Answered.TheVariants as held
+use Rattle.http_messages.specs.declared.status.Status.TheVariants.{Fine, Conflict}
+use Rattle.http_messages.specs.Answers.{Answer, error, not_allowed}
+use Rattle.http_messages.specs.Routes.{method_name}
+
+abbrev pub answer_in : Answered → Answer
+answer_in (held.Text body) = record { status = Fine; is_text = true; allow = None; body = body }
+answer_in (held.Json body) = record { status = Fine; is_text = false; allow = None; body = body }
+answer_in (held.Refused body) = record { status = Conflict; is_text = false; allow = None; body = body }
+answer_in (held.NotAllowed post) = not_allowed (method_name post)
+answer_in (held.Error status) = error status

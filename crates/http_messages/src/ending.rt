@@ -1,0 +1,88 @@
+//! Where a head ends.
+ghost use Rattle.std.specs.Prelude.{◌≡◌, ◌≤◌, length};
+ghost use Rattle.http_messages.specs.Ending.{scan, next_place};
+
+/// What a byte of a head may stand after.
+#[derive(Clone, Copy, Debug, PartialEq, Eq, Drop)]
+pub enum Place {
+    /// Nothing but empty lines.
+    Lead,
+    /// The same, and a CR.
+    LeadReturn,
+    /// A line that isn't empty, and its end.
+    Start,
+    /// The same, and a CR.
+    StartReturn,
+    /// The first bytes of a line that isn't empty.
+    Middle,
+}
+
+/// What bytes hold of a head.
+#[derive(Clone, Copy, Debug, PartialEq, Eq, Drop)]
+pub enum Scan {
+    /// A whole head, the empty lines before it counted, of that many bytes.
+    Whole(usize),
+    /// Less than a head.
+    Open(Place),
+}
+
+/// Where a byte leads, or none where it ends the head.
+fn place_after(place: Place, byte: u8) -> Option<Place>
+    ensures { result ≡ next_place place byte }
+{
+    match place {
+        Place::Lead => {
+            if byte == b'\n' {
+                Some(Place::Lead)
+            } else if byte == b'\r' {
+                Some(Place::LeadReturn)
+            } else {
+                Some(Place::Middle)
+            }
+        }
+        Place::LeadReturn => {
+            if byte == b'\n' {
+                Some(Place::Lead)
+            } else {
+                Some(Place::Middle)
+            }
+        }
+        Place::Start => {
+            if byte == b'\n' {
+                None
+            } else if byte == b'\r' {
+                Some(Place::StartReturn)
+            } else {
+                Some(Place::Middle)
+            }
+        }
+        Place::StartReturn => {
+            if byte == b'\n' {
+                None
+            } else {
+                Some(Place::Middle)
+            }
+        }
+        Place::Middle => {
+            if byte == b'\n' {
+                Some(Place::Start)
+            } else {
+                Some(Place::Middle)
+            }
+        }
+    }
+}
+
+/// What the bytes hold of a head.
+pub fn scan_head(bytes: &[u8]) -> Scan
+    ensures { result ≡ scan bytes.now }
+{
+    let mut place = Place::Lead;
+    for (i, byte) in bytes.iter().enumerate() {
+        match place_after(place, *byte) {
+            Some(next) => place = next,
+            None => return Scan::Whole(i + 1),
+        }
+    }
+    Scan::Open(place)
+}

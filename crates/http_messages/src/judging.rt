@@ -1,0 +1,423 @@
+//! Judges a request's head.
+ghost use Rattle.std.specs.Prelude.{◌≡◌, ◌+◌, ◌<◌, ◌≤◌, ◌^◌, ℕ, List, length, map, take, count_by, All, true, false, Option, Some, None, IfSome, IfNone, drop, ◌∷◌, [], option_map, unwrap_or, min, nat_lt, ◌==◌, ◌&&◌, ◌||◌, not, codes};
+ghost use Rattle.std.specs.List.{list_all, list_any, find};
+ghost use Rattle.std.specs.Str.{str_eq_ignore_ascii_case, bytes_eq};
+ghost use Rattle.std.specs.Char.{is_ascii_digit};
+ghost use Rattle.std.specs.Str.Parse.{digits_value};
+ghost use Rattle.httparse.specs.Grammar.{skip_ows, is_ows};
+ghost use Rattle.httparse.specs.Spans.{IsHeaderWithin, IsWithin, header_bytes, span_bytes};
+ghost use Rattle.http_messages.specs.Heads.{is_named, is_digits, strip_zeros, same_number, agrees, asks_leave, asks_close, is_close, list_items, accept, hosts, is_head, weigh_size, weigh_length, Judges, weigh, longest_body, is_body, Refused};
+ghost use Rattle.http_messages.specs.Heard.{verdict_in, request_in, IsFit};
+
+use crate::status::Status;
+use httparse::Status as Progress;
+use httparse::spans::{EMPTY_HEADER_SPAN, HeaderSpan, Span, parse_request};
+
+/// How many fields a head may have.
+pub const FIELDS: usize = 64;
+
+/// How long a body may be.
+pub const LONGEST: u64 = 8_388_608;
+
+/// What a session needs of a head.
+#[derive(Clone, Copy, Debug, PartialEq, Eq)]
+pub struct Head {
+    pub method: Span,
+    pub target: Span,
+    /// The length of its body, where one is given.
+    pub length: Option<u64>,
+    /// Whether the body comes after 100 Continue.
+    pub waits: bool,
+    /// Whether the connection is closed after its answer.
+    pub closes: bool,
+}
+
+/// What a head is worth.
+#[derive(Clone, Copy, Debug, PartialEq, Eq)]
+pub enum Judged {
+    /// It is answered so; and whether it is a HEAD.
+    Refused(Status, bool),
+    Accepted(Head),
+}
+
+/// The line that a head begins with.
+#[derive(Clone, Copy, Debug, PartialEq, Eq)]
+pub struct Line {
+    pub method: Span,
+    pub target: Span,
+    pub minor: u8,
+}
+
+fn same_name(a: &[u8], b: &[u8]) -> bool
+    ensures { result ≡ str_eq_ignore_ascii_case a.now b.now }
+{
+    a.eq_ignore_ascii_case(b)
+}
+
+/// Whether a field has that name.
+fn is_field_named(block: &[u8], field: &HeaderSpan, name: &[u8]) -> bool
+    requires { IsHeaderWithin (length block.now) field.now }
+    ensures { result ≡ is_named name.now (header_bytes block.now field.now) }
+{
+    same_name(field.name.of(block), name)
+}
+
+/// How many fields have that name.
+fn count_named(block: &[u8], fields: &[HeaderSpan], name: &[u8]) -> usize
+    requires { All (IsHeaderWithin (length block.now)) fields.now }
+    ensures { result ≡ count_by (λ h. is_named name.now (header_bytes block.now h)) fields.now }
+{
+    fields
+        .iter()
+        .filter(|field| is_field_named(block, field, name))
+        .count()
+}
+
+/// The first value of that name.
+fn first_named<'b>(block: &'b [u8], fields: &[HeaderSpan], name: &[u8]) -> Option<&'b [u8]>
+    requires { All (IsHeaderWithin (length block.now)) fields.now }
+    ensures { option_map (λ v. v.now) result
+        ≡ option_map (λ h. span_bytes block.now h.value)
+        (find (λ h. is_named name.now (header_bytes block.now h)) fields.now) }
+{
+    for field in fields {
+        if is_field_named(block, field, name) {
+            return Some(field.value.of(block));
+        }
+    }
+    None
+}
+
+fn all_digits(bytes: &[u8]) -> bool
+    ensures { result ≡ list_all is_ascii_digit bytes.now }
+{
+    bytes.iter().all(|b| b.is_ascii_digit())
+}
+
+/// Whether there are digits, and nothing else.
+fn is_digits_alone(bytes: &[u8]) -> bool
+    ensures { result ≡ is_digits bytes.now }
+{
+    if bytes.is_empty() {
+        false
+    } else {
+        all_digits(bytes)
+    }
+}
+
+/// The digits from the first that isn't 0.
+fn without_zeros(bytes: &[u8]) -> &[u8]
+    ensures { result.now ≡ strip_zeros bytes.now }
+{
+    let mut rest = bytes;
+    while let [b'0', others @ ..] = rest {
+        rest = others;
+    }
+    rest
+}
+
+/// Whether two numerals write one number.
+fn is_same_number(a: &[u8], b: &[u8]) -> bool
+    ensures { result ≡ same_number a.now b.now }
+{
+    without_zeros(a) == without_zeros(b)
+}
+
+/// Whether a field agrees with a length that was said.
+fn is_agreed(block: &[u8], field: &HeaderSpan, said: &[u8]) -> bool
+    requires { IsHeaderWithin (length block.now) field.now }
+    ensures { result ≡ agrees said.now (header_bytes block.now field.now) }
+{
+    if is_field_named(block, field, b"content-length") {
+        let value = field.value.of(block);
+        is_digits_alone(value) && is_same_number(value, said)
+    } else {
+        true
+    }
+}
+
+/// Whether all fields agree with a length that was said.
+fn are_agreed(block: &[u8], fields: &[HeaderSpan], said: &[u8]) -> bool
+    requires { All (IsHeaderWithin (length block.now)) fields.now }
+    ensures { result ≡ list_all (λ h. agrees said.now (header_bytes block.now h)) fields.now }
+{
+    fields.iter().all(|field| is_agreed(block, field, said))
+}
+
+/// The number that digits write, or one more than the longest body where it is more.
+fn capped_number(digits: &[u8]) -> u64
+    requires { list_all is_ascii_digit digits.now ≡ true }
+    ensures { result ≡ min (digits_value 10 digits.now) 8388609 }
+{
+    let mut value: u64 = 0;
+    for digit in digits {
+        value = (value * 10 + (*digit - b'0') as u64).min(LONGEST + 1);
+    }
+    value
+}
+
+/// Whether a field waits for leave to send the body.
+fn is_asking_leave(block: &[u8], field: &HeaderSpan) -> bool
+    requires { IsHeaderWithin (length block.now) field.now }
+    ensures { result ≡ asks_leave (header_bytes block.now field.now) }
+{
+    if is_field_named(block, field, b"expect") {
+        same_name(field.value.of(block), b"100-continue")
+    } else {
+        false
+    }
+}
+
+/// Whether a field asks to close the connection.
+fn is_asking_close(block: &[u8], field: &HeaderSpan) -> bool
+    requires { IsHeaderWithin (length block.now) field.now }
+    ensures { result ≡ asks_close (header_bytes block.now field.now) }
+{
+    if is_field_named(block, field, b"connection") {
+        has_close(field.value.of(block))
+    } else {
+        false
+    }
+}
+
+/// The bytes from the first that is no white space.
+fn after_space(bytes: &[u8]) -> &[u8]
+    ensures { result.now ≡ skip_ows bytes.now }
+{
+    let mut rest = bytes;
+    while let [b' ' | b'\t', others @ ..] = rest {
+        rest = others;
+    }
+    rest
+}
+
+fn all_space(bytes: &[u8]) -> bool
+    ensures { result ≡ list_all is_ows bytes.now }
+{
+    bytes.iter().all(|b| *b == b' ' || *b == b'\t')
+}
+
+/// Whether an option is to close.
+fn is_close_option(item: &[u8]) -> bool
+    ensures { result ≡ is_close item.now }
+{
+    let rest = after_space(item);
+    let end = rest.len().min(5);
+    same_name(&rest[..end], b"close") && all_space(&rest[end..])
+}
+
+fn first_comma(bytes: &[u8]) -> Option<usize>
+    ensures at { IfSome result (λ i. (list_items bytes.now ≡ take i bytes.now ∷ list_items (drop (i + 1) bytes.now))
+        × (i < length bytes.now)) }
+    ensures room { IfSome result (λ i. i + 1 < 2 ^ 64) }
+    ensures none { IfNone result (list_items bytes.now ≡ bytes.now ∷ []) }
+{
+    for (i, byte) in bytes.iter().enumerate() {
+        if *byte == b',' {
+            return Some(i);
+        }
+    }
+    None
+}
+
+/// Whether one of the options is to close.
+fn has_close(value: &[u8]) -> bool
+    ensures { result ≡ list_any is_close (list_items value.now) }
+{
+    let mut rest = value;
+    while let Some(i) = first_comma(rest) {
+        if is_close_option(&rest[..i]) {
+            return true;
+        }
+        rest = &rest[i + 1..];
+    }
+    is_close_option(rest)
+}
+
+/// Whether some field waits for leave to send the body.
+fn asks_for_leave(block: &[u8], fields: &[HeaderSpan]) -> bool
+    requires { All (IsHeaderWithin (length block.now)) fields.now }
+    ensures { result ≡ list_any (λ h. asks_leave (header_bytes block.now h)) fields.now }
+{
+    fields.iter().any(|field| is_asking_leave(block, field))
+}
+
+/// Whether some field asks to close the connection.
+fn asks_to_close(block: &[u8], fields: &[HeaderSpan]) -> bool
+    requires { All (IsHeaderWithin (length block.now)) fields.now }
+    ensures { result ≡ list_any (λ h. asks_close (header_bytes block.now h)) fields.now }
+{
+    fields.iter().any(|field| is_asking_close(block, field))
+}
+
+/// Whether some field has that name.
+fn has_named(block: &[u8], fields: &[HeaderSpan], name: &[u8]) -> bool
+    requires { All (IsHeaderWithin (length block.now)) fields.now }
+    ensures { result ≡ list_any (λ h. is_named name.now (header_bytes block.now h)) fields.now }
+{
+    fields
+        .iter()
+        .any(|field| is_field_named(block, field, name))
+}
+
+fn is_some_body(size: Option<u64>) -> bool
+    ensures { result ≡ is_body size }
+{
+    match size {
+        None => false,
+        Some(n) => n > 0,
+    }
+}
+
+fn is_waiting(minor: u8, body: bool, leave: bool) -> bool
+    ensures { result ≡ (minor == 1 && (body && leave)) }
+{
+    minor == 1 && (body && leave)
+}
+
+fn is_closing(minor: u8, close: bool) -> bool
+    ensures { result ≡ (minor == 0 || close) }
+{
+    minor == 0 || close
+}
+
+/// Whether the method is HEAD.
+fn is_bare(block: &[u8], line: Line) -> bool
+    requires { IsWithin (length block.now) line.method }
+    ensures { result ≡ is_head (span_bytes block.now line.method) }
+{
+    line.method.of(block) == b"HEAD".as_slice()
+}
+
+/// A head that is refused.
+fn refused(block: &[u8], line: Line, status: Status) -> Judged
+    requires { IsWithin (length block.now) line.method }
+    ensures fit { IsFit block.now result }
+    ensures is { verdict_in block.now result ≡ Refused status (is_head (span_bytes block.now line.method)) }
+{
+    Judged::Refused(status, is_bare(block, line))
+}
+
+/// A head whose length, if it gives one, is not too long.
+fn accepted(block: &[u8], fields: &[HeaderSpan], line: Line, size: Option<u64>) -> Judged
+    requires method { IsWithin (length block.now) line.method }
+    requires target { IsWithin (length block.now) line.target }
+    requires within { All (IsHeaderWithin (length block.now)) fields.now }
+    requires short { unwrap_or size 0 ≤ longest_body }
+    ensures fit { IsFit block.now result }
+    ensures is { verdict_in block.now result
+        ≡ accept (span_bytes block.now line.method) (span_bytes block.now line.target) line.minor
+        (map (header_bytes block.now) fields.now) size }
+{
+    let leave = asks_for_leave(block, fields);
+    let close = asks_to_close(block, fields);
+    Judged::Accepted(Head {
+        method: line.method,
+        target: line.target,
+        length: size,
+        waits: is_waiting(line.minor, is_some_body(size), leave),
+        closes: is_closing(line.minor, close),
+    })
+}
+
+/// The verdict on a head of that length.
+fn weigh_size(block: &[u8], fields: &[HeaderSpan], line: Line, size: u64) -> Judged
+    requires method { IsWithin (length block.now) line.method }
+    requires target { IsWithin (length block.now) line.target }
+    requires within { All (IsHeaderWithin (length block.now)) fields.now }
+    ensures fit { IsFit block.now result }
+    ensures is { verdict_in block.now result
+        ≡ weigh_size (span_bytes block.now line.method) (span_bytes block.now line.target) line.minor
+        (map (header_bytes block.now) fields.now) size }
+{
+    if size > LONGEST {
+        refused(block, line, Status::TooLarge)
+    } else {
+        accepted(block, fields, line, Some(size))
+    }
+}
+
+/// Whether there is one Host, or none where none is needed.
+fn has_host(block: &[u8], fields: &[HeaderSpan], minor: u8) -> bool
+    requires { All (IsHeaderWithin (length block.now)) fields.now }
+    ensures { result ≡ not (nat_lt 1 (hosts (map (header_bytes block.now) fields.now))
+        || (minor == 1 && (hosts (map (header_bytes block.now) fields.now) == 0))) }
+{
+    let count = count_named(block, fields, b"host");
+    !(count > 1 || (minor == 1 && count == 0))
+}
+
+/// Whether a length that is said is not in dispute.
+fn is_undisputed(block: &[u8], fields: &[HeaderSpan], said: &[u8]) -> bool
+    requires { All (IsHeaderWithin (length block.now)) fields.now }
+    ensures { result ≡ (list_all is_ascii_digit said.now
+        && list_all (agrees said.now) (map (header_bytes block.now) fields.now)) }
+{
+    all_digits(said) && are_agreed(block, fields, said)
+}
+
+/// The verdict on the length that is said.
+fn weigh_said(block: &[u8], fields: &[HeaderSpan], line: Line) -> Judged
+    requires method { IsWithin (length block.now) line.method }
+    requires target { IsWithin (length block.now) line.target }
+    requires within { All (IsHeaderWithin (length block.now)) fields.now }
+    ensures fit { IsFit block.now result }
+    ensures is { verdict_in block.now result
+        ≡ weigh_length (span_bytes block.now line.method) (span_bytes block.now line.target) line.minor
+        (map (header_bytes block.now) fields.now)
+        (option_map (λ h. span_bytes block.now h.value) (find (λ h. is_named (codes "content-length") (header_bytes block.now h)) fields.now)) }
+{
+    match first_named(block, fields, b"content-length") {
+        None => accepted(block, fields, line, None),
+        Some(said) => {
+            if is_undisputed(block, fields, said) {
+                weigh_size(block, fields, line, capped_number(said))
+            } else {
+                refused(block, line, Status::BadRequest)
+            }
+        }
+    }
+}
+
+/// The verdict on the fields of a request: the first check that holds.
+fn weigh_fields(block: &[u8], fields: &[HeaderSpan], line: Line) -> Judged
+    requires method { IsWithin (length block.now) line.method }
+    requires target { IsWithin (length block.now) line.target }
+    requires within { All (IsHeaderWithin (length block.now)) fields.now }
+    ensures fit { IsFit block.now result }
+    ensures is { verdict_in block.now result
+        ≡ weigh (span_bytes block.now line.method) (span_bytes block.now line.target) line.minor
+        (map (header_bytes block.now) fields.now) }
+{
+    if !has_host(block, fields, line.minor) {
+        refused(block, line, Status::BadRequest)
+    } else if has_named(block, fields, b"transfer-encoding") {
+        refused(block, line, Status::NotImplemented)
+    } else {
+        weigh_said(block, fields, line)
+    }
+}
+
+/// What a block is worth.
+pub fn judge(block: &[u8]) -> Judged
+    ensures judged { Judges block.now (verdict_in block.now result) }
+    ensures fit { IsFit block.now result }
+{
+    let mut headers = [EMPTY_HEADER_SPAN; FIELDS];
+    match parse_request(block, &mut headers) {
+        Ok(Progress::Complete(head)) => {
+            if head.len == block.len() {
+                let line = Line {
+                    method: head.method,
+                    target: head.path,
+                    minor: head.version,
+                };
+                weigh_fields(block, &headers[..head.headers], line)
+            } else {
+                Judged::Refused(Status::BadRequest, false)
+            }
+        }
+        Ok(Progress::Partial) => Judged::Refused(Status::BadRequest, false),
+        Err(_) => Judged::Refused(Status::BadRequest, false),
+    }
+}

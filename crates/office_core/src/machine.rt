@@ -1,0 +1,52 @@
+//! An office that takes commands and questions, one after the other.
+ghost use Rattle.std.specs.Prelude.{◌≡◌, IfOk, OnErr};
+ghost use Rattle.office_core.specs.State.{State};
+ghost use Rattle.office_core.specs.Rules.{step};
+ghost use Rattle.office_core.specs.Json.{reply_text};
+ghost use Rattle.office_core.specs.Queries.{answer};
+
+use crate::{Answer, Command, Done, Query, Refusal};
+use isad_core::List;
+use std::alloc::Global;
+
+/// What a command is answered: what was done, or why it was refused, and the same as a JSON text.
+#[derive(Debug, Drop)]
+pub struct Reply {
+    pub done: Result<Done, Refusal>,
+    pub json: List<u8>,
+}
+
+/// The office cannot answer now, and what it keeps did not change.
+#[derive(Debug, Clone, Copy, PartialEq, Eq)]
+pub enum Busy {
+    /// There is no memory.
+    Memory,
+    /// The store's disk failed.
+    Disk,
+    /// The store's tables are not an office's.
+    Schema,
+}
+
+/// An office.
+pub trait Machine {
+    /// What is kept shows that state, which is sound.
+    ghost shows: { Self → State → Type 0 };
+
+    /// The store has returned what was written to it so far.
+    ghost is_intact: { Self → Type 0 };
+
+    /// Carries out one command.
+    fn apply(&mut self, alloc: Global, command: Command) -> Result<Reply, Busy>
+        ensures intact { is_intact self.new → is_intact self.old }
+        ensures step { IfOk result (λ reply. is_intact self.new → (s : State) → shows self.old s →
+            shows self.new (step s command).0 × (reply.done ≡ (step s command).1)
+                × (reply.json ≡ reply_text (step s command).1)) }
+        ensures busy { OnErr result (is_intact self.new → (s : State) → shows self.old s → shows self.new s) };
+
+    /// Answers one question.
+    fn ask(&mut self, alloc: Global, query: Query) -> Result<Answer, Busy>
+        ensures intact { is_intact self.new → is_intact self.old }
+        ensures answer { IfOk result (λ told. is_intact self.new → (s : State) → shows self.old s →
+            shows self.new s × (told ≡ answer s query)) }
+        ensures busy { OnErr result (is_intact self.new → (s : State) → shows self.old s → shows self.new s) };
+}
