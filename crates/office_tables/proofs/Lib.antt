@@ -35,3 +35,5 @@ pub mod DeleteOf
 pub mod SelectOf
 pub mod Fresh
 pub mod OnlyOf
+pub mod CallEnds
+pub mod ReadEnds
