@@ -164,7 +164,7 @@ returns-in_err-create-clause-faults g c start making clean free =
     let on2 = continues_then a0 a1 a2 step1.0 step2.0 in
     let a3 = state g.S.Store c.create.new.conn in
     let before = early a2 a3 _ (c.in_err-create.ensures.cut start step2.1).crash clean in
-    let all = cause_then a0 a2 a3 on2 before _ (c.in_err-create.ensures.faults clean (still_unlimited a0 a2 on2 free) start step2.1) in
+    let all = cause_then a0 a2 a3 on2 before _ (c.in_err-create.ensures.faults start step2.1 clean (still_unlimited a0 a2 on2 free)) in
     search (rules, all)
 
 pub returns-clause-faults : goal.returns-clause-faults
