@@ -16,6 +16,7 @@ pub mod ImportedAgain
 pub mod ImportedDepth
 pub mod ImportedNumbers
 pub mod ImportedValues
+pub mod KeptCatalogues
 pub mod KeptUnits
 pub mod MergedNodes
 pub mod NamedBoxes

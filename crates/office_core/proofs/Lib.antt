@@ -29,6 +29,7 @@ pub mod Texts
 pub mod WorkedSound
 pub mod ImportedUnits
 pub mod ImportedCounts
+pub mod KeptOffices
 pub mod LastNumberSound
 pub mod WorkedDesk
 pub mod WorkedCatalogue
