@@ -22,3 +22,6 @@ pub mod PublishedUnits
 pub mod Rooted
 pub mod UnitPlaces
 pub mod UnitsAfter
+pub mod OneRule
+pub mod PublicPaths
+pub mod PageUnits

@@ -16,4 +16,5 @@ pub mod Intake
 pub mod GoodCatalogues
 pub mod Members
 pub mod Published
+pub mod OneRule
 pub mod Pages
