@@ -25,3 +25,6 @@ pub mod PublishedUnits
 pub mod Rooted
 pub mod UnitPlaces
 pub mod UnitsAfter
+pub mod OneRule
+pub mod PublicPaths
+pub mod PageUnits

@@ -27,12 +27,12 @@ stands_right x (z ∷ zs) ys h = inr (stands_right x zs ys h)
 wider : (day : ℤ) (ways more : List (List Unit)) → ((way : List Unit) → StandsIn way ways → StandsIn way more) → (told : PublicUnit) → IsPublished day ways told → IsPublished day more told
 wider day ways more f told p = record { way = p.way; stands = f p.way p.stands; no_draft = p.no_draft; open_above = p.open_above; tells = p.tells }
 
-before_last-push : {X : Type 0} (xs : List X) (x : X) → before_last (xs ++ x ∷ []) ≡ xs
+pub before_last-push : {X : Type 0} (xs : List X) (x : X) → before_last (xs ++ x ∷ []) ≡ xs
 before_last-push [] x = refl
 before_last-push (y ∷ []) x = refl
 before_last-push (y ∷ z ∷ zs) x = ap (λ l. y ∷ l) (before_last-push (z ∷ zs) x)
 
-last_of-push : (xs : List Unit) (x : Unit) → last_of (xs ++ x ∷ []) ≡ Some x
+pub last_of-push : (xs : List Unit) (x : Unit) → last_of (xs ++ x ∷ []) ≡ Some x
 last_of-push [] x = refl
 last_of-push (y ∷ []) x = refl
 last_of-push (y ∷ z ∷ zs) x = last_of-push (z ∷ zs) x

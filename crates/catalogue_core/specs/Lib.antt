@@ -17,5 +17,6 @@ pub mod Intake
 pub mod GoodCatalogues
 pub mod Members
 pub mod Published
+pub mod OneRule
 pub mod Pages
 pub mod LegibleCatalogues

@@ -1,10 +1,16 @@
 -- What the public is told of a unit.
-use Rattle.std.specs.Prelude.{◌≡◌, ℤ, false, cond, List, [], ◌∷◌, Option, Some, None}
+use Rattle.std.specs.Prelude.{◌≡◌, ℕ, ℤ, false, cond, List, [], ◌∷◌, ◌++◌, Option, Some, None, map}
 use Rattle.std.specs.List.{list_any}
+use Rattle.isad_core.specs.Codes.{code_of}
+use Rattle.isad_core.specs.Texts.{Bytes}
+use Rattle.isad_core.specs.Values.{text_of}
 use Rattle.isad_core.specs.declared.values.BoxKey.{BoxKey}
+use Rattle.isad_core.specs.declared.values.Values.{Values}
 use Rattle.catalogue_core.specs.Units.{Unit, is_closed}
+use Rattle.catalogue_core.specs.Merging.{box_number}
 use Rattle.catalogue_core.specs.Publishing.{PublicUnit, Told, Stub, stub_of}
-use Rattle.catalogue_core.specs.Pages.{before_last}
+use Rattle.catalogue_core.specs.Aids.{Repository, identifier_of}
+use Rattle.catalogue_core.specs.Pages.{Press, PageLine, PageBox, before_last}
 use Rattle.catalogue_core.specs.Members.{StandsIn}
 
 abbrev pub boxes_told : PublicUnit → List BoxKey
@@ -29,3 +35,33 @@ pub record IsPublished (day : ℤ) (ways : List (List Unit)) (told : PublicUnit)
   pub no_draft : list_any (λ (unit : Unit). unit.draft) way ≡ false
   pub open_above : list_any (is_closed day) (before_last way) ≡ false
   pub tells : TellsOf day (last_of way) told
+
+-- ---- what stands on a page
+
+-- What a page says of the unit that a value is from: nothing where it is the unit of the page itself, below which none of the
+-- path stands, and otherwise its reference code.
+abbrev pub from_unit : Repository → List PublicUnit → PublicUnit → List PublicUnit → Option Bytes
+from_unit at above unit [] = None
+from_unit at above unit (next ∷ below) = Some (code_of at.country at.repo (map identifier_of (above ++ unit ∷ [])))
+
+-- These are the values of a unit of this path, and `from` is what a page says of it.
+pub record AreToldOn (at : Repository) (way : List PublicUnit) (from : Option Bytes) (values : Values) : Type 0 where
+  pub above : List PublicUnit
+  pub id : ℕ
+  pub below : List PublicUnit
+  pub stands : way ≡ above ++ Told id values ∷ below
+  pub named : from ≡ from_unit at above (Told id values) below
+
+-- A line of a page has a text of a unit of the path.
+pub record LineIsTold (at : Repository) (way : List PublicUnit) (line : PageLine) : Type 0 where
+  pub values : Values
+  pub of_unit : AreToldOn at way line.2 values
+  pub text : text_of line.0 values ≡ Some line.1
+
+-- A container on a page is one that a unit of the path names, with its number and its name.
+pub record BoxIsTold (press : Press) (way : List PublicUnit) (told : PageBox) : Type 0 where
+  pub values : Values
+  pub of_unit : AreToldOn press.at way told.2 values
+  pub box : BoxKey
+  pub stands : StandsIn box values.boxes
+  pub is : (told.0 ≡ box_number press.containers box) × (told.1 ≡ box.name)

@@ -1,10 +1,23 @@
 //! Laws of the definitions, each the contract of a function that does nothing.
 
 ghost use Rattle.catalogue_core.specs.OpenMarks.{OpenByMarks, MarksSayClean, NumbersTellNothing};
+ghost use Rattle.catalogue_core.specs.OneRule.{TellsWhatIsOpen, StubsWhatIsClosed, PagesTellTheHousing};
 
 /// When a container is open to the public, by the marks of the units that name it.
 pub fn open_by_marks()
     ensures open { OpenByMarks }
     ensures clean { MarksSayClean }
     ensures numbers { NumbersTellNothing }
+{}
+
+/// The public is told of just those units that are not withheld from a reader without permits, and has stubs of just those
+/// that nothing but their own closure withholds.
+pub fn told_where_not_withheld()
+    ensures told { TellsWhatIsOpen }
+    ensures stubs { StubsWhatIsClosed }
+{}
+
+/// The containers on a page are those that decide whether a container is open: what the unit lies in.
+pub fn pages_tell_the_housing()
+    ensures { PagesTellTheHousing }
 {}
