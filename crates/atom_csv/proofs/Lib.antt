@@ -2,6 +2,8 @@ pub mod BoxLemmas
 pub mod ColumnLemmas
 pub mod EntryLemmas
 pub mod FieldLemmas
+pub mod LegibleFiles
+pub mod LegibleRecords
 pub mod LineLemmas
 pub mod OnLiterals
 pub mod RecordLemmas

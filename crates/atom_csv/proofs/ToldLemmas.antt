@@ -88,11 +88,11 @@ field_tidy name (h ∷ hs) (f ∷ fs) t = go (is_named name h) t.0 (field_tidy n
 
 -- ---- lists
 
-all_append : {X : Type 0} (P : X → Type 0) (xs ys : List X) → AllByRecursion P xs → AllByRecursion P ys → AllByRecursion P (xs ++ ys)
+pub all_append : {X : Type 0} (P : X → Type 0) (xs ys : List X) → AllByRecursion P xs → AllByRecursion P ys → AllByRecursion P (xs ++ ys)
 all_append P [] ys p q = q
 all_append P (x ∷ xs) ys p q = (p.0, all_append P xs ys p.1 q)
 
-all_filter : {X : Type 0} (P : X → Type 0) (p : X → Bool) (xs : List X) → AllByRecursion P xs → AllByRecursion P (filter p xs)
+pub all_filter : {X : Type 0} (P : X → Type 0) (p : X → Bool) (xs : List X) → AllByRecursion P xs → AllByRecursion P (filter p xs)
 all_filter P p [] h = tt
 all_filter P p (x ∷ xs) h = go (p x) h.0 (all_filter P p xs h.1)
   where
@@ -190,7 +190,7 @@ named_there (b ∷ bs) t = go (is_empty b.name) refl (named_there bs t.1)
     go true is later = later
     go false is later = (t.0 ∙ is, later)
 
-all_distinct : (P : BoxKey → Type 0) (bs : List BoxKey) → AllByRecursion P bs → AllByRecursion P (distinct bs)
+pub all_distinct : (P : BoxKey → Type 0) (bs : List BoxKey) → AllByRecursion P bs → AllByRecursion P (distinct bs)
 all_distinct P [] h = tt
 all_distinct P (b ∷ bs) h = (h.0, all_filter P (λ later. not (is_same b later)) (distinct bs) (all_distinct P bs h.1))
 

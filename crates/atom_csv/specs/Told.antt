@@ -1,11 +1,13 @@
 -- What holds of every file that is told.
-use Rattle.std.specs.Prelude.{◌≡◌, Bool, false, List, [], ◌∷◌, IfSome}
+use Rattle.std.specs.Prelude.{◌≡◌, Bool, false, List, [], ◌∷◌, IfSome, IsUtf8}
 use Rattle.std.specs.List.{AllByRecursion}
 use Rattle.std.specs.Str.{bytes_eq}
 use Rattle.isad_core.specs.Texts.{Bytes, is_blank_text}
 use Rattle.isad_core.specs.declared.values.Values.{Values}
 use Rattle.isad_core.specs.Boxes.{is_same}
+use Rattle.isad_core.specs.Legible.{AreLegibleValues}
 use Rattle.atom_csv.specs.declared.file.File.{File}
+use Rattle.atom_csv.specs.declared.file.Row.{Row}
 
 -- a text that is not blank
 abbrev pub IsThere : Bytes → Type 0
@@ -27,3 +29,12 @@ pub record IsTold (file : File) : Type 0 where
   pub there : AllByRecursion (λ row. IsThere row.legacy) file.rows
   pub once : AllDiffer (λ a b. bytes_eq a.legacy b.legacy) file.rows
   pub values : AllByRecursion (λ row. AreValues row.values) file.rows
+
+-- the row's texts are UTF-8
+pub record IsLegibleRow (row : Row) : Type 0 where
+  pub legacy : IsUtf8 row.legacy
+  pub parent : IfSome row.parent IsUtf8
+  pub values : AreLegibleValues row.values
+
+abbrev pub AreLegibleRows : File → Type 0
+AreLegibleRows file = AllByRecursion IsLegibleRow file.rows

@@ -6,7 +6,7 @@ ghost use Rattle.atom_csv.specs.Entries.{entries, filled, joined};
 ghost use Rattle.atom_csv.specs.Fields.{is_empty, trimmed};
 ghost use Rattle.atom_csv.specs.FileOf.{file_of};
 ghost use Rattle.atom_csv.specs.Known.{key};
-ghost use Rattle.atom_csv.specs.Told.{IsTold};
+ghost use Rattle.atom_csv.specs.Told.{IsTold, AreLegibleRows};
 ghost use Rattle.atom_csv.specs.Values.{boxes_of};
 ghost use Rattle.atom_csv.specs.declared.file.File.{File};
 
@@ -95,4 +95,9 @@ pub fn a_fonds_and_a_series()
 /// and no container stands twice in a row.
 pub fn a_file_is_sound()
     ensures { (bytes : Bytes) (file : File) → file_of bytes ≡ Ok file → IsTold file }
+{}
+
+/// Every text of a file's rows is UTF-8: no field is cut inside a character.
+pub fn a_file_is_legible()
+    ensures { (bytes : Bytes) (file : File) → file_of bytes ≡ Ok file → AreLegibleRows file }
 {}

@@ -1,9 +1,11 @@
+pub mod LegibleMerges
 pub mod Members
 pub mod NodeLemmas
 pub mod OpenLemmas
 pub mod FileRows
 pub mod EachOf
 pub mod DistinctLists
+pub mod AsciiTexts
 pub mod Branches
 pub mod EachAfter
 pub mod GoodChanges
@@ -14,6 +16,7 @@ pub mod ImportedAgain
 pub mod ImportedDepth
 pub mod ImportedNumbers
 pub mod ImportedValues
+pub mod KeptCatalogues
 pub mod KeptUnits
 pub mod MergedNodes
 pub mod NamedBoxes

@@ -18,3 +18,4 @@ pub mod GoodCatalogues
 pub mod Members
 pub mod Published
 pub mod Pages
+pub mod LegibleCatalogues

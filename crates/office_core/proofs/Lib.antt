@@ -23,9 +23,11 @@ pub mod Comes
 pub mod Days
 pub mod Starts
 pub mod StaysSound
+pub mod Texts
 pub mod WorkedSound
 pub mod ImportedUnits
 pub mod ImportedCounts
+pub mod KeptOffices
 pub mod LastNumberSound
 pub mod WorkedDesk
 pub mod WorkedCatalogue

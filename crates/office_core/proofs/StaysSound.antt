@@ -138,7 +138,7 @@ catalogue_after s (command.Return c) g ok = returned_good s c (s.place c) (its_c
 catalogue_after s (command.Permit t u until) g ok = granted_good s t u until (held_so (has_unit s.catalogue.forest u) _ ok.1.0) (its_catalogue s g)
 catalogue_after s (command.Revoke t u) g ok = revoked_good s t u (its_catalogue s g)
 
-sound_after : (s : State) (asked : Command) → IsSound s → NamesDays asked → Passes (checks s asked) → IsSound (after s asked)
+pub sound_after : (s : State) (asked : Command) → IsSound s → NamesDays asked → Passes (checks s asked) → IsSound (after s asked)
 sound_after s asked g d ok =
     let k = catalogue_after s asked g ok in
     record {

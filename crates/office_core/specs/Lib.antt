@@ -11,6 +11,7 @@ pub mod Queries
 pub mod WorkedAnswers
 pub mod Secrecy
 pub mod Soundness
+pub mod SoundOffice
 pub mod Imported
 pub mod WorkedDesk
 pub mod WorkedCatalogue
