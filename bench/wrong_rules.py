@@ -7,7 +7,7 @@ With --dry it only looks whether each text that would be edited stands once in i
 import os, re, subprocess, sys, tempfile, time
 SRC=os.path.dirname(os.path.dirname(os.path.abspath(__file__)))
 W=os.path.join(tempfile.mkdtemp(),'copy')
-O='crates/office_core/specs/'; C='crates/catalogue_core/specs/'; R='crates/office_rows/specs/'
+O='crates/office_core/specs/'; C='crates/catalogue_core/specs/'; R='crates/office_rows/specs/'; T='crates/office_tables/specs/'
 E=[
 # seats and tickets
 ('a ticket expires on its last day',O+'State.antt','int_lt reader.until s.day','int_le reader.until s.day'),
@@ -189,6 +189,13 @@ E=[
 ('something in no container',R+'CatalogueCauses.antt','is_between 1 (length t.containers) row.container','true'),
 ('containers of a unit with a gap',R+'CatalogueCauses.antt','is_between 1 (length (housings_of row.unit t.housings)) row.ord','nat_le 1 row.ord'),
 ('the second cause before the first',R+'CatalogueCauses.antt','office_is_bad version t ∷ places_are_bad version t ∷','places_are_bad version t ∷ office_is_bad version t ∷'),
+('a flag of 2',T+'Cells.antt','cond (int_eq n (pos 1)) (Some true) None','Some true'),
+('a number below 0 read as 0',T+'Cells.antt','number_in _ = None','number_in _ = Some 0'),
+('a text of any bytes',T+'Cells.antt','cond (is_utf8 t) (Some t) None','Some t'),
+('a second office',T+'CatalogueCells.antt','cond (nat_eq one 1) (Some one) None','Some one'),
+('units that cannot be read',R+'CellCauses.antt','∷ has_unread read_unit (db tables.unit.tree)','∷ false'),
+('spans that cannot be read',R+'CellCauses.antt','places_are_unread Spans db = has_unread read_span (db tables.span.tree)','places_are_unread Spans db = false'),
+('lines that cannot be read',R+'CellCauses.antt','(has_unread read_run (db tables.run.tree) || has_unread read_run_line (db tables.run_line.tree))','has_unread read_run (db tables.run.tree)'),
 # what a rule nearly says: the rows of WorkedDesk, WorkedCatalogue and WorkedShown
 ('Renew renews ticket 1',O+'Rules.antt','renewed until s.readers t','renewed until s.readers 1'),
 ('Register refuses a day that is past',O+'Rules.antt','unless (is_name name) BadName\n','unless (is_name name) BadName\n    ∷ when (int_lt until s.day) BadName\n'),
@@ -219,11 +226,12 @@ E=[
 ('IssuedNow tells one alone',O+'Queries.antt','filter_map (issued_json s) (containers s)','Rattle.std.specs.Prelude.take 1 (filter_map (issued_json s) (containers s))'),
 ('expired permits are not told',O+'Queries.antt','map permit_json (s.permits t)','map permit_json (filter (λ (permit : Permit). Rattle.std.specs.Prelude.int_le s.day permit.until) (s.permits t))'),
 ]
-ROWS=['office_core::worked::worked_desk_rows','office_core::worked::worked_catalogue_rows','office_core::worked::worked_shown_rows','office_core::worked::worked_rows','office_core::worked::worked_answers','office_rows::worked::worked_catalogue_causes','office_rows::worked::worked_desk_causes']  # the functions whose rows are looked at first
+ROWS=['office_core::worked::worked_desk_rows','office_core::worked::worked_catalogue_rows','office_core::worked::worked_shown_rows','office_core::worked::worked_rows','office_core::worked::worked_answers','office_rows::worked::worked_catalogue_causes','office_rows::worked::worked_desk_causes','office_rows::worked::worked_cell_causes']  # the functions whose rows are looked at first
 def run(cmd,cwd):
     p=subprocess.run(cmd,cwd=cwd,capture_output=True,text=True); return p.stdout+p.stderr
 def errors(out):
     return sorted(set(m.group(1)+'.'+m.group(2) for m in re.finditer(r'proofs/([\w/]+)\.antt:\d+:\d+: error: `([\w-]+)`',out)))
+LOWER=['catalogue_core','office_tables']  # whose libraries are built again for a wrong definition of theirs
 def rows_say(office):
     """What the worked rows alone say: the names of those that fail, or none. They are quick."""
     out=''
@@ -235,9 +243,10 @@ def proofs_say(office):
     return run(['rt','check','--jobs','1'],office)
 def tried(label,f,office):
     t=time.time()
-    if f.startswith(C):
-        out=run(['rt','lib'],W+'/crates/catalogue_core')
-        if 'logic=proved' not in out: return f'refused {time.time()-t:4.1f}s | {label} | catalogue_core: {", ".join(errors(out))}',False
+    if f.split('/')[1] in LOWER:
+        crate=f.split('/')[1]
+        out=run(['rt','lib'],W+'/crates/'+crate)
+        if 'logic=proved' not in out: return f'refused {time.time()-t:4.1f}s | {label} | {crate}: {", ".join(errors(out))}',False
     out=rows_say(office)
     if 'error' not in out: out=proofs_say(office)
     spec=[l for l in out.split('\n') if 'error' in l and '/specs/' in l]
@@ -262,8 +271,7 @@ if __name__=='__main__':
         print(f'{len(E)} rules, {len(missing)} not applied')
         sys.exit(1 if missing else 0)
     subprocess.run(['cp','-a',SRC,W])
-    kept=W+'/crates/catalogue_core/out'
-    subprocess.run(['cp','-a',kept,kept+'.kept'])
+    for crate in LOWER: subprocess.run(['cp','-a',f'{W}/crates/{crate}/out',f'{W}/crates/{crate}/out.kept'])
     passed=[]; n=0
     for label,f,old,new in E:
         if only and not any(o in label for o in only): continue
@@ -274,5 +282,7 @@ if __name__=='__main__':
         print(line,flush=True)
         if through: passed.append(label)
         open(p,'w').write(orig)
-        if f.startswith(C): subprocess.run(f'rm -rf {kept} && cp -a {kept}.kept {kept}',shell=True)
+        if f.split('/')[1] in LOWER:
+            kept=f'{W}/crates/{f.split("/")[1]}/out'
+            subprocess.run(f'rm -rf {kept} && cp -a {kept}.kept {kept}',shell=True)
     print(f'{n} tried, {len(passed)} let through: {passed}')

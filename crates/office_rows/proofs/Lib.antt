@@ -3,6 +3,7 @@ pub mod TableLaws
 pub mod ReadingRows
 pub mod ReadBack
 pub mod Nested
+pub mod CellCauses
 pub mod PlaceNumbers
 pub mod Linked
 pub mod UnitRows
@@ -28,6 +29,7 @@ pub mod RunsPass
 pub mod DeskKeys
 pub mod DeskPasses
 pub mod CatalogueCausesRows
+pub mod CellCausesRows
 pub mod JudgedWhole
 pub mod Grouped
 pub mod DeskParts

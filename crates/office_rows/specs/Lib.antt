@@ -8,3 +8,6 @@ pub mod ReadingRows
 pub mod CatalogueCauses
 pub mod CatalogueCausesRows
 pub mod Judged
+pub mod CellCauses
+pub mod CellJudged
+pub mod CellCausesRows

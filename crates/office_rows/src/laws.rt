@@ -9,6 +9,9 @@ ghost use Rattle.tree_core.specs.Spans.{number};
 ghost use Rattle.tree_core.specs.Links.{HoldsLinks};
 ghost use Rattle.tree_core.specs.declared.rows.Link.{Link};
 ghost use Rattle.tree_core.specs.Versions.{Version};
+ghost use Rattle.isad_core.specs.Texts.{Bytes};
+ghost use Rattle.sqlite.specs.Tree.{Trees};
+ghost use Rattle.office_rows.specs.CellJudged.{CellsHaveNoCause, CellsSayASoundState, SaysUtf8};
 ghost use Rattle.office_rows.specs.Judged.{HasNoCatalogueCause, HasNoCause, SaysASoundState, SaysTheCatalogue};
 ghost use Rattle.catalogue_core.specs.CatalogueRows.{LinkRows, SpanRows, places_said};
 ghost use Rattle.office_rows.specs.Reading.{Rows, SaysAllButUnits, state_of, tables};
@@ -58,4 +61,20 @@ pub fn tables_have_no_cause()
 /// Rows with their keys and without a cause say a sound state, and are the rows of that state.
 pub fn rows_without_a_cause()
     ensures { (version : Version) (t : Rows) → SaysASoundState version t }
+{}
+
+/// A cell says its text where that is UTF-8, and nothing where it is not.
+pub fn texts_are_utf8()
+    ensures { (t : Bytes) → SaysUtf8 t }
+{}
+
+/// Tables of a file without a cause, whatever their cells are, have no row that cannot be read, and their rows have no cause.
+pub fn cells_have_no_cause()
+    ensures { (version : Version) (db : Trees) → CellsHaveNoCause version db }
+{}
+
+/// Tables of a file whose rows have their keys, without a cause, whatever their cells are, say a sound state and are its
+/// tables, and every text in them is UTF-8.
+pub fn cells_without_a_cause()
+    ensures { (version : Version) (db : Trees) → CellsSayASoundState version db }
 {}
