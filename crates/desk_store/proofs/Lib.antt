@@ -17,3 +17,6 @@ pub mod LoanRows
 pub mod LoanCalls
 pub mod OpeningRows
 pub mod OpeningCalls
+pub mod WaitingRows
+pub mod ReshelvingRows
+pub mod ReshelvingCalls

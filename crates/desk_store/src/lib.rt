@@ -12,8 +12,10 @@ mod orders;
 mod placing;
 mod queues;
 mod readers;
+mod reshelving;
 mod runs;
 mod seating;
+mod waiting;
 
 pub use blank::is_blank;
 pub use cards::{LiveOrder, ReaderCard, reader};
@@ -26,5 +28,6 @@ pub use orders::{OrderState, PlacedOrder, WaitingOrder, order};
 pub use placing::{append_order, end_order};
 pub use queues::ContainerQueue;
 pub use readers::{add_reader, renew};
+pub use reshelving::at_desk;
 pub use runs::{Brought, record_run};
 pub use seating::{TakenSeat, seats, set_seat};
