@@ -55,7 +55,7 @@ E=[
 ('Run takes all',O+'State.antt','take s.settings.run_size (filter (is_due s) (numbers_to (length s.orders)))','filter (is_due s) (numbers_to (length s.orders))'),
 ('Run takes the highest container first',O+'State.antt','(filter (is_due s) (numbers_to (length s.orders)))','(filter (is_due s) (Rattle.std.specs.Prelude.reverse (numbers_to (length s.orders))))'),
 ('Run leaves the boxes on the shelf',O+'Rules.antt','cond (brings (next_run s) c) Desk (s.place c)','cond (brings (next_run s) c) Shelf (s.place c)'),
-('Run keeps no line',O+'State.antt','lines = filter_map (line_for s) (picked s)','lines = []'),
+('Run keeps no line',O+'State.antt','lines = in_order is_line_before (filter_map (line_for s) (picked s))','lines = []'),
 ('a line names the ticket by the order',O+'State.antt','order = o; ticket = order.ticket','order = o; ticket = o'),
 ('Reshelve takes boxes that are waited for',O+'State.antt','is_desk (s.place c) && is_empty (s.queue c)','is_desk (s.place c)'),
 ('Reshelve leaves them at the desk',O+'Rules.antt','cond (stands c (idle s)) Shelf (s.place c)','s.place c'),
