@@ -34,7 +34,7 @@ use Rattle.office_tables.specs.Faults.{IsUnlimited, HasCause}
 use Rattle.office_tables.specs.Meaning.{Means}
 use Rattle.office_tables.specs.Order.{Rises, IsOrdered}
 use Rattle.office_tables.specs.Schema.{schema, to_unit, unit, element}
-use Rattle.office_tables.specs.Step.{Holds, HasRows, PutsRow}
+use Rattle.office_tables.specs.Step.{Holds, HasRows, PutsRow, OnlyTouches}
 use Rattle.office_tables.specs.declared.fault.StoreFault.{StoreFault}
 use Rattle.catalogue_rows.specs.Adding.{AreElements, HasUnit}
 use Rattle.catalogue_rows.specs.Rows.{unit_row, ElementRow, element_row, by_element}
@@ -44,6 +44,7 @@ use Rattle.office_tables.proofs.DeleteOf.{removing, delete_leaves, delete_faults
 use Rattle.office_tables.proofs.Fresh.{any_mapped, next_free}
 use Rattle.office_tables.proofs.InsertCauses.{IsWelcome}
 use Rattle.office_tables.proofs.InsertOf.{insert_puts, insert_faults}
+use Rattle.office_tables.proofs.OnlyOf.{delete_only}
 use Rattle.office_tables.proofs.SelectOf.{asking, select_finds, select_faults}
 use Rattle.office_tables.proofs.Steps.{is_referred_to}
 use Rattle.office_tables.proofs.Tests.{only, both, same_number, by_two_ints}
@@ -161,6 +162,9 @@ module _ (old new : State) (unit_id : ℕ) (v : Version) (has : old.now.schema �
   clear_elements_leaves xs stored up =
       delete_leaves v 9 element refl (element_alone v) clear_elements_text of_unit (col 1 0 ∷ []) (Int (pos unit_id) ∷ []) (clear_elements_means v) old new has
       element_row (λ x. x.row) (λ _. refl) xs stored up (λ (x : ElementRow). nat_eq unit_id x.unit) (λ x. only (same_number x.unit unit_id)) (λ (x : ElementRow). Int x.row ∷ []) (λ _. refl) (λ _. refl)
+
+  pub clear_elements_only : (r : Result Unit StoreFault) → Ran clear_elements_text (Int (pos unit_id) ∷ []) old new r → OnOk r (OnlyTouches (element.tree ∷ []) old.now new.now)
+  clear_elements_only = delete_only v 9 element refl clear_elements_text _ (Int (pos unit_id) ∷ []) old new has (element_alone v) (clear_elements_means v)
 
   pub clear_elements_faults : IsUnlimited old → IsLive old → (r : Result Unit StoreFault) → Ran clear_elements_text (Int (pos unit_id) ∷ []) old new r → IfErr r (HasCause old new)
   clear_elements_faults = delete_faults v 9 element refl (element_alone v) clear_elements_text of_unit (col 1 0 ∷ []) (Int (pos unit_id) ∷ []) (clear_elements_means v) old new has (element_fits v) refl

@@ -33,7 +33,7 @@ use Rattle.office_tables.specs.Faults.{IsUnlimited, HasCause}
 use Rattle.office_tables.specs.Meaning.{Means}
 use Rattle.office_tables.specs.Order.{Rises, IsOrdered}
 use Rattle.office_tables.specs.Schema.{schema, housing}
-use Rattle.office_tables.specs.Step.{Holds, HasRows, PutsRow}
+use Rattle.office_tables.specs.Step.{Holds, HasRows, PutsRow, OnlyTouches}
 use Rattle.office_tables.specs.declared.fault.StoreFault.{StoreFault}
 use Rattle.catalogue_rows.specs.Adding.{HasUnit}
 use Rattle.catalogue_rows.specs.Rows.{HousingRow, housing_row, by_housing}
@@ -43,6 +43,7 @@ use Rattle.office_tables.proofs.DeleteOf.{removing, delete_leaves, delete_faults
 use Rattle.office_tables.proofs.Fresh.{any_mapped, next_free}
 use Rattle.office_tables.proofs.InsertCauses.{IsWelcome}
 use Rattle.office_tables.proofs.InsertOf.{insert_puts, insert_faults}
+use Rattle.office_tables.proofs.OnlyOf.{delete_only}
 use Rattle.office_tables.proofs.Queries.{plain_query}
 use Rattle.office_tables.proofs.SelectOf.{asking, select_finds, select_faults}
 use Rattle.office_tables.proofs.Steps.{is_referred_to}
@@ -141,6 +142,9 @@ module _ (old new : State) (unit_id : ℕ) (v : Version) (has : old.now.schema �
   clear_housings_leaves xs stored up =
       delete_leaves v 11 housing refl (housing_alone v) clear_housings_text of_unit (col 1 0 ∷ []) (Int (pos unit_id) ∷ []) (clear_housings_means v) old new has
       housing_row (λ x. x.row) (λ _. refl) xs stored up (λ (x : HousingRow). nat_eq unit_id x.unit) (λ x. only (same_number x.unit unit_id)) (λ (x : HousingRow). Int x.row ∷ []) (λ _. refl) (λ _. refl)
+
+  pub clear_housings_only : (r : Result Unit StoreFault) → Ran clear_housings_text (Int (pos unit_id) ∷ []) old new r → OnOk r (OnlyTouches (housing.tree ∷ []) old.now new.now)
+  clear_housings_only = delete_only v 11 housing refl clear_housings_text _ (Int (pos unit_id) ∷ []) old new has (housing_alone v) (clear_housings_means v)
 
   pub clear_housings_faults : IsUnlimited old → IsLive old → (r : Result Unit StoreFault) → Ran clear_housings_text (Int (pos unit_id) ∷ []) old new r → IfErr r (HasCause old new)
   clear_housings_faults = delete_faults v 11 housing refl (housing_alone v) clear_housings_text of_unit (col 1 0 ∷ []) (Int (pos unit_id) ∷ []) (clear_housings_means v) old new has (housing_fits v) refl

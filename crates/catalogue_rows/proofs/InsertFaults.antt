@@ -21,7 +21,6 @@ use Rattle.office_tables.proofs.Casts.{cast_int, cast_null}
 use Rattle.office_tables.proofs.Failures.{IsWhole}
 use Rattle.office_tables.proofs.InsertCauses.{IsWelcome, values_typed, insert_cause}
 use Rattle.catalogue_rows.proofs.Inserts.{insert_office_text, insert_office_terms, insert_office_is, insert_office_plain}
-use Rattle.sqlite.specs.Kind.TheVariants as kind
 
 -- ---- the office
 

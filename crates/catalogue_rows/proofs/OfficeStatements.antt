@@ -1,5 +1,5 @@
 -- The statements on the office's row, and the counts: what their texts mean, what they leave or tell, and why they fail.
-use Rattle.std.proofs.Common.{◌≡◌, ℕ, pos, List, [], ◌∷◌, length, map, drop, codes, true, false, Ordering, Equal, Result, OnOk, IfOk, IfErr, refl, ap, ◌∙◌}
+use Rattle.std.proofs.Common.{◌≡◌, ℕ, pos, List, [], ◌∷◌, length, map, drop, codes, true, false, Equal, Result, OnOk, IfOk, IfErr, refl, ap, ◌∙◌}
 use Rattle.std.proofs.Math.Nat.{le_refl}
 use Rattle.std.proofs.lemmas.Bool.{both_ways}
 use Rattle.std.proofs.lemmas.Result.{IfOk-weaker}
@@ -31,7 +31,7 @@ use Rattle.office_tables.specs.Counting.{capped}
 use Rattle.office_tables.specs.Faults.{IsUnlimited, HasCause}
 use Rattle.office_tables.specs.Meaning.{Means}
 use Rattle.office_tables.specs.Schema.{schema, office, unit, container}
-use Rattle.office_tables.specs.Step.{Holds, HasRows}
+use Rattle.office_tables.specs.Step.{HasRows, OnlyTouches}
 use Rattle.office_tables.specs.declared.fault.StoreFault.{StoreFault}
 use Rattle.catalogue_rows.specs.Rows.{office_row, settings_cells}
 use Rattle.catalogue_rows.specs.Settings.{AreLegibleSettings}
@@ -39,6 +39,7 @@ use Rattle.catalogue_rows.specs.declared.office.OfficeRow.{OfficeRow}
 use Rattle.office_tables.proofs.Casts.{cast_int, cast_null}
 use Rattle.office_tables.proofs.Causes.{read_cause, none_refuse, counts_always}
 use Rattle.office_tables.proofs.Counts.{summary_query, count_rows, counts}
+use Rattle.office_tables.proofs.OnlyOf.{update_only}
 use Rattle.office_tables.proofs.RowReads.{all_caused}
 use Rattle.office_tables.proofs.Rows.{kept_all}
 use Rattle.office_tables.proofs.SelectOf.{asking, select_finds, select_faults}
@@ -102,6 +103,10 @@ module _ (old new : State) (next : ℕ) (v : Version) (has : old.now.schema ≡ 
       update_faults v 7 office refl set_next_text the_one set_next_columns (Int (pos next) ∷ []) (set_next_means v) old new has telling_row (λ _. pos 1) (λ _. refl) one stored (tt, tt)
       (λ _. true) (λ _. only (same_number 1 1)) source (λ _. refl) (λ _. refl) changed (λ _. refl) (λ x _ _. casts x)
       (λ _. false) (office_kept v) (λ x p h. absurd (let k : false ≡ true = h in cc)) (λ _. refl) (λ _. refl) (λ _. refl) refl free live r ran
+
+-- whatever the row is, no other table is touched
+pub set_next_only : (old new : State) (next : ℕ) (v : Version) → old.now.schema ≡ schema v → (r : Result Unit StoreFault) → Ran set_next_text (Int (pos next) ∷ []) old new r → OnOk r (OnlyTouches (office.tree ∷ []) old.now new.now)
+set_next_only old new next v has = update_only v 7 office refl set_next_text _ (Int (pos next) ∷ []) old new has (set_next_means v)
 
 -- ---- the office's row
 

@@ -37,13 +37,14 @@ use Rattle.office_tables.specs.Flags.{flag}
 use Rattle.office_tables.specs.Meaning.{Means}
 use Rattle.office_tables.specs.Order.{Rises}
 use Rattle.office_tables.specs.Schema.{schema, unit}
-use Rattle.office_tables.specs.Step.{Holds, HasRows, PutsRow}
+use Rattle.office_tables.specs.Step.{Holds, HasRows, PutsRow, OnlyTouches}
 use Rattle.office_tables.specs.declared.fault.StoreFault.{StoreFault}
 use Rattle.catalogue_rows.specs.Rows.{unit_row, by_number}
 use Rattle.office_tables.proofs.Casts.{cast_int, cast_null, cast_maybe}
 use Rattle.office_tables.proofs.Fresh.{any_mapped, not_there}
 use Rattle.office_tables.proofs.InsertCauses.{IsWelcome}
 use Rattle.office_tables.proofs.InsertOf.{insert_puts, insert_faults}
+use Rattle.office_tables.proofs.OnlyOf.{update_only}
 use Rattle.office_tables.proofs.Queries.{plain_query}
 use Rattle.office_tables.proofs.Tests.{only, both, same_number, same_bytes}
 use Rattle.office_tables.proofs.UpdateCauses.{KeepsTable}
@@ -246,3 +247,15 @@ module _ (old new : State) (id : ℕ) (until : Option ℤ) (v : Version) (has : 
   set_until_faults =
       set_faults old new id v has set_until_text set_until_columns (or_null Int until) (set_until_means v) source_of_until (λ _. refl) (λ _. refl) (λ (x : Described). record x { until = until }) (λ _. refl) (λ _. refl) (λ _. refl)
       (λ x. rw (cast_int (pos x.id), cast_null, cast_int (flag x.draft), cast_maybe until) refl) xs stored up r ran (until_accepted v id until)
+
+-- ---- no other table is touched, whatever units there are
+
+module _ (old new : State) (id : ℕ) (v : Version) (has : old.now.schema ≡ schema v) (r : Result Unit StoreFault) where
+  pub set_level_only : (values : Description) → Ran set_level_text (Int (pos id) ∷ Text values.level ∷ []) old new r → OnOk r (OnlyTouches (unit.tree ∷ []) old.now new.now)
+  set_level_only values ran = update_only v 8 unit refl set_level_text _ (Int (pos id) ∷ Text values.level ∷ []) old new has (set_level_means v) r ran
+
+  pub set_draft_only : (draft : Bool) → Ran set_draft_text (Int (pos id) ∷ Int (flag draft) ∷ []) old new r → OnOk r (OnlyTouches (unit.tree ∷ []) old.now new.now)
+  set_draft_only draft ran = update_only v 8 unit refl set_draft_text _ (Int (pos id) ∷ Int (flag draft) ∷ []) old new has (set_draft_means v) r ran
+
+  pub set_until_only : (until : Option ℤ) → Ran set_until_text (Int (pos id) ∷ or_null Int until ∷ []) old new r → OnOk r (OnlyTouches (unit.tree ∷ []) old.now new.now)
+  set_until_only until ran = update_only v 8 unit refl set_until_text _ (Int (pos id) ∷ or_null Int until ∷ []) old new has (set_until_means v) r ran

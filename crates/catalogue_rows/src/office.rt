@@ -11,7 +11,7 @@ ghost use Rattle.office_tables.specs.Changing.{Leaves};
 ghost use Rattle.office_tables.specs.Counting.{capped};
 ghost use Rattle.office_tables.specs.Faults.{Excused};
 ghost use Rattle.office_tables.specs.Schema as tables;
-ghost use Rattle.office_tables.specs.Step.{InOffice, Holds, HasRows};
+ghost use Rattle.office_tables.specs.Step.{InOffice, Holds, HasRows, OnlyTouches};
 ghost use Rattle.catalogue_rows.specs.Rows.{container_row, office_row as row_of_office, unit_row};
 ghost use Rattle.catalogue_rows.specs.Settings.{AreLegibleSettings};
 ghost use Rattle.catalogue_rows.specs.Shows.{ShowsOffice};
@@ -53,6 +53,9 @@ pub fn set_next_unit<S: Alter>(conn: &mut Connection<S>, next: u64) -> Result<()
         → (version : Version) (o : OfficeRow) → ShowsOffice version (state S.Store conn.old).now.trees o
         → OnOk result (HasRows tables.office.tree (row_of_office version (record o { next_unit = next }) ∷ [])
         (state S.Store conn.old).now (state S.Store conn.new).now) }
+    ensures only { HasCleanDisk (state S.Store conn.new)
+        → OnOk result (OnlyTouches (tables.office.tree ∷ []) (state S.Store conn.old).now
+        (state S.Store conn.new).now) }
     ensures faults { (version : Version) (o : OfficeRow) → ShowsOffice version (state S.Store conn.old).now.trees o
         → Excused (state S.Store conn.old) (state S.Store conn.new) result }
 {

@@ -1,6 +1,6 @@
 -- What a container is attached to, and the marks that are told of it.
 use Rattle.std.specs.Prelude.{ℕ, List, [], ◌∷◌, filter, IsPermutation, ⊤}
-use Rattle.tree_core.specs.Forest.{Forest, nodes, each, path, tree}
+use Rattle.tree_core.specs.Forest.{Forest, nodes, path, tree}
 use Rattle.catalogue_core.specs.Merging.{Catalogue}
 use Rattle.office_tables.specs.Order.{Rises}
 use Rattle.catalogue_rows.specs.Rows.{by_number}

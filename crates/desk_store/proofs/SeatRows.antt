@@ -36,7 +36,7 @@ use Rattle.office_tables.specs.Schema.{schema, seat}
 use Rattle.office_tables.specs.Step.{Holds, HasRows, OnlyTouches, PutsRow}
 use Rattle.office_tables.specs.declared.fault.StoreFault.{StoreFault}
 use Rattle.desk_store.specs.Rows.{seat_cells}
-use Rattle.desk_store.specs.Shows.{AreByNumber}
+use Rattle.office_tables.specs.Numbered.{AreByNumber}
 use Rattle.desk_store.specs.declared.seating.TakenSeat.{TakenSeat}
 use Rattle.office_tables.proofs.Casts.{cast_int, cast_null}
 use Rattle.office_tables.proofs.DeleteOf.{removing, delete_leaves, delete_faults}
@@ -46,7 +46,7 @@ use Rattle.office_tables.proofs.InsertOf.{insert_puts, insert_faults}
 use Rattle.office_tables.proofs.SelectOf.{asking, select_finds, select_faults}
 use Rattle.office_tables.proofs.Steps.{is_referred_to}
 use Rattle.office_tables.proofs.Tests.{only, same_number, by_one_int}
-use Rattle.desk_store.proofs.OnlyOf.{delete_only}
+use Rattle.office_tables.proofs.OnlyOf.{delete_only}
 
 -- ---- a seat is taken
 

@@ -34,4 +34,8 @@ pub mod UpdateOf
 pub mod DeleteOf
 pub mod SelectOf
 pub mod Fresh
+pub mod numbered
+pub mod OnlyOf
+pub mod LastOf
+pub mod CountOf
 pub mod CallEnds

@@ -2,7 +2,7 @@ use Rattle.std.proofs.Common.{refl}
 use Rattle.sqlite.specs.Held.{state}
 use Rattle.office_tables.proofs.Calls.{early}
 use Rattle.office_tables.proofs.RowWrites.{ours}
-use Rattle.catalogue_rows.proofs.ElementStatements.{clear_elements_text, clear_elements_command, clear_elements_means, clear_elements_leaves, clear_elements_faults}
+use Rattle.catalogue_rows.proofs.ElementStatements.{clear_elements_text, clear_elements_command, clear_elements_means, clear_elements_leaves, clear_elements_only, clear_elements_faults}
 use Rattle.catalogue_rows.proofs.elements.clear_elements.Goals as goal
 
 pub change-requires : goal.change-requires
@@ -14,6 +14,13 @@ returns-clause-rows g c clean xs stored up =
     let new = state g.S.Store c.change.new.conn in
     let at = c.requires.inside (early old new _ c.change.ensures.leaves.crash clean) in
     clear_elements_leaves old new c.args.unit at.0 at.1 xs stored up c.change.result (rw c.number.ensures at (c.change.ensures.ran clean))
+
+pub returns-clause-only : goal.returns-clause-only
+returns-clause-only g c clean =
+    let old = state g.S.Store c.args.conn.now in
+    let new = state g.S.Store c.change.new.conn in
+    let at = c.requires.inside (early old new _ c.change.ensures.leaves.crash clean) in
+    clear_elements_only old new c.args.unit at.0 at.1 c.change.result (rw c.number.ensures at (c.change.ensures.ran clean))
 
 pub returns-clause-faults : goal.returns-clause-faults
 returns-clause-faults g c xs stored up clean free =

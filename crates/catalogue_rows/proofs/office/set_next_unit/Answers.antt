@@ -2,7 +2,7 @@ use Rattle.std.proofs.Common.{refl}
 use Rattle.sqlite.specs.Held.{state}
 use Rattle.office_tables.proofs.Calls.{early}
 use Rattle.office_tables.proofs.RowWrites.{ours}
-use Rattle.catalogue_rows.proofs.OfficeStatements.{set_next_text, set_next_command, set_next_means, set_next_leaves, set_next_faults}
+use Rattle.catalogue_rows.proofs.OfficeStatements.{set_next_text, set_next_command, set_next_means, set_next_leaves, set_next_only, set_next_faults}
 use Rattle.catalogue_rows.proofs.office.set_next_unit.Goals as goal
 
 pub change-requires : goal.change-requires
@@ -14,6 +14,13 @@ returns-clause-rows g c clean version o stored =
     let new = state g.S.Store c.change.new.conn in
     let at = c.requires.inside (early old new _ c.change.ensures.leaves.crash clean) in
     set_next_leaves old new c.args.next at.0 at.1 version o stored c.change.result (rw c.number.ensures at (c.change.ensures.ran clean))
+
+pub returns-clause-only : goal.returns-clause-only
+returns-clause-only g c clean =
+    let old = state g.S.Store c.args.conn.now in
+    let new = state g.S.Store c.change.new.conn in
+    let at = c.requires.inside (early old new _ c.change.ensures.leaves.crash clean) in
+    set_next_only old new c.args.next at.0 at.1 c.change.result (rw c.number.ensures at (c.change.ensures.ran clean))
 
 pub returns-clause-faults : goal.returns-clause-faults
 returns-clause-faults g c version o stored clean free =
