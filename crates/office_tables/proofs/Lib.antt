@@ -39,3 +39,4 @@ pub mod OnlyOf
 pub mod LastOf
 pub mod CountOf
 pub mod CallEnds
+pub mod ReadEnds

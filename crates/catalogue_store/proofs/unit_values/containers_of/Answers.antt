@@ -1,4 +1,4 @@
-use Rattle.std.proofs.Common.{rules, ◌≡◌, ℕ, map, ap, sym, ◌∙◌}
+use Rattle.std.proofs.Common.{◌≡◌, ℕ, map, ap, sym, ◌∙◌}
 use Rattle.sqlite_trees.proofs.ListLemmas.{map-map}
 use Rattle.catalogue_rows.specs.Adding.{housing_cell}
 use Rattle.catalogue_rows.specs.Rows.{HousingRow}
@@ -7,8 +7,8 @@ use Rattle.catalogue_rows.specs.declared.answer.Housing.{Housing}
 use Rattle.catalogue_rows.proofs.CellReads.{cells_read, housings_in_order, numbers_told}
 use Rattle.catalogue_store.proofs.unit_values.containers_of.Goals as goal
 
-pub returns-clause-answers : goal.returns-clause-answers
-returns-clause-answers g c clean xs stored boxes values tell =
+pub returns-clause-numbers : goal.returns-clause-numbers
+returns-clause-numbers g c clean xs stored boxes values tell =
     let got = c.in_ok-found.ensures.rows clean xs stored in
     let cells = cells_read (λ (h : HousingRow). h.unit) housing_cell c.args.unit (housing_cells boxes values) xs got.0 (housings_in_order boxes values) tell got.1.0 got.1.1 in
     let second = λ (c : ℕ × ℕ). c.1 in
@@ -16,8 +16,3 @@ returns-clause-answers g c clean xs stored boxes values tell =
     let all : map (λ (h : Housing). h.container) c.in_ok-found.found.items ≡ map second (map housing_cell got.0) =
     ap (map (λ (h : Housing). h.container)) got.2 ∙ map-map (λ (h : Housing). h.container) read got.0 ∙ sym (map-map second housing_cell got.0) in
     c.in_ok-numbers_in.ensures ∙ ap (map (λ (h : Housing). h.container)) c.deref.ensures.value ∙ all ∙ ap (map second) cells ∙ numbers_told boxes values
-
-pub returns-in_err-found-clause-faults : goal.returns-in_err-found-clause-faults
-returns-in_err-found-clause-faults g c clean free xs stored =
-    let why = c.in_err-found.ensures.faults xs stored clean free in
-    search (rules, why)
