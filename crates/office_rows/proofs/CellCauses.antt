@@ -22,6 +22,7 @@ use Rattle.office_rows.specs.CellJudged.{IsLegibleUnitRow, IsLegibleContainerRow
 use Rattle.office_rows.proofs.Judging.{none_held, hold_none}
 use Rattle.office_rows.proofs.JudgedWhole.{rows_are_said}
 use Rattle.office_rows.proofs.DeskSound.{desk_sound}
+use Rattle.office_rows.proofs.SaidTexts.{texts_said}
 
 -- ---- nothing is unread, and the rows that are read have no cause
 
@@ -140,4 +141,8 @@ legible_rows version db =
 pub cells_are_said : (version : Version) (db : Trees) → CellsSayASoundState version db
 cells_are_said version db keys h =
     let said = rows_are_said version (rows_in version db) (desk_sound version (rows_in version db)) keys (none_by_cells version db h).rows in
-    record { sound = said.0; tables = said.1; legible = legible_rows version db }
+    record {
+      sound = record { sound = said.0; texts = texts_said (rows_in version db) (legible_rows version db) };
+      tables = said.1;
+      legible = legible_rows version db;
+    }

@@ -3,6 +3,7 @@ pub mod TableLaws
 pub mod ReadingRows
 pub mod ReadBack
 pub mod Nested
+pub mod SaidTexts
 pub mod CellCauses
 pub mod PlaceNumbers
 pub mod Linked

@@ -8,7 +8,7 @@ use Rattle.isad_core.specs.Texts.{Bytes}
 use Rattle.tree_core.specs.Versions.{Version}
 use Rattle.desk_core.specs.DeskRows.{ReaderRow}
 use Rattle.catalogue_core.specs.CatalogueRows.{UnitRow, ElementRow, ContainerRow}
-use Rattle.office_core.specs.Soundness.{IsSound}
+use Rattle.office_core.specs.SoundOffice.{IsSoundOffice}
 use Rattle.office_tables.specs.Cells.{text_in}
 use Rattle.office_rows.specs.Reading.{Rows, state_of}
 use Rattle.office_rows.specs.Causes.{first_held, cause, MeetsKeys}
@@ -51,10 +51,10 @@ CellsHaveNoCause version db = cell_cause version db ≡ None → HaveNoCause ver
 
 -- what is told of the rows that can be read
 pub record AreOfASoundState (version : Version) (db : Trees) : Type 0 where
-  pub sound : IsSound (state_of (rows_in version db))
+  pub sound : IsSoundOffice (state_of (rows_in version db))
   pub tables : AreTheirTables version (rows_in version db)
   pub legible : AreLegibleRows (rows_in version db)
 
--- tables whose rows have their keys, and no cause, say a sound state, and are its tables
+-- tables whose rows have their keys, and no cause, say a sound office with its texts, and are its tables
 abbrev pub CellsSayASoundState : Version → Trees → Type 0
 CellsSayASoundState version db = MeetsKeys (rows_in version db) → cell_cause version db ≡ None → AreOfASoundState version db

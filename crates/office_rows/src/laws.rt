@@ -73,8 +73,8 @@ pub fn cells_have_no_cause()
     ensures { (version : Version) (db : Trees) → CellsHaveNoCause version db }
 {}
 
-/// Tables of a file whose rows have their keys, without a cause, whatever their cells are, say a sound state and are its
-/// tables, and every text in them is UTF-8.
+/// Tables of a file whose rows have their keys, without a cause, whatever their cells are, say an office that is sound
+/// with its texts and are its tables, and every text in them is UTF-8.
 pub fn cells_without_a_cause()
     ensures { (version : Version) (db : Trees) → CellsSayASoundState version db }
 {}
