@@ -5,7 +5,7 @@ ghost use Rattle.http_desk.specs.Gathering.{FindsHead, FindsBody, AtEndIfHead, A
 ghost use Rattle.http_messages.specs.Ending.{scan};
 
 use crate::filling::{Filled, fill};
-use http_messages::ending::{Place, Scan, scan_head};
+use http_messages::ending::{Place, Scan, scan_on};
 use std::io::Read;
 
 /// How many bytes a head may have, with the empty lines before it.
@@ -45,14 +45,17 @@ pub enum FoundBody {
     NoMemory,
 }
 
-/// What the bytes so far say, if they say it.
-fn look(buffer: &[u8]) -> Scan
+/// What the bytes so far say, where those seen before led to a place: no byte is looked at twice.
+fn look(buffer: &[u8], seen: usize, place: Place) -> Scan
+    requires bytes { seen ≤ length buffer.now }
+    requires limit { seen ≤ 16384 }
+    requires led { scan (take seen buffer.now) ≡ Scan.Open place }
     ensures { result ≡ scan (take 16384 buffer.now) }
 {
-    if buffer.len() <= HEAD_LIMIT {
-        scan_head(buffer)
-    } else {
-        scan_head(&buffer[..HEAD_LIMIT])
+    let end = buffer.len().min(HEAD_LIMIT);
+    match scan_on(place, &buffer[seen..end]) {
+        Scan::Whole(size) => Scan::Whole(seen + size),
+        Scan::Open(next) => Scan::Open(next),
     }
 }
 
@@ -70,13 +73,17 @@ pub fn gather_head<R: Read>(
         → (disturbed.old ≡ false)
         × QuietHead result (turns.old + length buffer.old.items) (turns.new + length buffer.new.items) }
 {
+    let mut led = Place::Lead;
+    let mut seen = 0;
     loop {
-        match look(buffer) {
+        match look(buffer, seen, led) {
             Scan::Whole(size) => return FoundHead::Whole(size),
             Scan::Open(place) => {
                 if buffer.len() >= HEAD_LIMIT {
                     return FoundHead::TooLong;
                 }
+                led = place;
+                seen = buffer.len();
                 match fill(reader, buffer, turns, disturbed) {
                     Filled::More => {}
                     Filled::AtEnd => {

@@ -1,5 +1,7 @@
 -- Lemmas on where a head ends.
-use Rattle.std.proofs.Common.{zero, take_all, ◌≡◌, ◌<◌, ◌≤◌, ℕ, suc, ◌+◌, List, [], ◌∷◌, ◌++◌, length, take, refl, sym, ap, ◌∙◌, arith, zero-add, Option, None, Some, length-take}
+use Rattle.std.proofs.Common.{◌⊎◌, inl, inr, min, zero, take_all, ◌≡◌, ◌<◌, ◌≤◌, ℕ, suc, ◌+◌, ◌-◌, drop, List, [], ◌∷◌, ◌++◌, length, take, refl, sym, ap, ◌∙◌, arith, zero-add, Option, None, Some, length-take}
+use Rattle.std.proofs.Math.Seq.{take-add}
+use Rattle.std.proofs.lemmas.Bool.{cases_lt}
 use Rattle.http_messages.specs.declared.ending.Place.{Place}
 use Rattle.http_messages.specs.declared.ending.Place.TheVariants.{Lead}
 use Rattle.http_messages.specs.declared.ending.Scan.{Scan}
@@ -31,7 +33,7 @@ within_after (Some q) more len n h e =
     let below : k ≤ len = h q k f in
     omega arith
 
-within_from : (p : Place) (bytes : List ℕ) (n : ℕ) → scan_from p bytes ≡ Whole n → n ≤ length bytes
+pub within_from : (p : Place) (bytes : List ℕ) (n : ℕ) → scan_from p bytes ≡ Whole n → n ≤ length bytes
 within_from p [] n e = absurd (cc)
 within_from p (b ∷ bytes) n e = within_after (next_place p b) (λ q. scan_from q bytes) (length bytes) n (λ q k f. within_from q bytes k f) e
 
@@ -55,6 +57,63 @@ more_from p (b ∷ bytes) rest n e = more_after (next_place p b) (λ q. scan_fro
 pub scan_more : (bytes rest : List ℕ) (n : ℕ) → scan bytes ≡ Whole n → scan (bytes ++ rest) ≡ Whole n
 unfolding scan
 scan_more bytes rest n e = more_from Lead bytes rest n e
+
+later_later : (n : ℕ) (s : Scan) → one_more (later n s) ≡ later (suc n) s
+later_later n (Whole k) = let e : (n + k) + 1 ≡ suc n + k = omega arith in ap Whole e
+later_later n (Open p) = refl
+
+on_after : (o : Option Place) (more : Place → Scan) (longer : Place → Scan) (q : Place) (n : ℕ) (s : Scan)
+    → ((r : Place) → more r ≡ Open q → longer r ≡ later n s)
+    → found_after o more ≡ Open q → found_after o longer ≡ later (suc n) s
+on_after None more longer q n s h e = absurd (cc)
+on_after (Some r) more longer q n s h e = ap one_more (h r (still_open (more r) e)) ∙ later_later n s
+  where
+    still_open : (t : Scan) → one_more t ≡ Open q → t ≡ Open q
+    still_open (Whole k) f = absurd (cc)
+    still_open (Open p) f = f
+
+on_from : (p q : Place) (bytes rest : List ℕ) → scan_from p bytes ≡ Open q
+    → scan_from p (bytes ++ rest) ≡ later (length bytes) (scan_from q rest)
+on_from p q [] rest e =
+    let same : p ≡ q = cc in
+    sym (later_none (scan_from p rest)) ∙ ap (λ x. later 0 (scan_from x rest)) same
+on_from p q (b ∷ bytes) rest e =
+    on_after (next_place p b) (λ r. scan_from r bytes) (λ r. scan_from r (bytes ++ rest)) q (length bytes)
+    (scan_from q rest) (λ r f. on_from r q bytes rest f) e
+
+take_in_two : (a b : ℕ) (bytes : List ℕ) → a ≤ b → take b bytes ≡ take a bytes ++ take (b - a) (drop a bytes)
+take_in_two a b bytes h =
+    let whole : b ≡ a + (b - a) = omega arith in
+    ap (λ n. take n bytes) whole ∙ take-add a (b - a) bytes
+
+-- where the bytes before a place end no head, the search goes on from there
+pub scan_from_there : (seen end : ℕ) (bytes : List ℕ) (place : Place) → seen ≤ end → end ≤ length bytes
+    → scan (take seen bytes) ≡ Open place
+    → scan (take end bytes) ≡ later seen (scan_from place (take (end - seen) (drop seen bytes)))
+unfolding scan
+scan_from_there seen end bytes place low high e =
+    let whole = take_in_two seen end bytes low in
+    let count : length (take seen bytes) ≡ seen = omega (arith, length-take seen bytes) in
+    ap (scan_from Lead) whole ∙ on_from Lead place (take seen bytes) (take (end - seen) (drop seen bytes)) e
+    ∙ ap (λ n. later n (scan_from place (take (end - seen) (drop seen bytes)))) count
+
+take_least : (limit : ℕ) (bytes : List ℕ) → (length bytes < limit) ⊎ (limit ≤ length bytes)
+    → take (min (length bytes) limit) bytes ≡ take limit bytes
+take_least limit bytes (inl h) =
+    let e : min (length bytes) limit ≡ length bytes = omega arith in
+    ap (λ n. take n bytes) e ∙ take_all (length bytes) bytes (omega arith) ∙ sym (take_all limit bytes (omega arith))
+take_least limit bytes (inr h) =
+    let e : min (length bytes) limit ≡ limit = omega arith in
+    ap (λ n. take n bytes) e
+
+-- what is found further on, within a limit, counts from the start
+pub scan_go_on : (seen end limit : ℕ) (bytes : List ℕ) (place : Place) (found : Scan)
+    → seen ≤ end → end ≡ min (length bytes) limit → scan (take seen bytes) ≡ Open place
+    → found ≡ scan_from place (take (end - seen) (drop seen bytes)) → later seen found ≡ scan (take limit bytes)
+scan_go_on seen end limit bytes place found low e led f =
+    let high : end ≤ length bytes = omega arith in
+    ap (later seen) f ∙ sym (scan_from_there seen end bytes place low high led) ∙ ap (λ n. scan (take n bytes)) e
+    ∙ ap scan (take_least limit bytes (cases_lt (length bytes) limit))
 
 take_front : (n : ℕ) (xs ys : List ℕ) → (more : List ℕ) × (take n (xs ++ ys) ≡ take n xs ++ more)
 take_front zero xs ys = ([], refl)

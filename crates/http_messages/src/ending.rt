@@ -1,6 +1,6 @@
 //! Where a head ends.
 ghost use Rattle.std.specs.Prelude.{◌≡◌, ◌≤◌, length};
-ghost use Rattle.http_messages.specs.Ending.{scan, next_place};
+ghost use Rattle.http_messages.specs.Ending.{scan_from, next_place};
 
 /// What a byte of a head may stand after.
 #[derive(Clone, Copy, Debug, PartialEq, Eq, Drop)]
@@ -73,11 +73,10 @@ fn place_after(place: Place, byte: u8) -> Option<Place>
     }
 }
 
-/// What the bytes hold of a head.
-pub fn scan_head(bytes: &[u8]) -> Scan
-    ensures { result ≡ scan bytes.now }
+/// What the bytes hold of a head, after those that lead to a place.
+pub fn scan_on(mut place: Place, bytes: &[u8]) -> Scan
+    ensures { result ≡ scan_from place bytes.now }
 {
-    let mut place = Place::Lead;
     for (i, byte) in bytes.iter().enumerate() {
         match place_after(place, *byte) {
             Some(next) => place = next,

@@ -1,12 +1,13 @@
-use Rattle.std.proofs.Common.{◌≡◌, ◌<◌, ◌+◌, length, take, arith, ap, sym, ◌∙◌, subst}
+use Rattle.std.proofs.Common.{◌≡◌, ◌<◌, ◌≤◌, ◌+◌, ◌++◌, [], refl, append-nil, ℕ, List, length, length-append, take, arith, ap, sym, ◌∙◌, subst}
 use Rattle.http_messages.specs.Ending.{scan}
 use Rattle.http_messages.specs.declared.ending.Scan.TheVariants.{Open}
+use Rattle.std.proofs.KnownBytes.{Consumes-nil}
 use Rattle.http_desk.specs.Quiet.{QuietFill}
 use Rattle.http_desk.proofs.Fills.{reads_trans}
 use Rattle.http_messages.specs.declared.ending.Place.TheVariants.{Lead}
 use Rattle.http_desk.specs.declared.filling.Filled.TheVariants.{More, AtEnd, Failed}
 use Rattle.http_messages.proofs.Scans.{scan_take_within, scan_take_limit, scan_take_open}
-use Rattle.http_desk.proofs.Places.{blank_or_cut}
+use Rattle.http_desk.proofs.Places.{blank_or_cut, led_on}
 use Rattle.http_desk.proofs.gathering.gather_head.Goals as goal
 
 more_not_end : AtEnd ≡ More → ⊥
@@ -14,6 +15,24 @@ more_not_end e = cc
 
 more_not_failed : Failed ≡ More → ⊥
 more_not_failed e = cc
+
+few_on : (n : ℕ) (items new got : List ℕ) → n ≡ length items → new ≡ items ++ got → n ≤ length new
+few_on n items new got e f =
+    let long : length new ≡ length items + length got = ap length f ∙ length-append items got in
+    omega arith
+
+nothing_seen : scan [] ≡ Open Lead
+unfolding scan
+nothing_seen = refl
+
+pub loop-size-init : goal.loop-size-init
+loop-size-init g c = record {
+  came = ([], Consumes-nil (g.R.Read.remaining c.args.reader.now), sym (append-nil c.args.buffer.now.items));
+  few = omega arith;
+  short = omega arith;
+  led = nothing_seen;
+  quiet = λ q. (q, omega arith);
+}
 
 pub returns-in-Whole-clause-found : goal.returns-in-Whole-clause-found
 returns-in-Whole-clause-found g c =
@@ -29,6 +48,19 @@ loop-size-preserved g c = record {
       let more = c.fill.ensures.more c.in-More.is in
       let took : c.fill.new.turns + 1 ≡ c.loop-size.turns = subst (λ f. QuietFill f c.loop-size.turns c.fill.new.turns) c.in-More.is one in
       (first, omega arith);
+  few =
+      let all : c.len-seen.result ≡ length c.loop-size.buffer.items = omega arith in
+      few_on c.len-seen.result c.loop-size.buffer.items c.fill.new.buffer.items c.fill.ensures.got.0 all
+      c.fill.ensures.got.2;
+  short =
+      let below : length c.loop-size.buffer.items < 16384 = omega arith in
+      omega arith;
+  led =
+      let seen = ap (λ b. scan (take 16384 b)) (sym c.deref.ensures.value) ∙ sym c.look.ensures ∙ c.in-Open.is in
+      let below : length c.loop-size.buffer.items < 16384 = omega arith in
+      let all : c.len-seen.result ≡ length c.loop-size.buffer.items = omega arith in
+      led_on c.len-seen.result c.loop-size.buffer.items c.fill.new.buffer.items c.fill.ensures.got.0 c.in-Open.place
+      all c.fill.ensures.got.2 below seen;
 }
 
 pub returns-in-Lead-clause-got : goal.returns-in-Lead-clause-got
