@@ -20,3 +20,7 @@ pub mod OpeningCalls
 pub mod WaitingRows
 pub mod ReshelvingRows
 pub mod ReshelvingCalls
+pub mod ToldCalls
+pub mod BoxRows
+pub mod PlaceRows
+pub mod QueueCalls

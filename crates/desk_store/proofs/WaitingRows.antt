@@ -1,5 +1,5 @@
 -- The statements on the orders that wait: what their texts mean, what they tell, and why they fail.
-use Rattle.std.proofs.Common.{◌≡◌, ◌+◌, ◌≤◌, ◌<◌, ◌^◌, ℕ, pos, List, [], ◌∷◌, length, map, filter, codes, true, false, Bool, cond, ◌&&◌, ◌||◌, Result, IfOk, IfErr, nat_eq, refl, sym, ap, ◌∙◌, arith}
+use Rattle.std.proofs.Common.{◌≡◌, ◌≤◌, ◌<◌, ◌^◌, ℕ, pos, List, [], ◌∷◌, length, map, filter, codes, true, false, Bool, cond, ◌||◌, Result, IfOk, IfErr, refl, sym, ap, ◌∙◌, arith}
 use Rattle.std.proofs.Math.Nat.{le_refl}
 use Rattle.std.specs.Prelude.{⊤, nat_lt}
 use Rattle.std.proofs.lemmas.Bool.{lt-ltb}
@@ -27,7 +27,7 @@ use Rattle.office_tables.specs.Schema.{schema, orders}
 use Rattle.office_tables.specs.Step.{Holds}
 use Rattle.office_tables.specs.declared.fault.StoreFault.{StoreFault}
 use Rattle.office_tables.proofs.SelectOf.{asking, select_finds, select_faults}
-use Rattle.office_tables.proofs.Tests.{only, both, same_number, by_one_int}
+use Rattle.office_tables.proofs.Tests.{both, same_number, by_one_int}
 use Rattle.desk_store.specs.Holdings.{waits_for}
 use Rattle.desk_store.specs.Rows.{order_cells}
 use Rattle.desk_store.specs.declared.orders.WaitingOrder.{WaitingOrder}

@@ -9,7 +9,7 @@ use Rattle.desk_core.specs.DeskRows.{Desk, RunRow, RunLineRow}
 use Rattle.office_tables.specs.Schema as tables
 use Rattle.office_tables.specs.Shared.{box_cells}
 use Rattle.desk_store.specs.Orders.{IsQueue}
-use Rattle.desk_store.specs.Runs.{run_with, lines_of, IsCandidate}
+use Rattle.desk_store.specs.Runs.{lines_of, IsCandidate}
 use Rattle.desk_store.specs.Shows.{AreCounted, ShowsDesk, IsLegible}
 use Rattle.desk_store.specs.declared.queues.ContainerQueue.{ContainerQueue}
 use Rattle.desk_store.specs.declared.runs.Brought.{Brought}

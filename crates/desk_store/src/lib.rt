@@ -2,6 +2,7 @@
 #![tactic(auto)]
 
 mod blank;
+mod boxes;
 mod cards;
 mod granting;
 mod holdings;
@@ -26,7 +27,7 @@ pub use making::create_desk;
 pub use opening::open_day;
 pub use orders::{OrderState, PlacedOrder, WaitingOrder, order};
 pub use placing::{append_order, end_order};
-pub use queues::ContainerQueue;
+pub use queues::{ContainerQueue, queue};
 pub use readers::{add_reader, renew};
 pub use reshelving::at_desk;
 pub use runs::{Brought, record_run};
