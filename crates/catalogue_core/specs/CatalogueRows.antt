@@ -84,6 +84,15 @@ abbrev pub place_rows : Version → Forest ℕ → PlaceRows
 place_rows Links f = LinkRows (siblings f)
 place_rows Spans f = SpanRows (number 1 f)
 
+-- ---- all of them but the office's own
+
+pub record CatalogueRows : Type 0 where
+  pub units : List UnitRow
+  pub places : PlaceRows
+  pub elements : List ElementRow
+  pub containers : List ContainerRow
+  pub housings : List HousingRow
+
 -- ---- what rows say
 
 -- the tree of a row, with what is below it and beside it, or nothing where there is no row

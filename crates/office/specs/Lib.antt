@@ -7,12 +7,14 @@ pub use Rattle.finding_aids.specs.Slots
 pub use Rattle.office_rows.specs.DeskRows
 pub use Rattle.office_rows.specs.Reading
 pub use Rattle.office_rows.specs.ReadingRows
-pub use Rattle.office_rows.specs.DeskCauses
+pub use Rattle.desk_core.specs.DeskCauses
 pub use Rattle.office_rows.specs.DeskCausesRows
-pub use Rattle.office_rows.specs.CatalogueCauses
+pub use Rattle.catalogue_core.specs.CatalogueCauses
 pub use Rattle.office_rows.specs.CatalogueCausesRows
 pub use Rattle.office_rows.specs.DeskJudged
 pub use Rattle.office_rows.specs.Causes
+pub use Rattle.office_rows.specs.CellCauses
+pub use Rattle.office_rows.specs.CellJudged
 pub use Rattle.office_rows.specs.Judged
 pub use Rattle.office_core.specs.Words
 pub use Rattle.office_core.specs.State

@@ -15,8 +15,7 @@ use Rattle.office_tables.specs.Cells.{whole_in, number_in, text_in, flag_in, or_
 use Rattle.office_tables.specs.CatalogueCells.{read_office, read_unit, read_element, read_container}
 use Rattle.office_tables.specs.DeskCells.{read_reader}
 use Rattle.office_tables.proofs.CellTexts.{from_first, is_text, all_read}
-use Rattle.office_rows.specs.Causes.{first_held, desk_tests}
-use Rattle.office_rows.specs.CatalogueCauses.{catalogue_tests}
+use Rattle.office_rows.specs.Causes.{first_held, desk_tests, catalogue_tests}
 use Rattle.office_rows.specs.CellCauses.{rows_in, unread, either_of, no_office}
 use Rattle.office_rows.specs.CellJudged.{IsLegibleUnitRow, IsLegibleContainerRow, AreLegibleRows, CellsHaveNoCause, CellsSayASoundState}
 use Rattle.office_rows.proofs.Judging.{none_held, hold_none}

@@ -16,7 +16,8 @@ use Rattle.office_rows.specs.DeskRows.{ReaderRow, reader_row, OrderRow, order_ro
 use Rattle.tree_core.specs.Versions.{Version}
 use Rattle.catalogue_core.specs.CatalogueRows.{UnitRow, unit_row, ContainerRow, container_row}
 use Rattle.office_rows.specs.Reading.{tables}
-use Rattle.office_rows.specs.DeskCauses.{is_registered, is_container_there, is_unit_there}
+use Rattle.desk_core.specs.DeskCauses.{is_registered}
+use Rattle.office_rows.specs.Causes.{is_container_there, is_unit_there}
 use Rattle.office_core.proofs.Words.{other_number}
 use Rattle.office_rows.proofs.Members.{any_same}
 use Rattle.office_rows.proofs.NumberedRows.{any_numbered, known_numbered, rows_are_numbered, numbered-rows}
@@ -58,14 +59,14 @@ is_day_so n h =
 -- ---- the tables of a state
 
 module _ (version : Version) (s : State) where
-  pub registered : (ticket : ℕ) → is_registered (tables version s) ticket ≡ is_ticket s ticket
+  pub registered : (ticket : ℕ) → is_registered (tables version s).desk ticket ≡ is_ticket s ticket
   registered ticket =
-      known_numbered (λ (row : ReaderRow). row.ticket) (tables version s).readers ticket (rows_are_numbered reader_row (λ row. row.ticket) (λ n x. refl) 1 s.readers)
+      known_numbered (λ (row : ReaderRow). row.ticket) (tables version s).desk.readers ticket (rows_are_numbered reader_row (λ row. row.ticket) (λ n x. refl) 1 s.readers)
       ∙ (ap is_some (numbered-rows reader_row s.readers ticket) ∙ is_some-map (reader_row ticket) (numbered s.readers ticket))
 
   pub container_there : (c : ℕ) → is_container_there (tables version s) c ≡ is_container s c
   container_there c =
-      known_numbered (λ (row : ContainerRow). row.id) (tables version s).containers c (rows_are_numbered container_row (λ row. row.id) (λ n x. refl) 1 s.catalogue.containers)
+      known_numbered (λ (row : ContainerRow). row.id) (tables version s).catalogue.containers c (rows_are_numbered container_row (λ row. row.id) (λ n x. refl) 1 s.catalogue.containers)
       ∙ (ap is_some (numbered-rows container_row s.catalogue.containers c) ∙ is_some-map (container_row c) (numbered s.catalogue.containers c))
 
   pub unit_there : (u : ℕ) → is_unit_there (tables version s) u ≡ has_unit s.catalogue.forest u
@@ -79,7 +80,7 @@ module _ (version : Version) (s : State) where
       any_numbered (λ (row : OrderRow). row.id) p (order_rows s) o (rows_are_numbered (order_row s) (λ row. row.id) (λ n x. refl) 1 s.orders)
       ∙ (ap (some_and p) (numbered-rows (order_row s) s.orders o) ∙ some_and-map p (order_row s o) (numbered s.orders o))
 
-  pub run_there : (n : ℕ) → list_any (λ (row : RunRow). nat_eq row.id n) (tables version s).runs ≡ is_some (numbered s.runs n)
+  pub run_there : (n : ℕ) → list_any (λ (row : RunRow). nat_eq row.id n) (tables version s).desk.runs ≡ is_some (numbered s.runs n)
   run_there n =
-      known_numbered (λ (row : RunRow). row.id) (tables version s).runs n (rows_are_numbered run_row (λ row. row.id) (λ n x. refl) 1 s.runs)
+      known_numbered (λ (row : RunRow). row.id) (tables version s).desk.runs n (rows_are_numbered run_row (λ row. row.id) (λ n x. refl) 1 s.runs)
       ∙ (ap is_some (numbered-rows run_row s.runs n) ∙ is_some-map (run_row n) (numbered s.runs n))

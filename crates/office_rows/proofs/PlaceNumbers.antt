@@ -9,7 +9,7 @@ use Rattle.tree_core.specs.Forest.{Forest, Empty, Node, nodes, size}
 use Rattle.tree_core.specs.Links.{rows_below}
 use Rattle.tree_core.specs.Spans.{number}
 use Rattle.tree_core.proofs.Lists.{In, In-append_left, In-append_right}
-use Rattle.office_rows.specs.CatalogueCauses.{is_unit_number, is_place_number, is_good_link, is_good_span}
+use Rattle.catalogue_core.specs.CatalogueCauses.{is_unit_number, is_place_number, is_good_link, is_good_span}
 
 abbrev AreUnitNumbers : Forest ℕ → Type 0
 AreUnitNumbers f = (u : ℕ) → In u (nodes f) → is_unit_number u ≡ true

@@ -16,7 +16,7 @@ use Rattle.office_core.specs.Words.{numbered}
 use Rattle.office_core.specs.Laws.{numbers_from}
 use Rattle.office_core.specs.SoundOffice.{AreTexts}
 use Rattle.office_rows.specs.DeskRows.{reader_from}
-use Rattle.office_rows.specs.Reading.{Rows, state_of, box_at, boxes_from, values_said, unit_from, unit_said}
+use Rattle.office_rows.specs.Reading.{OfficeRows, state_of, box_at, boxes_from, values_said, unit_from, unit_said}
 use Rattle.office_rows.specs.CellJudged.{IsLegibleUnitRow, IsLegibleContainerRow, AreLegibleRows}
 use Rattle.office_rows.proofs.RowsByNumber.{each_in}
 use Rattle.office_rows.proofs.NumberedRows.{numbered_in}
@@ -58,26 +58,26 @@ own_boxes_legible boxes mine n (suc more) h = at (find (λ (row : HousingRow). n
     at None all = all
     at (Some row) all = passes (numbered boxes row.container) (λ b e. numbered_in boxes row.container b e) (boxes_from boxes mine (suc n) more) all
 
-module _ (t : Rows) (l : AreLegibleRows t) where
-  boxes : AllByRecursion IsLegibleBox (map box_from t.containers)
-  boxes = boxes_legible t.containers l.containers
+module _ (t : OfficeRows) (l : AreLegibleRows t) where
+  boxes : AllByRecursion IsLegibleBox (map box_from t.catalogue.containers)
+  boxes = boxes_legible t.catalogue.containers l.containers
 
   values_legible : (u : ℕ) (level : Bytes) → IsUtf8 level → AreLegibleValues (values_said t u level)
   values_legible u level h =
       record {
         level = h;
-        texts = texts_legible t.elements u (numbers_from 1 25) l.elements;
-        boxes = own_boxes_legible (map box_from t.containers) (housings_of u t.housings) 1 (length (housings_of u t.housings)) boxes;
+        texts = texts_legible t.catalogue.elements u (numbers_from 1 25) l.elements;
+        boxes = own_boxes_legible (map box_from t.catalogue.containers) (housings_of u t.catalogue.housings) 1 (length (housings_of u t.catalogue.housings)) boxes;
       }
 
   unit_legible : (u : ℕ) → HasLegibleTexts (unit_said t u)
-  unit_legible u = at (find (λ (row : UnitRow). nat_eq row.id u) t.units) refl
+  unit_legible u = at (find (λ (row : UnitRow). nat_eq row.id u) t.catalogue.units) refl
     where
-      at : (r : Option UnitRow) → find (λ (row : UnitRow). nat_eq row.id u) t.units ≡ r
+      at : (r : Option UnitRow) → find (λ (row : UnitRow). nat_eq row.id u) t.catalogue.units ≡ r
           → HasLegibleTexts (unwrap_or (option_map (unit_from t) r) (record { id = u; source = []; legacy = []; values = values_said t u []; draft = false; until = None }))
       at None e = record { source = no_text; legacy = no_text; values = values_legible u [] no_text }
       at (Some row) e =
-          let texts = each_in IsLegibleUnitRow t.units row l.units (find_some (λ (row : UnitRow). nat_eq row.id u) t.units row e).0 in
+          let texts = each_in IsLegibleUnitRow t.catalogue.units row l.units (find_some (λ (row : UnitRow). nat_eq row.id u) t.catalogue.units row e).0 in
           record { source = texts.source; legacy = texts.legacy; values = values_legible row.id row.level texts.level }
 
   units_legible : (us : List ℕ) → AllByRecursion HasLegibleTexts (map (unit_said t) us)
@@ -90,8 +90,8 @@ module _ (t : Rows) (l : AreLegibleRows t) where
         country = l.country;
         repo = l.repo;
         catalogue = record {
-          units = subst (AllByRecursion HasLegibleTexts) (sym (nodes-each (unit_said t) (places_said t.places))) (units_legible (nodes (places_said t.places)));
+          units = subst (AllByRecursion HasLegibleTexts) (sym (nodes-each (unit_said t) (places_said t.catalogue.places))) (units_legible (nodes (places_said t.catalogue.places)));
           containers = boxes;
         };
-        readers = readers_said t.readers l.readers;
+        readers = readers_said t.desk.readers l.readers;
       }

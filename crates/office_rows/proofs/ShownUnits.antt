@@ -27,11 +27,13 @@ use Rattle.office_core.specs.State.{State}
 use Rattle.office_core.specs.Words.{stands}
 use Rattle.catalogue_core.specs.Sources.{is_source, is_between}
 use Rattle.catalogue_core.specs.Moves.{height}
+use Rattle.catalogue_core.proofs.Heights.{height-each}
 use Rattle.office_core.specs.Soundness.{is_country, is_repository}
 use Rattle.catalogue_core.specs.GoodCatalogues.{IsSomeDay, IsGoodUnit, is_same_unit}
-use Rattle.catalogue_core.specs.CatalogueRows.{OfficeRow, UnitRow, unit_row, place_rows}
-use Rattle.office_rows.specs.Reading.{number_of, tables, state_of}
-use Rattle.office_rows.specs.CatalogueCauses.{is_good_office, is_unit_number, is_good_link, is_good_span, are_good_places, is_some_day, is_good_unit_row, unit_numbers, place_numbers, all_stand_in, are_good_units, is_named_alike}
+use Rattle.catalogue_core.specs.CatalogueRows.{OfficeRow, UnitRow, unit_row, place_rows, places_said}
+use Rattle.office_rows.specs.Reading.{number_of, tables, unit_said}
+use Rattle.office_rows.specs.Causes.{is_good_office}
+use Rattle.catalogue_core.specs.CatalogueCauses.{is_unit_number, is_good_link, is_good_span, are_good_places, is_some_day, is_good_unit_row, unit_numbers, place_numbers, all_stand_in, are_good_units, is_named_alike}
 use Rattle.office_rows.specs.Judged.{IsSoundCatalogue}
 use Rattle.office_core.proofs.Words.{same_number}
 use Rattle.office_rows.proofs.UnitRows.{units_back}
@@ -108,12 +110,12 @@ stand_in_themselves : (ns : List ℕ) → all_stand_in ns ns ≡ true
 stand_in_themselves ns = in_all (λ n. stands n ns) ns (λ n i. any_from_In ns n i)
 
 pub record AreShownUnits (version : Version) (s : State) : Type 0 where
-  pub places : are_good_places version (tables version s).places ≡ true
-  pub units : are_good_units (tables version s) ≡ true
-  pub numbers : IsDistinct nat_eq (unit_numbers (tables version s))
-  pub names : IsDistinct is_named_alike (tables version s).units
-  pub placed : IsDistinct nat_eq (place_numbers (tables version s).places)
-  pub told : unit_numbers (tables version s) ≡ map number_of (nodes s.catalogue.forest)
+  pub places : are_good_places version (tables version s).catalogue.places ≡ true
+  pub units : are_good_units (tables version s).office.next_unit (tables version s).catalogue ≡ true
+  pub numbers : IsDistinct nat_eq (unit_numbers (tables version s).catalogue)
+  pub names : IsDistinct is_named_alike (tables version s).catalogue.units
+  pub placed : IsDistinct nat_eq (place_numbers (tables version s).catalogue.places)
+  pub told : unit_numbers (tables version s).catalogue ≡ map number_of (nodes s.catalogue.forest)
 
 pub units_shown : (version : Version) (s : State) → IsSoundCatalogue s → AreShownUnits version s
 units_shown version s g =
@@ -121,8 +123,8 @@ units_shown version s g =
     let f : Forest ℕ = each number_of s.catalogue.forest in
     let ids : nodes f ≡ map number_of us = nodes-each number_of s.catalogue.forest in
     let apart : IsDistinct nat_eq (nodes f) = subst (IsDistinct nat_eq) (sym ids) g.units.ids in
-    let told : unit_numbers (tables version s) ≡ map number_of us = numbers_of_rows us in
-    let placed : place_numbers (tables version s).places ≡ map number_of us = numbers_placed version f ∙ ids in
+    let told : unit_numbers (tables version s).catalogue ≡ map number_of us = numbers_of_rows us in
+    let placed : place_numbers (tables version s).catalogue.places ≡ map number_of us = numbers_placed version f ∙ ids in
     let rows : list_all (is_good_unit_row s.catalogue.next) (map unit_row us) ≡ true =
     list_all-map (is_good_unit_row s.catalogue.next) unit_row us
     ∙ in_all (λ u. is_good_unit_row s.catalogue.next (unit_row u)) us (λ u i.
@@ -136,13 +138,15 @@ units_shown version s g =
     let r = in_map number_of us u (subst (In u) ids i) in
     let given = each_in (λ (unit : Unit). (1 ≤ unit.id) × (unit.id < s.catalogue.next)) us r.it g.units.given r.there in
     subst (λ n. is_unit_number n ≡ true) r.is (between 1 most_unit_numbers r.it.id given.0 (omega (arith, given, next))) in
-    let deep : height (state_of (tables version s)).catalogue.forest ≤ most_deep = subst (λ h. height h ≤ most_deep) (sym (units_back version s g.units.ids g.units.each)) g.units.depth in
+    let t = tables version s in
+    let same_height : height (places_said t.catalogue.places) ≡ height s.catalogue.forest = sym (height-each (unit_said t) (places_said t.catalogue.places)) ∙ ap (λ g. height g) (units_back version s g.units.ids g.units.each) in
+    let deep : height (places_said t.catalogue.places) ≤ most_deep = subst (λ n. n ≤ most_deep) (sym same_height) g.units.depth in
     record {
       places = places_shown version f apart numbers (omega (arith, few, same_count));
       units = and_from (list_all (is_good_unit_row s.catalogue.next) (map unit_row us)) _ rows
-          (and_from (all_stand_in (place_numbers (tables version s).places) (unit_numbers (tables version s))) _ (ap (λ ns. all_stand_in ns (unit_numbers (tables version s))) placed ∙ (ap (all_stand_in (map number_of us)) told ∙ stand_in_themselves (map number_of us)))
-          (and_from (all_stand_in (unit_numbers (tables version s)) (place_numbers (tables version s).places)) _ (ap (λ ns. all_stand_in ns (place_numbers (tables version s).places)) told ∙ (ap (all_stand_in (map number_of us)) placed ∙ stand_in_themselves (map number_of us)))
-          (and_from (nat_le (length (map unit_row us)) most_units) (nat_le (height (state_of (tables version s)).catalogue.forest) most_deep) (le-leb (length (map unit_row us)) most_units (omega (arith, few, count))) (le-leb (height (state_of (tables version s)).catalogue.forest) most_deep deep))));
+          (and_from (all_stand_in (place_numbers (tables version s).catalogue.places) (unit_numbers (tables version s).catalogue)) _ (ap (λ ns. all_stand_in ns (unit_numbers (tables version s).catalogue)) placed ∙ (ap (all_stand_in (map number_of us)) told ∙ stand_in_themselves (map number_of us)))
+          (and_from (all_stand_in (unit_numbers (tables version s).catalogue) (place_numbers (tables version s).catalogue.places)) _ (ap (λ ns. all_stand_in ns (place_numbers (tables version s).catalogue.places)) told ∙ (ap (all_stand_in (map number_of us)) placed ∙ stand_in_themselves (map number_of us)))
+          (and_from (nat_le (length (map unit_row us)) most_units) (nat_le (height (places_said t.catalogue.places)) most_deep) (le-leb (length (map unit_row us)) most_units (omega (arith, few, count))) (le-leb (height (places_said t.catalogue.places)) most_deep deep))));
       numbers = subst (IsDistinct nat_eq) (sym told) g.units.ids;
       names = names_shown us g.units.pairs;
       placed = subst (IsDistinct nat_eq) (sym placed) g.units.ids;

@@ -18,7 +18,7 @@ use Rattle.tree_core.proofs.Linking.{held_without_fault}
 use Rattle.tree_core.proofs.Reading.{shown_without_fault}
 use Rattle.tree_core.specs.Versions.{Version, Links, Spans}
 use Rattle.catalogue_core.specs.CatalogueRows.{PlaceRows, LinkRows, SpanRows, place_rows, places_said}
-use Rattle.office_rows.specs.CatalogueCauses.{is_unit_number, is_good_link, is_good_span, are_good_places, place_numbers, ArePlacesOf}
+use Rattle.catalogue_core.specs.CatalogueCauses.{is_unit_number, is_good_link, is_good_span, are_good_places, place_numbers, ArePlacesOf}
 use Rattle.office_rows.proofs.Judging.{nothing_there}
 use Rattle.office_rows.proofs.RowsByNumber.{in_map, all_in}
 use Rattle.office_rows.proofs.Nested.{spans_say}

@@ -13,9 +13,8 @@ use Rattle.office_tables.specs.Schema as tables
 use Rattle.office_tables.specs.Cells.{has_unread}
 use Rattle.office_tables.specs.CatalogueCells.{read_office, read_unit, read_link, read_span, read_element, read_container, read_housing}
 use Rattle.office_tables.specs.DeskCells.{read_reader, read_seat, read_order, read_holding, read_run, read_run_line, read_permit}
-use Rattle.office_rows.specs.Reading.{Rows}
-use Rattle.office_rows.specs.CatalogueCauses.{catalogue_tests}
-use Rattle.office_rows.specs.Causes.{first_held, desk_tests}
+use Rattle.office_rows.specs.Reading.{OfficeRows}
+use Rattle.office_rows.specs.Causes.{catalogue_tests, first_held, desk_tests}
 
 -- ---- the rows that can be read
 
@@ -36,22 +35,26 @@ places_in Spans db =
     SpanRows (in_order (then_by (λ (row : Span). row.lft) (λ (row : Span). row.id)) (filter_map read_span (db tables.span.tree)))
 
 -- each table's in the order of its key, spans by lft
-abbrev pub rows_in : Version → Trees → Rows
+abbrev pub rows_in : Version → Trees → OfficeRows
 rows_in version db =
     record {
       office = unwrap_or (first (filter_map read_office (db tables.office.tree))) no_office;
-      units = in_order (by (λ (row : UnitRow). row.id)) (filter_map read_unit (db tables.unit.tree));
-      places = places_in version db;
-      elements = in_order (then_by (λ (row : ElementRow). row.unit) (λ (row : ElementRow). row.k)) (filter_map read_element (db tables.element.tree));
-      containers = in_order (by (λ (row : ContainerRow). row.id)) (filter_map read_container (db tables.container.tree));
-      housings = in_order (then_by (λ (row : HousingRow). row.unit) (λ (row : HousingRow). row.ord)) (filter_map read_housing (db tables.housing.tree));
-      readers = in_order (by (λ (row : ReaderRow). row.ticket)) (filter_map read_reader (db tables.reader.tree));
-      seats = in_order (by (λ (row : SeatRow). row.seat)) (filter_map read_seat (db tables.seat.tree));
-      orders = in_order (by (λ (row : OrderRow). row.id)) (filter_map read_order (db tables.orders.tree));
-      holdings = in_order (by (λ (row : HoldingRow). row.container)) (filter_map read_holding (db tables.holding.tree));
-      runs = in_order (by (λ (row : RunRow). row.id)) (filter_map read_run (db tables.run.tree));
-      run_lines = in_order (then_by (λ (row : RunLineRow). row.run) (λ (row : RunLineRow). row.container)) (filter_map read_run_line (db tables.run_line.tree));
-      permits = in_order (then_by (λ (row : PermitRow). row.ticket) (λ (row : PermitRow). row.unit)) (filter_map read_permit (db tables.permit.tree));
+      catalogue = record {
+        units = in_order (by (λ (row : UnitRow). row.id)) (filter_map read_unit (db tables.unit.tree));
+        places = places_in version db;
+        elements = in_order (then_by (λ (row : ElementRow). row.unit) (λ (row : ElementRow). row.k)) (filter_map read_element (db tables.element.tree));
+        containers = in_order (by (λ (row : ContainerRow). row.id)) (filter_map read_container (db tables.container.tree));
+        housings = in_order (then_by (λ (row : HousingRow). row.unit) (λ (row : HousingRow). row.ord)) (filter_map read_housing (db tables.housing.tree));
+      };
+      desk = record {
+        readers = in_order (by (λ (row : ReaderRow). row.ticket)) (filter_map read_reader (db tables.reader.tree));
+        seats = in_order (by (λ (row : SeatRow). row.seat)) (filter_map read_seat (db tables.seat.tree));
+        orders = in_order (by (λ (row : OrderRow). row.id)) (filter_map read_order (db tables.orders.tree));
+        holdings = in_order (by (λ (row : HoldingRow). row.container)) (filter_map read_holding (db tables.holding.tree));
+        runs = in_order (by (λ (row : RunRow). row.id)) (filter_map read_run (db tables.run.tree));
+        run_lines = in_order (then_by (λ (row : RunLineRow). row.run) (λ (row : RunLineRow). row.container)) (filter_map read_run_line (db tables.run_line.tree));
+        permits = in_order (then_by (λ (row : PermitRow). row.ticket) (λ (row : PermitRow). row.unit)) (filter_map read_permit (db tables.permit.tree));
+      };
     }
 
 -- ---- the causes

@@ -10,7 +10,7 @@ use Rattle.desk_core.specs.DeskRows.{ReaderRow}
 use Rattle.catalogue_core.specs.CatalogueRows.{UnitRow, ElementRow, ContainerRow}
 use Rattle.office_core.specs.SoundOffice.{IsSoundOffice}
 use Rattle.office_tables.specs.Cells.{text_in}
-use Rattle.office_rows.specs.Reading.{Rows, state_of}
+use Rattle.office_rows.specs.Reading.{OfficeRows, state_of}
 use Rattle.office_rows.specs.Causes.{first_held, cause, MeetsKeys}
 use Rattle.office_rows.specs.Judged.{AreTheirTables}
 use Rattle.office_rows.specs.CellCauses.{rows_in, unread, cell_cause}
@@ -26,13 +26,13 @@ pub record IsLegibleContainerRow (row : ContainerRow) : Type 0 where
   pub kind : IsUtf8 row.kind
 
 -- all texts are UTF-8
-pub record AreLegibleRows (t : Rows) : Type 0 where
+pub record AreLegibleRows (t : OfficeRows) : Type 0 where
   pub country : IsUtf8 t.office.country
   pub repo : IsUtf8 t.office.repo
-  pub units : AllByRecursion IsLegibleUnitRow t.units
-  pub elements : AllByRecursion (λ (row : ElementRow). IsUtf8 row.value) t.elements
-  pub containers : AllByRecursion IsLegibleContainerRow t.containers
-  pub readers : AllByRecursion (λ (row : ReaderRow). IsUtf8 row.name) t.readers
+  pub units : AllByRecursion IsLegibleUnitRow t.catalogue.units
+  pub elements : AllByRecursion (λ (row : ElementRow). IsUtf8 row.value) t.catalogue.elements
+  pub containers : AllByRecursion IsLegibleContainerRow t.catalogue.containers
+  pub readers : AllByRecursion (λ (row : ReaderRow). IsUtf8 row.name) t.desk.readers
 
 -- a cell says a text just where that is UTF-8
 pub record SaysUtf8 (t : Bytes) : Type 0 where

@@ -1,11 +1,9 @@
 pub mod Causes
 pub mod DeskRows
 pub mod Reading
-pub mod DeskCauses
 pub mod DeskCausesRows
 pub mod DeskJudged
 pub mod ReadingRows
-pub mod CatalogueCauses
 pub mod CatalogueCausesRows
 pub mod Judged
 pub mod CellCauses

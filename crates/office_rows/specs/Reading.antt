@@ -6,35 +6,27 @@ use Rattle.isad_core.specs.declared.values.BoxKey.{BoxKey}
 use Rattle.isad_core.specs.declared.values.Values.{Values}
 use Rattle.tree_core.specs.Forest.{nodes, each}
 use Rattle.tree_core.specs.Versions.{version_number, Version}
+use Rattle.desk_core.specs.DeskRows.{Desk}
 use Rattle.catalogue_core.specs.Units.{Unit}
-use Rattle.catalogue_core.specs.CatalogueRows.{OfficeRow, UnitRow, unit_row, ElementRow, element_rows_from, ContainerRow, container_row, HousingRow, housing_row, PlaceRows, place_rows, places_said, box_from, text_said, housings_of}
+use Rattle.catalogue_core.specs.CatalogueRows.{CatalogueRows, OfficeRow, UnitRow, unit_row, element_rows_from, container_row, HousingRow, housing_row, place_rows, places_said, box_from, text_said, housings_of}
 use Rattle.office_core.specs.Words.{numbered}
 use Rattle.office_core.specs.Laws.{numbers_from}
 use Rattle.office_core.specs.State.{Line, Run, Permit, State}
-use Rattle.office_rows.specs.DeskRows.{rows_from, ReaderRow, reader_rows, reader_from, SeatRow, seat_rows, OrderRow, order_rows, order_from, waiting_for, past_in, HoldingRow, holding_rows, place_in, RunRow, run_rows, RunLineRow, run_line_rows, PermitRow, permit_rows}
+use Rattle.office_rows.specs.DeskRows.{rows_from, reader_rows, reader_from, SeatRow, seat_rows, order_rows, order_from, waiting_for, past_in, holding_rows, place_in, RunRow, run_rows, RunLineRow, run_line_rows, PermitRow, permit_rows}
 
 -- ---- all tables
 
-pub record Rows : Type 0 where
+-- the office's own row, and the rows of its catalogue and of its desk
+pub record OfficeRows : Type 0 where
   pub office : OfficeRow
-  pub units : List UnitRow
-  pub places : PlaceRows
-  pub elements : List ElementRow
-  pub containers : List ContainerRow
-  pub housings : List HousingRow
-  pub readers : List ReaderRow
-  pub seats : List SeatRow
-  pub orders : List OrderRow
-  pub holdings : List HoldingRow
-  pub runs : List RunRow
-  pub run_lines : List RunLineRow
-  pub permits : List PermitRow
+  pub catalogue : CatalogueRows
+  pub desk : Desk
 
 abbrev pub number_of : Unit → ℕ
 number_of unit = unit.id
 
 -- the rows that show a state; a table has no other rows
-abbrev pub tables : Version → State → Rows
+abbrev pub tables : Version → State → OfficeRows
 tables version s =
     record {
       office = record {
@@ -48,18 +40,22 @@ tables version s =
         day = s.day;
         next_unit = s.catalogue.next;
       };
-      units = map unit_row (nodes s.catalogue.forest);
-      places = place_rows version (each number_of s.catalogue.forest);
-      elements = flat_map (λ (unit : Unit). element_rows_from unit.id 1 unit.values.texts) (nodes s.catalogue.forest);
-      containers = rows_from container_row 1 s.catalogue.containers;
-      housings = flat_map (λ (unit : Unit). rows_from (housing_row s.catalogue.containers unit.id) 1 unit.values.boxes) (nodes s.catalogue.forest);
-      readers = reader_rows s;
-      seats = seat_rows s;
-      orders = order_rows s;
-      holdings = holding_rows s;
-      runs = run_rows s;
-      run_lines = run_line_rows s;
-      permits = permit_rows s;
+      catalogue = record {
+        units = map unit_row (nodes s.catalogue.forest);
+        places = place_rows version (each number_of s.catalogue.forest);
+        elements = flat_map (λ (unit : Unit). element_rows_from unit.id 1 unit.values.texts) (nodes s.catalogue.forest);
+        containers = rows_from container_row 1 s.catalogue.containers;
+        housings = flat_map (λ (unit : Unit). rows_from (housing_row s.catalogue.containers unit.id) 1 unit.values.boxes) (nodes s.catalogue.forest);
+      };
+      desk = record {
+        readers = reader_rows s;
+        seats = seat_rows s;
+        orders = order_rows s;
+        holdings = holding_rows s;
+        runs = run_rows s;
+        run_lines = run_line_rows s;
+        permits = permit_rows s;
+      };
     }
 
 -- ---- the state that rows say
@@ -78,15 +74,15 @@ boxes_from boxes mine n more =
 abbrev pub boxes_said : List BoxKey → List HousingRow → ℕ → List BoxKey
 boxes_said boxes housings u = boxes_from boxes (housings_of u housings) 1 (length (housings_of u housings))
 
-abbrev pub values_said : Rows → ℕ → Bytes → Values
+abbrev pub values_said : OfficeRows → ℕ → Bytes → Values
 values_said t u level =
     record {
       level = level;
-      texts = map (text_said t.elements u) (numbers_from 1 25);
-      boxes = boxes_said (map box_from t.containers) t.housings u;
+      texts = map (text_said t.catalogue.elements u) (numbers_from 1 25);
+      boxes = boxes_said (map box_from t.catalogue.containers) t.catalogue.housings u;
     }
 
-abbrev pub unit_from : Rows → UnitRow → Unit
+abbrev pub unit_from : OfficeRows → UnitRow → Unit
 unit_from t row =
     record {
       id = row.id;
@@ -98,9 +94,9 @@ unit_from t row =
     }
 
 -- the unit of a number; where no row tells of it, an empty one
-abbrev pub unit_said : Rows → ℕ → Unit
+abbrev pub unit_said : OfficeRows → ℕ → Unit
 unit_said t u =
-    unwrap_or (option_map (unit_from t) (find (λ (row : UnitRow). nat_eq row.id u) t.units))
+    unwrap_or (option_map (unit_from t) (find (λ (row : UnitRow). nat_eq row.id u) t.catalogue.units))
     (record { id = u; source = []; legacy = []; values = values_said t u []; draft = false; until = None })
 
 -- who sits on the seats from n on, so many in all
@@ -120,7 +116,7 @@ abbrev pub permits_said : List PermitRow → ℕ → List Permit
 permits_said rows t =
     map (λ (row : PermitRow). record { unit = row.unit; until = row.until }) (filter (λ (row : PermitRow). nat_eq row.ticket t) rows)
 
-abbrev pub state_of : Rows → State
+abbrev pub state_of : OfficeRows → State
 state_of t =
     record {
       settings = record {
@@ -133,18 +129,18 @@ state_of t =
       };
       day = t.office.day;
       catalogue = record {
-        forest = each (unit_said t) (places_said t.places);
-        containers = map box_from t.containers;
+        forest = each (unit_said t) (places_said t.catalogue.places);
+        containers = map box_from t.catalogue.containers;
         next = t.office.next_unit;
       };
-      readers = map reader_from t.readers;
-      seats = seats_said t.office.seats 1 t.seats;
-      orders = map order_from t.orders;
-      runs = map (run_from t.run_lines) t.runs;
-      place = place_in t.holdings;
-      queue = λ c. waiting_for c t.orders;
-      past = past_in t.orders;
-      permits = permits_said t.permits;
+      readers = map reader_from t.desk.readers;
+      seats = seats_said t.office.seats 1 t.desk.seats;
+      orders = map order_from t.desk.orders;
+      runs = map (run_from t.desk.run_lines) t.desk.runs;
+      place = place_in t.desk.holdings;
+      queue = λ c. waiting_for c t.desk.orders;
+      past = past_in t.desk.orders;
+      permits = permits_said t.desk.permits;
     }
 
 -- ---- what is read back from the rows of a state: all of it but the forest

@@ -53,5 +53,5 @@ pub record ReadAgain : Type 0 where
   pub linked : SaysAgain Links
   pub nested : SaysAgain Spans
   -- places go by their order, not by numbers
-  pub links : (tables Links sample).places ≡ LinkRows (link 1 None 1 ∷ link 4 (Some 1) 1 ∷ link 2 (Some 1) 2 ∷ link 3 None 2 ∷ [])
-  pub spans : (tables Spans sample).places ≡ SpanRows (span 1 1 6 ∷ span 4 2 3 ∷ span 2 4 5 ∷ span 3 7 8 ∷ [])
+  pub links : (tables Links sample).catalogue.places ≡ LinkRows (link 1 None 1 ∷ link 4 (Some 1) 1 ∷ link 2 (Some 1) 2 ∷ link 3 None 2 ∷ [])
+  pub spans : (tables Spans sample).catalogue.places ≡ SpanRows (span 1 1 6 ∷ span 4 2 3 ∷ span 2 4 5 ∷ span 3 7 8 ∷ [])

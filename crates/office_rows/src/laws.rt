@@ -14,7 +14,7 @@ ghost use Rattle.sqlite.specs.Tree.{Trees};
 ghost use Rattle.office_rows.specs.CellJudged.{CellsHaveNoCause, CellsSayASoundState, SaysUtf8};
 ghost use Rattle.office_rows.specs.Judged.{HasNoCatalogueCause, HasNoCause, SaysASoundState, SaysTheCatalogue};
 ghost use Rattle.catalogue_core.specs.CatalogueRows.{LinkRows, SpanRows, places_said};
-ghost use Rattle.office_rows.specs.Reading.{Rows, SaysAllButUnits, state_of, tables};
+ghost use Rattle.office_rows.specs.Reading.{OfficeRows, SaysAllButUnits, state_of, tables};
 ghost use Rattle.office_core.specs.Soundness.{IsSound};
 
 /// The rows of a state with a sound desk say all of it but the units, in either version.
@@ -45,7 +45,7 @@ pub fn tables_say_the_state()
 /// Rows of the catalogue's tables with their keys and without one of the causes 1 to 5 say a sound catalogue, and are
 /// its rows, table by table, up to their order.
 pub fn rows_say_the_catalogue()
-    ensures { (version : Version) (t : Rows) → SaysTheCatalogue version t }
+    ensures { (version : Version) (t : OfficeRows) → SaysTheCatalogue version t }
 {}
 
 /// The rows of a sound catalogue have their keys, and none of the causes 1 to 5.
@@ -60,7 +60,7 @@ pub fn tables_have_no_cause()
 
 /// Rows with their keys and without a cause say a sound state, and are the rows of that state.
 pub fn rows_without_a_cause()
-    ensures { (version : Version) (t : Rows) → SaysASoundState version t }
+    ensures { (version : Version) (t : OfficeRows) → SaysASoundState version t }
 {}
 
 /// A cell says its text where that is UTF-8, and nothing where it is not.

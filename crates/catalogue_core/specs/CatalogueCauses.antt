@@ -1,6 +1,6 @@
--- Why the rows of the catalogue's tables show no sound state (causes 1 to 5), which keys they have, and when they are the
--- rows that show a state. Rows of containers stand by number, and span rows by lft.
-use Rattle.std.specs.Prelude.{◌≡◌, ℕ, ℤ, ◌+◌, ◌^◌, Bool, true, false, not, ◌&&◌, List, [], ◌∷◌, length, map, Option, Some, None, is_some, nat_eq, nat_le, nat_lt}
+-- Why rows of doubtful origin show no catalogue, causes 2 to 5: what is wrong in the tables of the places, the units, the elements and
+-- the containers. And which keys the rows have. Rows of containers stand by number, and span rows by lft.
+use Rattle.std.specs.Prelude.{ℕ, ℤ, ◌^◌, Bool, true, false, not, ◌&&◌, List, length, map, Option, Some, None, is_some, nat_eq, nat_le, nat_lt}
 use Rattle.std.specs.List.{list_all, IsDistinct}
 use Rattle.std.specs.Option.{option_map_or}
 use Rattle.std.specs.List.Sorted.{IsPermutation}
@@ -8,32 +8,16 @@ use Rattle.std.specs.Str.{bytes_eq}
 use Rattle.isad_core.specs.Texts.{is_blank_text}
 use Rattle.isad_core.specs.Days.{is_day_number}
 use Rattle.isad_core.specs.Boxes.{is_same as is_same_box}
+use Rattle.isad_core.specs.Limits.{most_units, most_unit_numbers, most_containers, most_deep, most_bytes}
+use Rattle.isad_core.specs.Words.{is_between, stands, are_numbered_from}
 use Rattle.tree_core.specs.declared.rows.Link.{Link}
 use Rattle.tree_core.specs.declared.rows.Span.{Span}
 use Rattle.tree_core.specs.LinkFaults.{link_fault}
 use Rattle.tree_core.specs.SpanFaults.{span_fault}
-use Rattle.tree_core.specs.Versions.{version_number, Version, Links, Spans}
-use Rattle.office_core.specs.Words.{stands}
-use Rattle.isad_core.specs.Limits.{most_units, most_unit_numbers, most_containers, most_deep, most_bytes}
-use Rattle.office_core.specs.State.{State}
-use Rattle.catalogue_core.specs.Sources.{is_source, is_between}
+use Rattle.tree_core.specs.Versions.{Version, Links, Spans}
+use Rattle.catalogue_core.specs.Sources.{is_source}
 use Rattle.catalogue_core.specs.Moves.{height}
-use Rattle.office_core.specs.Soundness.{is_country, is_repository}
-use Rattle.catalogue_core.specs.CatalogueRows.{OfficeRow, UnitRow, ElementRow, ContainerRow, HousingRow, PlaceRows, LinkRows, SpanRows, box_from, housings_of}
-use Rattle.office_rows.specs.Reading.{Rows, tables, state_of}
-use Rattle.office_rows.specs.DeskCauses.{are_numbered_from}
-
--- ---- 1: the office
-
--- the settings, the version, the day and the next unit number
-abbrev pub is_good_office : Version → OfficeRow → Bool
-is_good_office version row =
-    nat_eq row.version (version_number version) && (is_country row.country && (is_repository row.repo
-    && (is_between 1 200 row.seats && (is_between 1 50 row.daily && (is_between 1 10 row.hands && (is_between 1 100 row.run_size
-    && (is_day_number row.day && is_between 1 (most_unit_numbers + 1) row.next_unit)))))))
-
-abbrev pub office_is_bad : Version → Rows → Bool
-office_is_bad version t = not (is_good_office version t.office)
+use Rattle.catalogue_core.specs.CatalogueRows.{CatalogueRows, UnitRow, ElementRow, ContainerRow, HousingRow, PlaceRows, LinkRows, SpanRows, places_said, box_from, housings_of}
 
 -- ---- 2: the places
 
@@ -58,8 +42,8 @@ are_good_places Links (LinkRows links) = list_all is_good_link links && not (is_
 are_good_places Spans (SpanRows spans) = list_all is_good_span spans && not (is_some (span_fault spans))
 are_good_places _ _ = false
 
-abbrev pub places_are_bad : Version → Rows → Bool
-places_are_bad version t = not (are_good_places version t.places)
+abbrev pub places_are_bad : Version → CatalogueRows → Bool
+places_are_bad version c = not (are_good_places version c.places)
 
 -- ---- 3: the units
 
@@ -73,8 +57,8 @@ is_good_unit_row next row =
     nat_lt row.id next && (is_source row.source && (not (is_blank_text row.legacy)
     && (nat_le (length row.legacy) most_bytes && (nat_le (length row.level) most_bytes && is_some_day row.until))))
 
-abbrev pub unit_numbers : Rows → List ℕ
-unit_numbers t = map (λ (row : UnitRow). row.id) t.units
+abbrev pub unit_numbers : CatalogueRows → List ℕ
+unit_numbers c = map (λ (row : UnitRow). row.id) c.units
 
 abbrev pub place_numbers : PlaceRows → List ℕ
 place_numbers (LinkRows links) = map (λ (link : Link). link.id) links
@@ -84,15 +68,15 @@ place_numbers (SpanRows spans) = map (λ (span : Span). span.id) spans
 abbrev pub all_stand_in : List ℕ → List ℕ → Bool
 all_stand_in others ns = list_all (λ n. stands n others) ns
 
--- the units are those that have a place, not too many, and none lies too deep
-abbrev pub are_good_units : Rows → Bool
-are_good_units t =
-    list_all (is_good_unit_row t.office.next_unit) t.units
-    && (all_stand_in (place_numbers t.places) (unit_numbers t) && (all_stand_in (unit_numbers t) (place_numbers t.places)
-    && (nat_le (length t.units) most_units && nat_le (height (state_of t).catalogue.forest) most_deep)))
+-- the units are those that have a place, below the next number, not too many, and none lies too deep
+abbrev pub are_good_units : ℕ → CatalogueRows → Bool
+are_good_units next c =
+    list_all (is_good_unit_row next) c.units
+    && (all_stand_in (place_numbers c.places) (unit_numbers c) && (all_stand_in (unit_numbers c) (place_numbers c.places)
+    && (nat_le (length c.units) most_units && nat_le (height (places_said c.places)) most_deep)))
 
-abbrev pub units_are_bad : Rows → Bool
-units_are_bad t = not (are_good_units t)
+abbrev pub units_are_bad : ℕ → CatalogueRows → Bool
+units_are_bad next c = not (are_good_units next c)
 
 -- ---- 4: the elements
 
@@ -101,16 +85,16 @@ abbrev pub is_good_element : List ℕ → ElementRow → Bool
 is_good_element units row =
     is_between 1 26 row.k && (not (nat_eq row.k 4) && (not (is_blank_text row.value) && stands row.unit units))
 
-abbrev pub elements_are_bad : Rows → Bool
-elements_are_bad t = not (list_all (is_good_element (unit_numbers t)) t.elements)
+abbrev pub elements_are_bad : CatalogueRows → Bool
+elements_are_bad c = not (list_all (is_good_element (unit_numbers c)) c.elements)
 
 -- ---- 5: the containers, and what lies in them
 
 -- the unit and the container are there, and the place is one of as many as the unit has containers
-abbrev pub is_good_housing : Rows → HousingRow → Bool
-is_good_housing t row =
-    stands row.unit (unit_numbers t) && (is_between 1 (length t.containers) row.container
-    && is_between 1 (length (housings_of row.unit t.housings)) row.ord)
+abbrev pub is_good_housing : CatalogueRows → HousingRow → Bool
+is_good_housing c row =
+    stands row.unit (unit_numbers c) && (is_between 1 (length c.containers) row.container
+    && is_between 1 (length (housings_of row.unit c.housings)) row.ord)
 
 -- they are numbered from 1 on, not too many, and each has a name
 abbrev pub are_good_container_rows : List ContainerRow → Bool
@@ -118,14 +102,8 @@ are_good_container_rows rows =
     are_numbered_from (λ (row : ContainerRow). row.id) 1 rows && (list_all (λ (row : ContainerRow). not (is_blank_text row.name)) rows
     && nat_le (length rows) most_containers)
 
-abbrev pub containers_are_bad : Rows → Bool
-containers_are_bad t = not (are_good_container_rows t.containers && list_all (is_good_housing t) t.housings)
-
--- ---- all five, in order
-
-abbrev pub catalogue_tests : Version → Rows → List Bool
-catalogue_tests version t =
-    office_is_bad version t ∷ places_are_bad version t ∷ units_are_bad t ∷ elements_are_bad t ∷ containers_are_bad t ∷ []
+abbrev pub containers_are_bad : CatalogueRows → Bool
+containers_are_bad c = not (are_good_container_rows c.containers && list_all (is_good_housing c) c.housings)
 
 -- ---- what the schema keeps: no two rows have one key
 
@@ -144,15 +122,15 @@ is_same_place a b = nat_eq a.unit b.unit && nat_eq a.ord b.ord
 abbrev pub is_housed_alike : HousingRow → HousingRow → Bool
 is_housed_alike a b = nat_eq a.unit b.unit && nat_eq a.container b.container
 
-pub record MeetsCatalogueKeys (t : Rows) : Type 0 where
-  pub units : IsDistinct nat_eq (unit_numbers t)
-  pub names : IsDistinct is_named_alike t.units
-  pub places : IsDistinct nat_eq (place_numbers t.places)
-  pub elements : IsDistinct is_same_element t.elements
-  pub containers : IsDistinct nat_eq (map (λ (row : ContainerRow). row.id) t.containers)
-  pub boxes : IsDistinct is_same_container t.containers
-  pub housings : IsDistinct is_same_place t.housings
-  pub housed_once : IsDistinct is_housed_alike t.housings
+pub record MeetsCatalogueKeys (c : CatalogueRows) : Type 0 where
+  pub units : IsDistinct nat_eq (unit_numbers c)
+  pub names : IsDistinct is_named_alike c.units
+  pub places : IsDistinct nat_eq (place_numbers c.places)
+  pub elements : IsDistinct is_same_element c.elements
+  pub containers : IsDistinct nat_eq (map (λ (row : ContainerRow). row.id) c.containers)
+  pub boxes : IsDistinct is_same_container c.containers
+  pub housings : IsDistinct is_same_place c.housings
+  pub housed_once : IsDistinct is_housed_alike c.housings
 
 -- ---- the rows that show a state, up to the order of each table's
 
@@ -160,11 +138,3 @@ abbrev pub ArePlacesOf : PlaceRows → PlaceRows → Type 0
 ArePlacesOf (LinkRows these) (LinkRows those) = IsPermutation these those
 ArePlacesOf (SpanRows these) (SpanRows those) = IsPermutation these those
 ArePlacesOf _ _ = ⊥
-
-pub record IsCatalogueOf (version : Version) (t : Rows) (s : State) : Type 0 where
-  pub office : (tables version s).office ≡ t.office
-  pub units : IsPermutation (tables version s).units t.units
-  pub places : ArePlacesOf (tables version s).places t.places
-  pub elements : IsPermutation (tables version s).elements t.elements
-  pub containers : IsPermutation (tables version s).containers t.containers
-  pub housings : IsPermutation (tables version s).housings t.housings
