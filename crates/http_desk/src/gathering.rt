@@ -1,5 +1,5 @@
 //! Gathers a head, or a body, in a buffer.
-ghost use Rattle.std.specs.Prelude.{◌≡◌, ◌+◌, ◌≤◌, length, take, false};
+ghost use Rattle.std.specs.Prelude.{◌≡◌, ◌≢◌, ◌+◌, ◌≤◌, length, take, false};
 ghost use Rattle.http_desk.specs.Quiet.{QuietHead, QuietBody};
 ghost use Rattle.http_desk.specs.Gathering.{FindsHead, FindsBody, AtEndIfHead, AtEndIfBody, Reads};
 ghost use Rattle.http_messages.specs.Ending.{scan};
@@ -64,13 +64,14 @@ pub fn gather_head<R: Read>(
     reader: &mut R,
     buffer: &mut Vec<u8>,
     turns: &mut u32,
-    disturbed: &mut bool,
+    failed: &mut bool,
+    interrupted: &mut bool,
 ) -> FoundHead
     ensures got { Reads (R.remaining reader.old) (R.remaining reader.new) buffer.old.items buffer.new.items }
     ensures found { FindsHead buffer.new.items result }
     ensures at_end { AtEndIfHead (R.remaining reader.new) result }
-    ensures quiet { disturbed.new ≡ false
-        → (disturbed.old ≡ false)
+    ensures failed { failed.new ≡ false → (failed.old ≡ false) × (result ≢ FoundHead.Failed) }
+    ensures bound { interrupted.new ≡ false → (interrupted.old ≡ false)
         × QuietHead result (turns.old + length buffer.old.items) (turns.new + length buffer.new.items) }
 {
     let mut led = Place::Lead;
@@ -84,7 +85,7 @@ pub fn gather_head<R: Read>(
                 }
                 led = place;
                 seen = buffer.len();
-                match fill(reader, buffer, turns, disturbed) {
+                match fill(reader, buffer, turns, failed, interrupted) {
                     Filled::More => {}
                     Filled::AtEnd => {
                         return match place {
@@ -107,16 +108,18 @@ pub fn gather_body<R: Read>(
     buffer: &mut Vec<u8>,
     end: usize,
     turns: &mut u32,
-    disturbed: &mut bool,
+    failed: &mut bool,
+    interrupted: &mut bool,
 ) -> FoundBody
     ensures got { Reads (R.remaining reader.old) (R.remaining reader.new) buffer.old.items buffer.new.items }
     ensures found { FindsBody end buffer.new.items result }
     ensures at_end { AtEndIfBody (R.remaining reader.new) result }
-    ensures quiet { disturbed.new ≡ false
-        → (disturbed.old ≡ false) × QuietBody end result (turns.old + length buffer.old.items) }
+    ensures failed { failed.new ≡ false → (failed.old ≡ false) × (result ≢ FoundBody.Failed) }
+    ensures bound { interrupted.new ≡ false → (interrupted.old ≡ false)
+        × QuietBody end result (turns.old + length buffer.old.items) }
 {
     while buffer.len() < end {
-        match fill(reader, buffer, turns, disturbed) {
+        match fill(reader, buffer, turns, failed, interrupted) {
             Filled::More => {}
             Filled::AtEnd => return FoundBody::Cut,
             Filled::Failed => return FoundBody::Failed,

@@ -1,5 +1,5 @@
 //! Writes answers. Nothing here takes an allocator.
-ghost use Rattle.std.specs.Prelude.{◌≡◌, ◌+◌, ◌<◌, ◌^◌, length, false};
+ghost use Rattle.std.specs.Prelude.{◌≡◌, ◌≢◌, ◌+◌, ◌<◌, ◌^◌, length, false};
 ghost use Rattle.http_messages.specs.Answers.{answer_text, continue_text};
 ghost use Rattle.http_messages.specs.Replies.{answer_in};
 ghost use Rattle.http_desk.specs.Sending.{Sends, pieces_text};
@@ -19,10 +19,12 @@ fn send_pieces<'a, W: Write>(
     allow: &'a [u8],
     close: &'a [u8],
     body: &'a [u8],
-    disturbed: &mut bool,
+    failed: &mut bool,
+    interrupted: &mut bool,
 ) -> Sent
     requires { length (pieces_text status.now phrase.now kind.now size.now allow.now close.now body.now) + 16 < 2 ^ 64 }
-    ensures quiet { disturbed.new ≡ false → (disturbed.old ≡ false) × (result ≡ Sent.All) }
+    ensures failed { failed.new ≡ false → (failed.old ≡ false) × (result ≢ Sent.Failed) }
+    ensures bound { interrupted.new ≡ false → (interrupted.old ≡ false) × (result ≢ Sent.Bound) }
     ensures sends { Sends (W.contents writer.old) (W.contents writer.new) (pieces_text status.now phrase.now kind.now size.now allow.now close.now body.now) result }
 {
     send(
@@ -42,7 +44,8 @@ fn send_pieces<'a, W: Write>(
             b"\r\n",
             body,
         ],
-        disturbed,
+        failed,
+        interrupted,
     )
 }
 
@@ -52,9 +55,11 @@ pub fn send_answer<W: Write>(
     bare: bool,
     closing: bool,
     answer: &Answered,
-    disturbed: &mut bool,
+    failed: &mut bool,
+    interrupted: &mut bool,
 ) -> Sent
-    ensures quiet { disturbed.new ≡ false → (disturbed.old ≡ false) × (result ≡ Sent.All) }
+    ensures failed { failed.new ≡ false → (failed.old ≡ false) × (result ≢ Sent.Failed) }
+    ensures bound { interrupted.new ≡ false → (interrupted.old ≡ false) × (result ≢ Sent.Bound) }
     ensures sends { Sends (W.contents writer.old) (W.contents writer.new) (answer_text bare closing (answer_in answer.now)) result }
 {
     let status = answer.status();
@@ -71,14 +76,21 @@ pub fn send_answer<W: Write>(
         answer.allow_line(),
         close_line(closing),
         written_body(bare, answer),
-        disturbed,
+        failed,
+        interrupted,
     )
 }
 
 /// Writes that a body may come.
-pub fn send_continue<W: Write>(writer: &mut W, disturbed: &mut bool) -> Sent
-    ensures quiet { disturbed.new ≡ false → (disturbed.old ≡ false) × (result ≡ Sent.All) }
+pub fn send_continue<W: Write>(writer: &mut W, failed: &mut bool, interrupted: &mut bool) -> Sent
+    ensures failed { failed.new ≡ false → (failed.old ≡ false) × (result ≢ Sent.Failed) }
+    ensures bound { interrupted.new ≡ false → (interrupted.old ≡ false) × (result ≢ Sent.Bound) }
     ensures sends { Sends (W.contents writer.old) (W.contents writer.new) continue_text result }
 {
-    send(writer, &[b"HTTP/1.1 100 Continue\r\n\r\n"], disturbed)
+    send(
+        writer,
+        &[b"HTTP/1.1 100 Continue\r\n\r\n"],
+        failed,
+        interrupted,
+    )
 }

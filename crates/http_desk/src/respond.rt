@@ -1,6 +1,5 @@
 //! What is answered to a request.
 ghost use Rattle.std.specs.Prelude.{◌&&◌, ◌≡◌, ◌≤◌, length, IfOk, OnErr, is_none, Some};
-ghost use Rattle.std.specs.Str.{bytes_eq};
 ghost use Rattle.httparse.specs.Spans.{IsWithin};
 ghost use Rattle.office_core.specs.State.{State};
 ghost use Rattle.office_core.specs.Rules as rules;
@@ -9,14 +8,13 @@ ghost use Rattle.office_core.specs.Queries.{answer};
 ghost use Rattle.http_messages.specs.Answers as spec;
 ghost use Rattle.http_messages.specs.Heard.{request_in};
 ghost use Rattle.http_messages.specs.Replies.{answer_in};
-ghost use Rattle.http_messages.specs.Routes.{method_name};
 ghost use Rattle.http_messages.specs.Routing.{route_in};
 ghost use Rattle.office_core.specs.declared.command.Command.TheVariants as commands;
 
 use http_messages::answered::Answered;
 use http_messages::judging::Head;
 use http_messages::members::command_in;
-use http_messages::routing::{Route, is_post, route_of};
+use http_messages::routing::{Route, is_method, is_post, route_of};
 use http_messages::status::Status;
 use http_messages::targets::path_of;
 use isad_core::{List, Text};
@@ -95,16 +93,6 @@ fn import_of(alloc: Global, source: &str, file: &[u8]) -> Result<Command, AllocE
     let source = Text::new(alloc, source)?;
     let file = List(Vec::from_slice(alloc, file)?);
     Ok(Command::Import { source, file })
-}
-
-fn is_method(method: &[u8], post: bool) -> bool
-    ensures { result ≡ bytes_eq method.now (method_name post) }
-{
-    if post {
-        method == b"POST".as_slice()
-    } else {
-        method == b"GET".as_slice()
-    }
 }
 
 fn has_no_length(head: Head) -> bool

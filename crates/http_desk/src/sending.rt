@@ -1,5 +1,5 @@
 //! Writes whole answers. Nothing here takes an allocator.
-ghost use Rattle.std.specs.Prelude.{◌≡◌, ◌+◌, ◌<◌, ◌^◌, ℕ, List, [], ◌++◌, length, false};
+ghost use Rattle.std.specs.Prelude.{◌≡◌, ◌≢◌, ◌+◌, ◌<◌, ◌^◌, ℕ, List, [], ◌++◌, length, false};
 ghost use Rattle.http_desk.specs.Quiet.{QuietSend};
 ghost use Rattle.std.specs.List.{flat_map};
 ghost use Rattle.std.specs.Io.KnownBytes.{Appends};
@@ -22,12 +22,19 @@ pub enum Sent {
 const EXTRA_TURNS: u64 = 16;
 
 /// Writes the bytes, in as many turns as are left.
-fn send_piece<W: Write>(writer: &mut W, piece: &[u8], turns: &mut u64, disturbed: &mut bool) -> Sent
+fn send_piece<W: Write>(
+    writer: &mut W,
+    piece: &[u8],
+    turns: &mut u64,
+    failed: &mut bool,
+    interrupted: &mut bool,
+) -> Sent
     ensures all { result ≡ Sent.All → Appends (W.contents writer.old) (W.contents writer.new) piece.now }
     ensures front { (written : List ℕ) × IsFront written piece.now
         × Appends (W.contents writer.old) (W.contents writer.new) written }
-    ensures quiet { disturbed.new ≡ false
-        → (disturbed.old ≡ false) × QuietSend result turns.old turns.new (length piece.now) }
+    ensures failed { failed.new ≡ false → (failed.old ≡ false) × (result ≢ Sent.Failed) }
+    ensures bound { interrupted.new ≡ false → (interrupted.old ≡ false)
+        × QuietSend result turns.old turns.new (length piece.now) }
 {
     let mut rest = piece;
     while !rest.is_empty() {
@@ -37,15 +44,16 @@ fn send_piece<W: Write>(writer: &mut W, piece: &[u8], turns: &mut u64, disturbed
         *turns -= 1;
         match writer.write(rest) {
             Ok(0) => {
-                *disturbed = true;
+                *failed = true;
                 return Sent::Failed;
             }
             Ok(n) => rest = &rest[n..],
             Err(e) => {
-                *disturbed = true;
                 if e.kind() != ErrorKind::Interrupted {
+                    *failed = true;
                     return Sent::Failed;
                 }
+                *interrupted = true;
             }
         }
     }
@@ -53,18 +61,20 @@ fn send_piece<W: Write>(writer: &mut W, piece: &[u8], turns: &mut u64, disturbed
 }
 
 /// Flushes, in as many turns as are left.
-fn flush<W: Write>(writer: &mut W, turns: u64, disturbed: &mut bool) -> Sent
+fn flush<W: Write>(writer: &mut W, turns: u64, failed: &mut bool, interrupted: &mut bool) -> Sent
     ensures nothing { Appends (W.contents writer.old) (W.contents writer.new) [] }
-    ensures quiet { disturbed.new ≡ false → (disturbed.old ≡ false) × (0 < turns → result ≡ Sent.All) }
+    ensures failed { failed.new ≡ false → (failed.old ≡ false) × (result ≢ Sent.Failed) }
+    ensures bound { interrupted.new ≡ false → (interrupted.old ≡ false) × (0 < turns → result ≢ Sent.Bound) }
 {
     for _turn in 0..turns {
         match writer.flush() {
             Ok(()) => return Sent::All,
             Err(e) => {
-                *disturbed = true;
                 if e.kind() != ErrorKind::Interrupted {
+                    *failed = true;
                     return Sent::Failed;
                 }
+                *interrupted = true;
             }
         }
     }
@@ -84,20 +94,26 @@ fn turns_of(pieces: &[&[u8]]) -> u64
 }
 
 /// Writes the pieces one after the other and flushes, in one turn for each byte and 16 more.
-pub fn send<W: Write>(writer: &mut W, pieces: &[&[u8]], disturbed: &mut bool) -> Sent
+pub fn send<W: Write>(
+    writer: &mut W,
+    pieces: &[&[u8]],
+    failed: &mut bool,
+    interrupted: &mut bool,
+) -> Sent
     requires { length (flat_map (λ p. p.now) pieces.now) + 16 < 2 ^ 64 }
     ensures all { result ≡ Sent.All
         → Appends (W.contents writer.old) (W.contents writer.new) (flat_map (λ p. p.now) pieces.now) }
-    ensures quiet { disturbed.new ≡ false → (disturbed.old ≡ false) × (result ≡ Sent.All) }
+    ensures failed { failed.new ≡ false → (failed.old ≡ false) × (result ≢ Sent.Failed) }
+    ensures bound { interrupted.new ≡ false → (interrupted.old ≡ false) × (result ≢ Sent.Bound) }
     ensures front { (written : List ℕ) × IsFront written (flat_map (λ p. p.now) pieces.now)
         × Appends (W.contents writer.old) (W.contents writer.new) written }
 {
     let mut turns = turns_of(pieces);
     for piece in pieces {
-        match send_piece(writer, piece, &mut turns, disturbed) {
+        match send_piece(writer, piece, &mut turns, failed, interrupted) {
             Sent::All => {}
             fault => return fault,
         }
     }
-    flush(writer, turns, disturbed)
+    flush(writer, turns, failed, interrupted)
 }

@@ -1,5 +1,5 @@
 //! Talks with one peer.
-ghost use Rattle.std.specs.Prelude.{◌||◌, ◌<◌, false, ◌≡◌, ◌≤◌, ◌+◌, ◌++◌, length, take, drop, unwrap_or, nat_eq};
+ghost use Rattle.std.specs.Prelude.{◌≢◌, ◌||◌, ◌<◌, false, ◌≡◌, ◌≤◌, ◌+◌, ◌++◌, length, take, drop, unwrap_or, nat_eq};
 ghost use Rattle.std.specs.Io.KnownBytes.{Appends};
 ghost use Rattle.httparse.specs.Spans.{IsWithin, span_bytes};
 ghost use Rattle.isad_core.specs.Texts.{Bytes};
@@ -9,15 +9,15 @@ ghost use Rattle.http_desk.specs.Messages.{HasHead};
 ghost use Rattle.http_desk.specs.Sending.{Sends};
 ghost use Rattle.http_desk.specs.Session.{leave_if, most_answers};
 ghost use Rattle.http_desk.specs.Talking.{Turn, Through, Exchange, Talks, TalksWhole, AtEndIf, IsNoEnd, Refused, after_sending};
-ghost use Rattle.http_desk.specs.Quiet.{IsQuiet};
+ghost use Rattle.http_desk.specs.Quiet.{NoReadFault, NoWriteFault, NoBound};
 
-use crate::ended::{Ended, Next};
+use crate::ended::{Calls, Ended, Next};
 use crate::gathering::{FoundBody, FoundHead, gather_body, gather_head};
 use crate::reply::{send_answer, send_continue};
 use crate::respond::respond;
 use crate::sending::Sent;
 use http_messages::answered::Answered;
-use http_messages::judging::{Head, Judged, judge};
+use http_messages::judging::{Head, Judged, is_bare_method, judge};
 use http_messages::status::Status;
 use office_core::Machine;
 use std::alloc::Global;
@@ -41,21 +41,32 @@ fn after(sent: Sent, next: Next) -> Next
 }
 
 /// Writes a fixed answer, and closes.
-fn refuse<W: Write>(writer: &mut W, bare: bool, status: Status, disturbed: &mut bool) -> Next
-    ensures quiet { disturbed.new ≡ false → (disturbed.old ≡ false) × IsQuiet result }
+fn refuse<W: Write>(writer: &mut W, bare: bool, status: Status, calls: &mut Calls) -> Next
+    ensures reads { NoReadFault calls.old calls.new result }
+    ensures writes { NoWriteFault calls.old calls.new result }
+    ensures turns { NoBound calls.old calls.new result }
     ensures sent { Refused (W.contents writer.old) (W.contents writer.new) bare status result }
 {
-    let sent = send_answer(writer, bare, true, &Answered::Error(status), disturbed);
+    let sent = send_answer(
+        writer,
+        bare,
+        true,
+        &Answered::Error(status),
+        &mut calls.write_failed,
+        &mut calls.interrupted,
+    );
     after(sent, Next::Ends(Ended::Closed))
 }
 
 /// Gives leave to send a body, where the head waits for it.
-fn give_leave<W: Write>(writer: &mut W, head: Head, disturbed: &mut bool) -> Sent
-    ensures quiet { disturbed.new ≡ false → (disturbed.old ≡ false) × (result ≡ Sent.All) }
+fn give_leave<W: Write>(writer: &mut W, head: Head, calls: &mut Calls) -> Sent
+    ensures reads { calls.new.read_failed ≡ false → calls.old.read_failed ≡ false }
+    ensures writes { calls.new.write_failed ≡ false → (calls.old.write_failed ≡ false) × (result ≢ Sent.Failed) }
+    ensures turns { calls.new.interrupted ≡ false → (calls.old.interrupted ≡ false) × (result ≢ Sent.Bound) }
     ensures sends { Sends (W.contents writer.old) (W.contents writer.new) (leave_if head.waits) result }
 {
     if head.waits {
-        send_continue(writer, disturbed)
+        send_continue(writer, &mut calls.write_failed, &mut calls.interrupted)
     } else {
         Sent::All
     }
@@ -73,7 +84,7 @@ fn is_bare(block: &[u8], head: Head) -> bool
     requires { IsWithin (length block.now) head.method }
     ensures { result ≡ is_head (span_bytes block.now head.method) }
 {
-    head.method.of(block) == b"HEAD".as_slice()
+    is_bare_method(head.method.of(block))
 }
 
 /// How long the body is.
@@ -105,25 +116,36 @@ fn act<W: Write, M: Machine>(
     size: usize,
     head: Head,
     number: u32,
-    disturbed: &mut bool,
+    calls: &mut Calls,
 ) -> Next
     requires whole { size + unwrap_or head.length 0 ≤ length buffer.old.items }
     requires method { IsWithin (length (take size buffer.old.items)) head.method }
     requires target { IsWithin (length (take size buffer.old.items)) head.target }
-    requires accepted { HasHead buffer.old.items (take size buffer.old.items) (Accepted (request_in (take size buffer.old.items) head)) (drop size buffer.old.items) }
+    requires accepted { HasHead buffer.old.items (take size buffer.old.items)
+        (Accepted (request_in (take size buffer.old.items) head)) (drop size buffer.old.items) }
     ensures turn { (written : Bytes) × Appends (W.contents writer.old) (W.contents writer.new) written
-        × Through M.shows M.is_intact office.old office.new (λ s t. Turn number s buffer.old.items result (leave_if head.waits ++ written) t buffer.new.items) }
+        × Through M.shows M.is_intact office.old office.new (λ s t.
+        Turn number s buffer.old.items result (leave_if head.waits ++ written) t buffer.new.items) }
     ensures intact { M.is_intact office.new → M.is_intact office.old }
     ensures no_end { IsNoEnd result }
-    ensures quiet { disturbed.new ≡ false → (disturbed.old ≡ false) × IsQuiet result }
+    ensures reads { NoReadFault calls.old calls.new result }
+    ensures writes { NoWriteFault calls.old calls.new result }
+    ensures turns { NoBound calls.old calls.new result }
 {
     let end = size + body_len(head);
     let closing = is_closing(head, number);
     let bare = is_bare(&buffer[..size], head);
     match respond(alloc, office, &buffer[..size], head, &buffer[size..end]) {
-        Err(_busy) => refuse(writer, false, Status::Busy, disturbed),
+        Err(_busy) => refuse(writer, false, Status::Busy, calls),
         Ok(answer) => {
-            let sent = send_answer(writer, bare, closing, &answer, disturbed);
+            let sent = send_answer(
+                writer,
+                bare,
+                closing,
+                &answer,
+                &mut calls.write_failed,
+                &mut calls.interrupted,
+            );
             remove_front(buffer, end);
             if closing {
                 after(sent, Next::Ends(Ended::Closed))
@@ -145,30 +167,40 @@ fn receive<R: Read, W: Write, M: Machine>(
     head: Head,
     number: u32,
     turns: &mut u32,
-    disturbed: &mut bool,
+    calls: &mut Calls,
 ) -> Next
     requires within { size ≤ length buffer.old.items }
-    requires turns { disturbed.old ≡ false → size + unwrap_or head.length 0 < turns.old + length buffer.old.items }
+    requires turns { calls.old.interrupted ≡ false → size + unwrap_or head.length 0 < turns.old + length buffer.old.items }
     requires method { IsWithin (length (take size buffer.old.items)) head.method }
     requires target { IsWithin (length (take size buffer.old.items)) head.target }
-    requires accepted { HasHead buffer.old.items (take size buffer.old.items) (Accepted (request_in (take size buffer.old.items) head)) (drop size buffer.old.items) }
-    ensures turn { Exchange M.shows M.is_intact number (R.remaining reader.old) (R.remaining reader.new) (W.contents writer.old) (W.contents writer.new)
-        office.old buffer.old.items result office.new buffer.new.items }
+    requires accepted { HasHead buffer.old.items (take size buffer.old.items)
+        (Accepted (request_in (take size buffer.old.items) head)) (drop size buffer.old.items) }
+    ensures turn { Exchange M.shows M.is_intact number (R.remaining reader.old) (R.remaining reader.new)
+        (W.contents writer.old) (W.contents writer.new) office.old buffer.old.items result office.new buffer.new.items }
     ensures intact { M.is_intact office.new → M.is_intact office.old }
     ensures at_end { AtEndIf (R.remaining reader.new) result }
-    ensures quiet { disturbed.new ≡ false → (disturbed.old ≡ false) × IsQuiet result }
+    ensures reads { NoReadFault calls.old calls.new result }
+    ensures writes { NoWriteFault calls.old calls.new result }
+    ensures turns { NoBound calls.old calls.new result }
 {
-    match give_leave(writer, head, disturbed) {
+    match give_leave(writer, head, calls) {
         Sent::All => {}
         fault => return after(fault, Next::Ends(Ended::Closed)),
     }
     let end = size.saturating_add(body_len(head));
-    match gather_body(reader, buffer, end, turns, disturbed) {
-        FoundBody::Whole => act(alloc, writer, office, buffer, size, head, number, disturbed),
+    match gather_body(
+        reader,
+        buffer,
+        end,
+        turns,
+        &mut calls.read_failed,
+        &mut calls.interrupted,
+    ) {
+        FoundBody::Whole => act(alloc, writer, office, buffer, size, head, number, calls),
         FoundBody::Cut => Next::Ends(Ended::Cut),
         FoundBody::Failed => Next::Ends(Ended::ReadFault),
         FoundBody::Bound => Next::Ends(Ended::Bound),
-        FoundBody::NoMemory => refuse(writer, false, Status::Busy, disturbed),
+        FoundBody::NoMemory => refuse(writer, false, Status::Busy, calls),
     }
 }
 
@@ -180,57 +212,60 @@ fn exchange<R: Read, W: Write, M: Machine>(
     office: &mut M,
     buffer: &mut Vec<u8>,
     number: u32,
-    disturbed: &mut bool,
+    calls: &mut Calls,
 ) -> Next
-    ensures turn { Exchange M.shows M.is_intact number (R.remaining reader.old) (R.remaining reader.new) (W.contents writer.old) (W.contents writer.new)
-        office.old buffer.old.items result office.new buffer.new.items }
+    ensures turn { Exchange M.shows M.is_intact number (R.remaining reader.old) (R.remaining reader.new)
+        (W.contents writer.old) (W.contents writer.new) office.old buffer.old.items result office.new buffer.new.items }
     ensures intact { M.is_intact office.new → M.is_intact office.old }
     ensures at_end { AtEndIf (R.remaining reader.new) result }
-    ensures quiet { disturbed.new ≡ false → (disturbed.old ≡ false) × IsQuiet result }
+    ensures reads { NoReadFault calls.old calls.new result }
+    ensures writes { NoWriteFault calls.old calls.new result }
+    ensures turns { NoBound calls.old calls.new result }
 {
     let mut turns = READS;
-    match gather_head(reader, buffer, &mut turns, disturbed) {
+    match gather_head(
+        reader,
+        buffer,
+        &mut turns,
+        &mut calls.read_failed,
+        &mut calls.interrupted,
+    ) {
         FoundHead::Whole(size) => match judge(&buffer[..size]) {
-            Judged::Refused(status, bare) => refuse(writer, bare, status, disturbed),
+            Judged::Refused(status, bare) => refuse(writer, bare, status, calls),
             Judged::Accepted(head) => receive(
-                alloc, reader, writer, office, buffer, size, head, number, &mut turns, disturbed,
+                alloc, reader, writer, office, buffer, size, head, number, &mut turns, calls,
             ),
         },
-        FoundHead::TooLong => refuse(writer, false, Status::BadRequest, disturbed),
+        FoundHead::TooLong => refuse(writer, false, Status::BadRequest, calls),
         FoundHead::Blank => Next::Ends(Ended::End),
         FoundHead::Cut => Next::Ends(Ended::Cut),
         FoundHead::Failed => Next::Ends(Ended::ReadFault),
         FoundHead::Bound => Next::Ends(Ended::Bound),
-        FoundHead::NoMemory => refuse(writer, false, Status::Busy, disturbed),
+        FoundHead::NoMemory => refuse(writer, false, Status::Busy, calls),
     }
 }
 
 /// Answers the requests of one peer, one after the other. What came is a session's input, and what went its output.
-/// It says whether a call of the reader or the writer has failed or was interrupted.
+/// It says whether a read or a write has failed, and whether one was interrupted.
 pub fn talk_watched<R: Read, W: Write, M: Machine>(
     alloc: Global,
     reader: &mut R,
     writer: &mut W,
     office: &mut M,
-    disturbed: &mut bool,
+    calls: &mut Calls,
 ) -> Ended
-    ensures session { Talks M.shows M.is_intact (R.remaining reader.old) (R.remaining reader.new) (W.contents writer.old) (W.contents writer.new) office.old result office.new }
+    ensures session { Talks M.shows M.is_intact (R.remaining reader.old) (R.remaining reader.new)
+        (W.contents writer.old) (W.contents writer.new) office.old result office.new }
     ensures intact { M.is_intact office.new → M.is_intact office.old }
     ensures at_end { AtEndIf (R.remaining reader.new) (Next.Ends result) }
-    // A fault or a bound comes only where a call has failed or was interrupted.
-    ensures quiet { disturbed.new ≡ false → IsQuiet (Next.Ends result) }
+    // Each fault comes only where such a call has failed, and a bound only where one was interrupted.
+    ensures reads { calls.new.read_failed ≡ false → result ≢ Ended.ReadFault }
+    ensures writes { calls.new.write_failed ≡ false → result ≢ Ended.WriteFault }
+    ensures turns { calls.new.interrupted ≡ false → result ≢ Ended.Bound }
 {
     let mut buffer = Vec::new(alloc);
     for number in 1..10_001u32 {
-        match exchange(
-            alloc,
-            reader,
-            writer,
-            office,
-            &mut buffer,
-            number,
-            disturbed,
-        ) {
+        match exchange(alloc, reader, writer, office, &mut buffer, number, calls) {
             Next::Goes => {}
             Next::Ends(ended) => return ended,
         }
@@ -245,12 +280,18 @@ pub fn talk<R: Read, W: Write, M: Machine>(
     writer: &mut W,
     office: &mut M,
 ) -> Ended
-    ensures session { Talks M.shows M.is_intact (R.remaining reader.old) (R.remaining reader.new) (W.contents writer.old) (W.contents writer.new) office.old result office.new }
+    ensures session { Talks M.shows M.is_intact (R.remaining reader.old) (R.remaining reader.new)
+        (W.contents writer.old) (W.contents writer.new) office.old result office.new }
     // Where the reader tells its bytes, it is a session of all of them.
-    ensures whole { TalksWhole M.shows M.is_intact (R.remaining reader.old) (W.contents writer.old) (W.contents writer.new) office.old result office.new }
+    ensures whole { TalksWhole M.shows M.is_intact (R.remaining reader.old)
+        (W.contents writer.old) (W.contents writer.new) office.old result office.new }
     ensures intact { M.is_intact office.new → M.is_intact office.old }
     ensures at_end { AtEndIf (R.remaining reader.new) (Next.Ends result) }
 {
-    let mut disturbed = false;
-    talk_watched(alloc, reader, writer, office, &mut disturbed)
+    let mut calls = Calls {
+        read_failed: false,
+        write_failed: false,
+        interrupted: false,
+    };
+    talk_watched(alloc, reader, writer, office, &mut calls)
 }

@@ -10,6 +10,7 @@ ghost use Rattle.http_messages.specs.Heads.{is_named, is_digits, strip_zeros, sa
 ghost use Rattle.http_messages.specs.Heard.{verdict_in, request_in, IsFit};
 
 use crate::status::Status;
+use http::Method;
 use httparse::Status as Progress;
 use httparse::spans::{EMPTY_HEADER_SPAN, HeaderSpan, Span, parse_request};
 
@@ -281,12 +282,19 @@ fn is_closing(minor: u8, close: bool) -> bool
     minor == 0 || close
 }
 
-/// Whether the method is HEAD.
+/// Whether a method is HEAD, whose answers have no body.
+pub fn is_bare_method(method: &[u8]) -> bool
+    ensures { result ≡ is_head method.now }
+{
+    method == Method::HEAD.as_str().as_bytes()
+}
+
+/// Whether the method of a head is HEAD.
 fn is_bare(block: &[u8], line: Line) -> bool
     requires { IsWithin (length block.now) line.method }
     ensures { result ≡ is_head (span_bytes block.now line.method) }
 {
-    line.method.of(block) == b"HEAD".as_slice()
+    is_bare_method(line.method.of(block))
 }
 
 /// A head that is refused.

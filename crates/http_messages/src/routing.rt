@@ -2,12 +2,13 @@
 ghost use Rattle.std.specs.Prelude.{◌≡◌, ◌&&◌, ◌==◌, ◌<◌, ◌≤◌, ◌^◌, length, map, take, drop, not, nat_le, nat_eq, option_map, option_and_then, if◌then◌else◌, Some, None, true};
 ghost use Rattle.std.specs.List.{list_all, list_any};
 ghost use Rattle.std.specs.Char.{is_ascii_digit};
-ghost use Rattle.std.specs.Str.{is_utf8};
+ghost use Rattle.std.specs.Str.{bytes_eq, is_utf8};
 ghost use Rattle.std.specs.Str.Parse.{digits_value};
 ghost use Rattle.http_messages.specs.Routes as spec;
 ghost use Rattle.http_messages.specs.Routing.{route_in, plain_in, plain_entry, makes, ending_entry};
 
 use crate::form::Form;
+use http::Method;
 use office_core::Query;
 
 /// What a path leads to.
@@ -377,4 +378,18 @@ pub fn is_post(route: Route<'_>) -> bool
         Route::TakesFile(_) => true,
         Route::TakesForm(_) => true,
     }
+}
+
+/// The method of a route for POST, or of one for GET.
+pub fn method_for(post: bool) -> Method
+    ensures { result ≡ spec.method_name post }
+{
+    if post { Method::POST } else { Method::GET }
+}
+
+/// Whether a request's method is the one of a route for POST, or of one for GET. Case counts.
+pub fn is_method(method: &[u8], post: bool) -> bool
+    ensures { result ≡ bytes_eq method.now (spec.method_name post) }
+{
+    method == method_for(post).as_str().as_bytes()
 }

@@ -8,10 +8,14 @@ use Rattle.http_messages.specs.declared.ending.Place.TheVariants.{Lead}
 use Rattle.http_desk.specs.declared.filling.Filled.TheVariants.{More, AtEnd, Failed}
 use Rattle.http_messages.proofs.Scans.{scan_take_within, scan_take_limit, scan_take_open}
 use Rattle.http_desk.proofs.Places.{blank_or_cut, led_on}
+use Rattle.http_desk.specs.declared.gathering.FoundHead.TheVariants as heads
 use Rattle.http_desk.proofs.gathering.gather_head.Goals as goal
 
 more_not_end : AtEnd ≡ More → ⊥
 more_not_end e = cc
+
+cut_not_failed : heads.Cut ≡ heads.Failed → ⊥
+cut_not_failed e = cc
 
 more_not_failed : Failed ≡ More → ⊥
 more_not_failed e = cc
@@ -31,7 +35,8 @@ loop-size-init g c = record {
   few = omega arith;
   short = omega arith;
   led = nothing_seen;
-  quiet = λ q. (q, omega arith);
+  failed = λ q. q;
+  bound = λ q. (q, omega arith);
 }
 
 pub returns-in-Whole-clause-found : goal.returns-in-Whole-clause-found
@@ -42,9 +47,10 @@ returns-in-Whole-clause-found g c =
 pub loop-size-preserved : goal.loop-size-preserved
 loop-size-preserved g c = record {
   came = reads_trans _ _ _ _ _ _ c.loop-size.invariant.came c.fill.ensures.got;
-  quiet = λ q.
-      let (before, one) = c.fill.ensures.quiet q in
-      let (first, kept) = c.loop-size.invariant.quiet before in
+  failed = λ q. c.loop-size.invariant.failed (c.fill.ensures.failed q).0;
+  bound = λ q.
+      let (before, one) = c.fill.ensures.bound q in
+      let (first, kept) = c.loop-size.invariant.bound before in
       let more = c.fill.ensures.more c.in-More.is in
       let took : c.fill.new.turns + 1 ≡ c.loop-size.turns = subst (λ f. QuietFill f c.loop-size.turns c.fill.new.turns) c.in-More.is one in
       (first, omega arith);
@@ -83,7 +89,8 @@ returns-in_default g c =
       got = reads_trans _ _ _ _ _ _ c.loop-size.invariant.came c.fill.ensures.got;
       found = (below, c.in-Open.place, c.in_default.not-Lead, «open»);
       at_end = c.fill.ensures.at_end c.in-AtEnd.is;
-      quiet = λ q. let (before, one) = c.fill.ensures.quiet q in ((c.loop-size.invariant.quiet before).0, tt);
+      failed = λ q. (c.loop-size.invariant.failed (c.fill.ensures.failed q).0, λ e. cut_not_failed e);
+      bound = λ q. let (before, one) = c.fill.ensures.bound q in ((c.loop-size.invariant.bound before).0, tt);
     }
 
 pub returns-in-Failed-clause-got : goal.returns-in-Failed-clause-got

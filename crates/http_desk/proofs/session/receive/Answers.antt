@@ -1,23 +1,59 @@
-use Rattle.std.proofs.Common.{◌<◌, ◌+◌, ◌++◌, length, take, drop, refl, subst, inl, inr, arith, false}
+use Rattle.std.proofs.Common.{◌≡◌, ◌≢◌, ◌<◌, ◌+◌, ◌++◌, length, take, drop, refl, subst, inl, inr, arith, false}
 use Rattle.std.specs.Prelude.{unwrap_or}
 use Rattle.std.proofs.KnownBytes.{Appends-trans}
 use Rattle.http_messages.specs.Heard.{request_in}
 use Rattle.http_messages.specs.Heads.{Accepted}
 use Rattle.http_desk.specs.Messages.{HasHead, Fails}
 use Rattle.http_desk.specs.Session.{leave_if}
-use Rattle.http_desk.specs.Talking.{Turn, Through}
+use Rattle.http_desk.specs.Talking.{Turn, Through, after_sending}
 use Rattle.http_messages.specs.declared.status.Status.TheVariants.{Busy}
-use Rattle.http_desk.specs.declared.ended.Ended.TheVariants.{Cut, ReadFault}
+use Rattle.http_desk.specs.declared.ended.Ended.TheVariants.{Closed, Cut, ReadFault, WriteFault, Bound}
 use Rattle.http_desk.proofs.Turns.{leave_broken, front_same, head_grown, head_more, stops_in_body, bound_here, may_fail_after, refused}
+use Rattle.http_desk.specs.declared.ended.Next.{Next}
+use Rattle.http_desk.specs.declared.ended.Next.TheVariants.{Ends}
+use Rattle.http_desk.specs.declared.sending.Sent.{Sent}
+use Rattle.http_desk.specs.declared.sending.Sent.TheVariants.{All as SendAll, Failed as SendFailed, Bound as SendBound}
 use Rattle.http_desk.proofs.session.receive.Goals as goal
+
+no_write_fault : (sent : Sent) (next : Next) → next ≡ after_sending sent (Ends Closed) → (sent ≢ SendFailed)
+    → next ≢ Ends WriteFault
+no_write_fault SendAll next e n f = cc
+no_write_fault SendFailed next e n f = n refl
+no_write_fault SendBound next e n f = cc
+
+no_bound : (sent : Sent) (next : Next) → next ≡ after_sending sent (Ends Closed) → (sent ≢ SendBound)
+    → next ≢ Ends Bound
+no_bound SendAll next e n f = cc
+no_bound SendFailed next e n f = cc
+no_bound SendBound next e n f = n refl
+
+no_read_fault : (sent : Sent) (next : Next) → next ≡ after_sending sent (Ends Closed) → next ≢ Ends ReadFault
+no_read_fault SendAll next e f = cc
+no_read_fault SendFailed next e f = cc
+no_read_fault SendBound next e f = cc
 
 pub returns-in_default : goal.returns-in_default
 returns-in_default g c =
     let items = c.args.buffer.now.items in
     let size = c.args.size in
-    let (turn, at_end) = leave_broken g.M.Machine.shows g.M.Machine.is_intact c.args.number c.args.office.now items (take size items) (drop size items) (request_in (take size items) c.args.head) (g.R.Read.remaining c.args.reader.now) _ _ c.give_leave.result _ c.after.result
-    c.in_default.not-All c.after.ensures c.requires.accepted c.give_leave.ensures.sends in
-    record { turn = turn; intact = λ i. i; at_end = at_end; quiet = λ q. absurd (c.in_default.not-All (c.give_leave.ensures.quiet q).1) }
+    let block = take size items in
+    let (turn, at_end) =
+    leave_broken g.M.Machine.shows g.M.Machine.is_intact c.args.number c.args.office.now items block
+    (drop size items) (request_in block c.args.head) (g.R.Read.remaining c.args.reader.now) _ _
+    c.give_leave.result _ c.after.result c.in_default.not-All c.after.ensures c.requires.accepted
+    c.give_leave.ensures.sends in
+    record {
+      turn = turn;
+      intact = λ i. i;
+      at_end = at_end;
+      reads = λ q. (c.give_leave.ensures.reads q, no_read_fault c.give_leave.result _ c.after.ensures);
+      writes = λ q.
+          let (before, here) = c.give_leave.ensures.writes q in
+          (before, no_write_fault c.give_leave.result _ c.after.ensures here);
+      turns = λ q.
+          let (before, here) = c.give_leave.ensures.turns q in
+          (before, no_bound c.give_leave.result _ c.after.ensures here);
+    }
 
 pub act-requires-clause-accepted : goal.act-requires-clause-accepted
 act-requires-clause-accepted g c =
