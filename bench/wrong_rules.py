@@ -160,6 +160,13 @@ E=[
 ('an aid below a unit forgets those above',C+'Pages.antt','(above_last (path (is_numbered u) f)) 0','[] 0'),
 ('ended orders are listed',O+'Queries.antt','is_by s t o && (waits s o || is_out_now s o)','is_by s t o'),
 ('keys of an import in another order',O+'Json.antt','((codes "changed", count changed)\n    ∷ (codes "new", count new)','((codes "new", count new)\n    ∷ (codes "changed", count changed)'),
+('the public is told of drafts',C+'Publishing.antt','public (λ unit. unit.draft) (is_closed today) f','public (λ unit. false) (is_closed today) f'),
+('closed units are told, with all below them',C+'Publishing.antt','(λ unit. unit.draft) (is_closed today) f','(λ unit. unit.draft) (λ unit. false) f'),
+('a closed unit is told whole',C+'Publishing.antt','if closed then stub_of unit unit.until else','if closed then Told unit.id unit.values else'),
+('closed units are hidden',C+'Publishing.antt','public (λ unit. unit.draft) (is_closed today) f','public (λ unit. Rattle.std.specs.Prelude.cond unit.draft Rattle.std.specs.Prelude.true (is_closed today unit)) (is_closed today) f'),
+('a page has the boxes of all units above',C+'Pages.antt','boxes_or press from (box ∷ boxes) further = page_boxes press from (box ∷ boxes)','boxes_or press from (box ∷ boxes) further = page_boxes press from (box ∷ boxes) ++ further'),
+('what is found above has the code of a unit further up',C+'Pages.antt','(record { code = code_of press.at.country press.at.repo (above ++ identifier_of (Told id values) ∷ []); values','(record { code = code_of press.at.country press.at.repo above; values'),
+('units on a page have no code but their own',C+'Pages.antt','below = side_by_side press (map identifier_of way) children;','below = side_by_side press [] children;'),
 # rows of doubtful origin: the catalogue's causes
 ('rows of another version',R+'Causes.antt','nat_eq row.version (version_number version) && (is_country','true && (is_country'),
 ('an office of any country',R+'Causes.antt','is_country row.country','true'),

@@ -28,3 +28,4 @@ pub mod UnitsAfter
 pub mod OneRule
 pub mod PublicPaths
 pub mod PageUnits
+pub mod ShownUnits

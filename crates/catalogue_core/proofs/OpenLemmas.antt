@@ -1,5 +1,5 @@
 -- Marks of what a container is attached to decide whether it is open.
-use Rattle.std.proofs.Common.{◌≡◌, inl, inr, ℕ, ℤ, Bool, true, false, cond, not, ◌&&◌, ◌||◌, List, [], ◌∷◌, ◌++◌, map, filter, Some, None, nat_eq, refl, sym, ap, ap₂, subst, ◌∙◌, append_assoc}
+use Rattle.std.proofs.Common.{◌≡◌, inl, inr, ℕ, ◌+◌, ◌*◌, ℤ, Bool, true, false, cond, not, ◌&&◌, ◌||◌, List, [], ◌∷◌, ◌++◌, map, filter, Some, None, nat_eq, refl, sym, ap, ap₂, subst, ◌∙◌, append_assoc}
 use Rattle.std.specs.List.{list_any, list_all}
 use Rattle.std.proofs.lemmas.Bool.{eq-eqb, cases_Bool, false≢true}
 use Rattle.std.proofs.lemmas.List.{map-append}
@@ -8,11 +8,11 @@ use Rattle.catalogue_core.proofs.Members.{some_from, has_filtered}
 use Rattle.catalogue_core.specs.Members.{StandsIn}
 use Rattle.isad_core.specs.declared.values.BoxKey.{BoxKey}
 use Rattle.isad_core.specs.Boxes.{is_same as is_same_box}
-use Rattle.tree_core.specs.Forest.{Forest, Empty, Node, nodes, each, has, path, tree, HasDistinctIds}
+use Rattle.tree_core.specs.Forest.{Forest, Empty, Node, nodes, each, size, has, path, tree, HasDistinctIds}
 use Rattle.tree_core.specs.Marks.{is_closed as is_mark_closed, withholds, contents_paths, IsNumbered}
 use Rattle.tree_core.specs.Withheld.{sharing_paths}
 use Rattle.tree_core.specs.declared.marks.Mark.{Mark}
-use Rattle.tree_core.proofs.EachLemmas.{has-each}
+use Rattle.tree_core.proofs.EachLemmas.{has-each, nodes-each, size-each}
 use Rattle.tree_core.proofs.LinkPaths.{parts, other_id}
 use Rattle.tree_core.proofs.Lists.{list_any-map, any_agree}
 use Rattle.tree_core.proofs.MarkWalks.{list_all-append}
@@ -20,7 +20,9 @@ use Rattle.tree_core.proofs.Sharing.{open_by_paths}
 use Rattle.catalogue_core.specs.Housing.{own_or, housed_below, housed, paths_below, is_withheld_from, is_some_there, is_open}
 use Rattle.catalogue_core.specs.Marking.{mark_of, unnumbered}
 use Rattle.std.proofs.lemmas.List.Folds.{list_any-append}
-use Rattle.catalogue_core.specs.OpenMarks.{is_clean, OpenByMarks, NumbersTellNothing, MarksSayClean}
+use Rattle.catalogue_core.specs.Pages.{before_last}
+use Rattle.catalogue_core.proofs.PublishedUnits.{before_last-push}
+use Rattle.catalogue_core.specs.OpenMarks.{with_permit, mark_for, is_opened_above, is_clean, OpenByMarks, NumbersTellNothing, MarksSayClean}
 use Rattle.catalogue_core.specs.Units.{Unit, has_id, is_closed}
 
 -- ---- lists
@@ -72,21 +74,17 @@ sharing_above A B (Node u c o) =
 abbrev boxed_mark : Mark → Bool
 boxed_mark m = m.boxed
 
-sharing_marks : (A : List Unit) (f : Forest Unit) → sharing_paths boxed_mark (map mark_of A) (each mark_of f) ≡ map (map mark_of) (sharing_paths boxed A f)
-sharing_marks A Empty = refl
-sharing_marks A (Node u c o) =
-    elim (boxed u) as (λ b. cond b (sharing_paths boxed_mark (map mark_of A) (each mark_of o)) ((map mark_of A ++ mark_of u ∷ []) ∷ (sharing_paths boxed_mark (map mark_of A ++ mark_of u ∷ []) (each mark_of c) ++ sharing_paths boxed_mark (map mark_of A) (each mark_of o)))
-    ≡ map (map mark_of) (cond b (sharing_paths boxed A o) ((A ++ u ∷ []) ∷ (sharing_paths boxed (A ++ u ∷ []) c ++ sharing_paths boxed A o)))) [
-      | true ↦ sharing_marks A o
+sharing_marks : (permitted : ℕ → Bool) (A : List Unit) (f : Forest Unit) → sharing_paths boxed_mark (map (mark_for permitted) A) (each (mark_for permitted) f) ≡ map (map (mark_for permitted)) (sharing_paths boxed A f)
+sharing_marks permitted A Empty = refl
+sharing_marks permitted A (Node u c o) =
+    elim (boxed u) as (λ b. cond b (sharing_paths boxed_mark (map (mark_for permitted) A) (each (mark_for permitted) o)) ((map (mark_for permitted) A ++ mark_for permitted u ∷ []) ∷ (sharing_paths boxed_mark (map (mark_for permitted) A ++ mark_for permitted u ∷ []) (each (mark_for permitted) c) ++ sharing_paths boxed_mark (map (mark_for permitted) A) (each (mark_for permitted) o)))
+    ≡ map (map (mark_for permitted)) (cond b (sharing_paths boxed A o) ((A ++ u ∷ []) ∷ (sharing_paths boxed (A ++ u ∷ []) c ++ sharing_paths boxed A o)))) [
+      | true ↦ sharing_marks permitted A o
       | false ↦
-          ap (λ w. w ∷ (sharing_paths boxed_mark w (each mark_of c) ++ sharing_paths boxed_mark (map mark_of A) (each mark_of o))) (sym (map-append mark_of A (u ∷ [])))
-          ∙ ap (λ l. map mark_of (A ++ u ∷ []) ∷ l)
-          (ap₂ ◌++◌ (sharing_marks (A ++ u ∷ []) c) (sharing_marks A o) ∙ sym (map-append (map mark_of) (sharing_paths boxed (A ++ u ∷ []) c) (sharing_paths boxed A o)))
+          ap (λ w. w ∷ (sharing_paths boxed_mark w (each (mark_for permitted) c) ++ sharing_paths boxed_mark (map (mark_for permitted) A) (each (mark_for permitted) o))) (sym (map-append (mark_for permitted) A (u ∷ [])))
+          ∙ ap (λ l. map (mark_for permitted) (A ++ u ∷ []) ∷ l)
+          (ap₂ ◌++◌ (sharing_marks permitted (A ++ u ∷ []) c) (sharing_marks permitted A o) ∙ sym (map-append (map (mark_for permitted)) (sharing_paths boxed (A ++ u ∷ []) c) (sharing_paths boxed A o)))
     ]
-
-none_permitted : (A : List Unit) → list_any (λ (mark : Mark). mark.permit) (map mark_of A) ≡ false
-none_permitted [] = refl
-none_permitted (u ∷ A) = none_permitted A
 
 -- ---- truths
 
@@ -126,7 +124,7 @@ handed : (h p s a t o : Bool) → (cond h p true && ((cond h s true && a) && (co
 handed true p s a t o = four p s a t o
 handed false p s a t o = refl
 
-module _ (box : BoxKey) (today : ℤ) where
+module _ (box : BoxKey) (permitted : ℕ → Bool) (today : ℤ) where
   abbrev in_it : List BoxKey → Bool
   in_it boxes = list_any (is_same_box box) boxes
 
@@ -134,43 +132,41 @@ module _ (box : BoxKey) (today : ℤ) where
   names_it u = in_it u.values.boxes
 
   abbrev seen : List Unit → Bool
-  seen way = not (is_withheld_from (λ _. false) today way)
+  seen way = not (is_withheld_from permitted today way)
 
   abbrev lies_there : List Unit → Bool
   lies_there way = in_it (housed way)
 
   -- ---- marks of a way
 
-  same_closed : (u : Unit) → is_mark_closed today (mark_of u) ≡ is_closed today u
-  same_closed u = elim u.until as (λ o. is_mark_closed today (record (mark_of u) { until = o }) ≡ is_closed today (record u { until = o })) [ None ↦ refl | Some day ↦ refl ]
+  abbrev mark : Unit → Mark
+  mark = mark_for permitted
 
-  none_open : (way : List Unit) → list_any (λ (u : Unit). false) way ≡ false
-  none_open [] = refl
-  none_open (u ∷ way) = none_open way
+  same_closed : (u : Unit) → is_mark_closed today (mark u) ≡ is_closed today u
+  same_closed u = elim u.until as (λ o. is_mark_closed today (record (mark u) { until = o }) ≡ is_closed today (record u { until = o })) [ None ↦ refl | Some day ↦ refl ]
 
-  seen_marks : (way : List Unit) → not (withholds today false (map mark_of way)) ≡ seen way
+  seen_marks : (way : List Unit) → not (withholds today false (map mark way)) ≡ seen way
   seen_marks way =
-      ap not (ap₂ ◌||◌ (list_any-map (λ (m : Mark). m.draft) mark_of way)
-      (ap₂ ◌&&◌ (list_any-map (is_mark_closed today) mark_of way ∙ any_agree (λ u. is_mark_closed today (mark_of u)) (is_closed today) way same_closed)
-      (ap (λ b. not (false || b)) (none_permitted way ∙ sym (none_open way)))))
+      ap not (ap₂ ◌||◌ (list_any-map (λ (m : Mark). m.draft) mark way)
+      (ap₂ ◌&&◌ (list_any-map (is_mark_closed today) mark way ∙ any_agree (λ u. is_mark_closed today (mark u)) (is_closed today) way same_closed)
+      (ap (λ b. not (false || b)) (list_any-map (λ (m : Mark). m.permit) mark way))))
 
   -- whether nothing is withheld of a unit and of what shares its containers, each by its whole path
   abbrev clean_there : List Unit → Unit → Forest Unit → Bool
   clean_there A u c = list_all seen ((A ++ u ∷ []) ∷ sharing_paths boxed (A ++ u ∷ []) c)
 
-  clean_marks : (A : List Unit) (u : Unit) (c : Forest Unit) → is_clean today (map mark_of (A ++ u ∷ [])) (Node (mark_of u) (each mark_of c) Empty) ≡ clean_there A u c
+  clean_marks : (A : List Unit) (u : Unit) (c : Forest Unit) → is_clean today (map mark (A ++ u ∷ [])) (Node (mark u) (each mark c) Empty) ≡ clean_there A u c
   clean_marks A u c =
-      let M = map mark_of A in
-      let ways = contents_paths (mark_of u) (each mark_of c) in
+      let M = map mark A in
+      let ways = contents_paths (mark u) (each mark c) in
       let own_ways = (u ∷ []) ∷ sharing_paths boxed (u ∷ []) c in
-      let free = none_permitted A in
-      let are : ways ≡ map (map mark_of) own_ways = ap (λ l. (mark_of u ∷ []) ∷ l) (sharing_marks (u ∷ []) c) in
-      ap (λ l. not (withholds today false l) && list_all (λ way. not (withholds today false way)) ways) (map-append mark_of A (u ∷ []))
-      ∙ ap (λ b. not (withholds today false (M ++ mark_of u ∷ [])) && list_all (λ way. not (withholds today b way)) ways) (sym free)
-      ∙ open_by_paths today M (mark_of u) (each mark_of c)
+      let are : ways ≡ map (map mark) own_ways = ap (λ l. (mark u ∷ []) ∷ l) (sharing_marks permitted (u ∷ []) c) in
+      ap (λ l. not (withholds today false l) && list_all (λ way. not (withholds today (is_opened_above l) way)) ways) (map-append mark A (u ∷ []))
+      ∙ ap (λ l. not (withholds today false (M ++ mark u ∷ [])) && list_all (λ way. not (withholds today (list_any (λ (m : Mark). m.permit) l) way)) ways) (before_last-push M (mark u))
+      ∙ open_by_paths today M (mark u) (each mark c)
       ∙ ap (list_all (λ way. not (withholds today false (M ++ way)))) are
-      ∙ all_map (λ way. not (withholds today false (M ++ way))) (map mark_of) own_ways
-      ∙ all_agree (λ way. not (withholds today false (M ++ map mark_of way))) (λ way. seen (A ++ way)) own_ways (λ way h. ap (λ l. not (withholds today false l)) (sym (map-append mark_of A way)) ∙ seen_marks (A ++ way))
+      ∙ all_map (λ way. not (withholds today false (M ++ way))) (map mark) own_ways
+      ∙ all_agree (λ way. not (withholds today false (M ++ map mark way))) (λ way. seen (A ++ way)) own_ways (λ way h. ap (λ l. not (withholds today false l)) (sym (map-append mark A way)) ∙ seen_marks (A ++ way))
       ∙ sym (all_map seen (λ way. A ++ way) own_ways)
       ∙ ap (λ l. list_all seen ((A ++ u ∷ []) ∷ l)) (sym (sharing_above A (u ∷ []) c))
 
@@ -252,7 +248,7 @@ module _ (box : BoxKey) (today : ℤ) where
   -- ---- by the numbers of the units
 
   clean_of : List Unit → Forest Unit → Unit → Bool
-  clean_of A g u = is_clean today (map mark_of (A ++ path (has_id u.id) g)) (each mark_of (tree (has_id u.id) g))
+  clean_of A g u = is_clean today (map mark (A ++ path (has_id u.id) g)) (each mark (tree (has_id u.id) g))
 
   by_numbers : (A : List Unit) (g : Forest Unit) → HasDistinctIds (each (λ (u : Unit). u.id) g) → clean_all A g ≡ list_all (clean_of A g) (filter names_it (nodes g))
   unfolding clean_of
@@ -266,7 +262,7 @@ module _ (box : BoxKey) (today : ℤ) where
       by_numbers B c p.children_distinct ∙ all_agree (clean_of B c) (clean_of A g) (filter names_it (nodes c)) (λ u h.
       let there = in_part u c (has_filtered names_it (nodes c) u h).0 in
       let not_a = other_id a.id u.id (each (λ (u : Unit). u.id) c) p.not_below (has-each (nat_eq u.id) (λ (u : Unit). u.id) c ∙ there) in
-      sym (rw (not_a, there) (ap (λ l. is_clean today (map mark_of l) (each mark_of (tree (has_id u.id) c))) (sym (append_assoc A (a ∷ []) (path (has_id u.id) c)))))) in
+      sym (rw (not_a, there) (ap (λ l. is_clean today (map mark l) (each mark (tree (has_id u.id) c))) (sym (append_assoc A (a ∷ []) (path (has_id u.id) c)))))) in
       let beside : clean_all A o ≡ list_all (clean_of A g) (filter names_it (nodes o)) =
       by_numbers A o p.others_distinct ∙ all_agree (clean_of A o) (clean_of A g) (filter names_it (nodes o)) (λ u h.
       let there = in_part u o (has_filtered names_it (nodes o) u h).0 in
@@ -287,8 +283,8 @@ module _ (box : BoxKey) (today : ℤ) where
 
 pub open_by_marks : OpenByMarks
 unfolding is_open below_it clean_of
-open_by_marks f box today d =
-    ap₂ ◌&&◌ (some_names box today [] f refl) (unit_by_unit box today [] f ∙ by_numbers box today [] f d)
+open_by_marks f box permitted today d =
+    ap₂ ◌&&◌ (some_names box permitted today [] f refl) (unit_by_unit box permitted today [] f ∙ by_numbers box permitted today [] f d)
 
 -- ---- numbers
 
@@ -298,10 +294,15 @@ any_bare p same marks = sym (list_any-map p unnumbered marks ∙ any_agree (λ m
 bare_closed : (today : ℤ) (m : Mark) → is_mark_closed today (unnumbered m) ≡ is_mark_closed today m
 bare_closed today m = elim m.until as (λ o. is_mark_closed today (unnumbered (record m { until = o })) ≡ is_mark_closed today (record m { until = o })) [ None ↦ refl | Some day ↦ refl ]
 
-bare_way : (today : ℤ) (way : List Mark) → not (withholds today false way) ≡ not (withholds today false (map unnumbered way))
-bare_way today way =
+bare_way : (today : ℤ) (above : Bool) (way : List Mark) → not (withholds today above way) ≡ not (withholds today above (map unnumbered way))
+bare_way today above way =
     ap not (ap₂ ◌||◌ (any_bare (λ (m : Mark). m.draft) (λ _. refl) way)
-    (ap₂ ◌&&◌ (any_bare (is_mark_closed today) (bare_closed today) way) (ap (λ b. not (false || b)) (any_bare (λ (m : Mark). m.permit) (λ _. refl) way))))
+    (ap₂ ◌&&◌ (any_bare (is_mark_closed today) (bare_closed today) way) (ap (λ b. not (above || b)) (any_bare (λ (m : Mark). m.permit) (λ _. refl) way))))
+
+bare_above : (path : List Mark) → is_opened_above path ≡ is_opened_above (map unnumbered path)
+bare_above [] = refl
+bare_above (m ∷ []) = refl
+bare_above (m ∷ n ∷ path) = ap (λ b. m.permit || b) (bare_above (n ∷ path))
 
 bare_sharing : (A : List Mark) (f : Forest Mark) → sharing_paths boxed_mark (map unnumbered A) (each unnumbered f) ≡ map (map unnumbered) (sharing_paths boxed_mark A f)
 bare_sharing A Empty = refl
@@ -316,13 +317,15 @@ bare_sharing A (Node m c o) =
     ]
 
 pub numbers_tell_nothing : NumbersTellNothing
-numbers_tell_nothing today path Empty = bare_way today path
+numbers_tell_nothing today path Empty = bare_way today false path
 numbers_tell_nothing today path (Node unit below others) =
     let ways = contents_paths unit below in
-    ap₂ ◌&&◌ (bare_way today path)
-    (all_agree (λ way. not (withholds today false way)) (λ way. not (withholds today false (map unnumbered way))) ways (λ way h. bare_way today way)
-    ∙ sym (all_map (λ way. not (withholds today false way)) (map unnumbered) ways)
-    ∙ ap (list_all (λ way. not (withholds today false way))) (ap (λ l. (unnumbered unit ∷ []) ∷ l) (sym (bare_sharing (unit ∷ []) below))))
+    let above = is_opened_above path in
+    ap₂ ◌&&◌ (bare_way today false path)
+    (all_agree (λ way. not (withholds today above way)) (λ way. not (withholds today above (map unnumbered way))) ways (λ way h. bare_way today above way)
+    ∙ sym (all_map (λ way. not (withholds today above way)) (map unnumbered) ways)
+    ∙ ap (list_all (λ way. not (withholds today above way))) (ap (λ l. (unnumbered unit ∷ []) ∷ l) (sym (bare_sharing (unit ∷ []) below)))
+    ∙ ap (λ b. list_all (λ way. not (withholds today b way)) (contents_paths (unnumbered unit) (each unnumbered below))) (bare_above path))
 
 -- ---- the marks that are read
 
@@ -341,13 +344,40 @@ alone Empty u c e = absurd (cc)
 alone (Node m b Empty) u c e = (m, b, refl)
 alone (Node m b (Node x y z)) u c e = absurd (let k : Node (unnumbered x) (each unnumbered y) (each unnumbered z) ≡ Empty = cc in cc)
 
+-- permits change no numbers, and numbers no permits
+numbered_permits : (permitted : ℕ → Bool) (k : ℕ) (f : Forest Mark) → IsNumbered k f → IsNumbered k (each (with_permit permitted) f)
+numbered_permits permitted k Empty h = tt
+numbered_permits permitted k (Node m c o) h =
+    let n = size-each (with_permit permitted) c in
+    let low = h.0 in
+    let high : m.rgt ≡ k + 2 * size (each (with_permit permitted) c) + 1 = h.1 ∙ ap (λ s. k + 2 * s + 1) (sym n) in
+    (low, high, numbered_permits permitted (k + 1) c h.2, subst (λ s. IsNumbered (k + 2 * s + 2) (each (with_permit permitted) o)) (sym n) (numbered_permits permitted (k + 2 * size c + 2) o h.3))
+
+permits_after : (permitted : ℕ → Bool) (marks : List Mark) → map unnumbered (map (with_permit permitted) marks) ≡ map (with_permit permitted) (map unnumbered marks)
+permits_after permitted [] = refl
+permits_after permitted (m ∷ marks) = ap (λ l. unnumbered (with_permit permitted m) ∷ l) (permits_after permitted marks)
+
+permits_below : (permitted : ℕ → Bool) (f : Forest Mark) → each unnumbered (each (with_permit permitted) f) ≡ each (with_permit permitted) (each unnumbered f)
+permits_below permitted Empty = refl
+permits_below permitted (Node m c o) = ap₂ (Node (unnumbered (with_permit permitted m))) (permits_below permitted c) (permits_below permitted o)
+
+marks_for : (permitted : ℕ → Bool) (units : List Unit) → map (with_permit permitted) (map mark_of units) ≡ map (mark_for permitted) units
+marks_for permitted [] = refl
+marks_for permitted (u ∷ units) = ap (λ l. mark_for permitted u ∷ l) (marks_for permitted units)
+
+forest_for : (permitted : ℕ → Bool) (f : Forest Unit) → each (with_permit permitted) (each mark_of f) ≡ each (mark_for permitted) f
+forest_for permitted Empty = refl
+forest_for permitted (Node u c o) = ap₂ (Node (mark_for permitted u)) (forest_for permitted c) (forest_for permitted o)
+
 pub marks_say_clean : MarksSayClean
-marks_say_clean f unit today marks branch path_clean contents_clean there way walk says_path says_contents =
+marks_say_clean f unit permitted today marks branch path_clean contents_clean there way walk says_path says_contents =
+    let for = with_permit permitted in
     let shape = tree_alone (has_id unit) f there in
     let only = alone walk.forest (mark_of shape.0) (each mark_of shape.1) (walk.theirs ∙ ap (each mark_of) shape.2) in
-    let says = says_contents walk.first only.0 only.1 (subst (IsNumbered walk.first) only.2 walk.numbered) (walk.walked ∙ ap nodes only.2) in
+    let alike : each for walk.forest ≡ Node (for only.0) (each for only.1) Empty = ap (each for) only.2 in
+    let says = says_contents walk.first (for only.0) (each for only.1) (subst (IsNumbered walk.first) alike (numbered_permits permitted walk.first walk.forest walk.numbered)) (ap (map for) walk.walked ∙ sym (nodes-each for walk.forest) ∙ ap nodes alike) in
     ap₂ ◌&&◌ says_path says
-    ∙ ap (is_clean today marks) (sym only.2)
-    ∙ numbers_tell_nothing today marks walk.forest
-    ∙ ap (λ l. is_clean today l (each unnumbered walk.forest)) way
-    ∙ ap (is_clean today (map mark_of (path (has_id unit) f))) walk.theirs
+    ∙ ap (is_clean today (map for marks)) (sym alike)
+    ∙ numbers_tell_nothing today (map for marks) (each for walk.forest)
+    ∙ ap (λ l. is_clean today l (each unnumbered (each for walk.forest))) (permits_after permitted marks ∙ ap (map for) way ∙ marks_for permitted (path (has_id unit) f))
+    ∙ ap (is_clean today (map (mark_for permitted) (path (has_id unit) f))) (permits_below permitted walk.forest ∙ ap (each for) walk.theirs ∙ forest_for permitted (tree (has_id unit) f))

@@ -22,14 +22,15 @@ pub record Stand {A : Type 0} (is : A → Bool) (f : Forest A) : Type 0 where
   pub below : Forest A
   pub way : path is f ≡ above ++ unit ∷ []
   pub alone : tree is f ≡ Node unit below Empty
+  pub passes : is unit ≡ true
 
 pub stand : {A : Type 0} (is : A → Bool) (f : Forest A) → has is f ≡ true → Stand is f
 stand is Empty h = absurd (false≢true h)
 stand is (Node a c o) h = elim (cases_Bool (is a)) [
-  | inl t ↦ record { above = []; unit = a; below = c; way = rw t refl; alone = rw t refl }
+  | inl t ↦ record { above = []; unit = a; below = c; way = rw t refl; alone = rw t refl; passes = t }
   | inr n ↦ elim (cases_Bool (has is c)) [
-    | inl y ↦ let r = stand is c y in record { above = a ∷ r.above; unit = r.unit; below = r.below; way = rw (n, y) (ap (λ l. a ∷ l) r.way); alone = rw (n, y) r.alone }
-    | inr m ↦ let r = stand is o (rw (n, list_any-append is (nodes c) (nodes o), m) at h) in record { above = r.above; unit = r.unit; below = r.below; way = rw (n, m) r.way; alone = rw (n, m) r.alone }
+    | inl y ↦ let r = stand is c y in record { above = a ∷ r.above; unit = r.unit; below = r.below; way = rw (n, y) (ap (λ l. a ∷ l) r.way); alone = rw (n, y) r.alone; passes = r.passes }
+    | inr m ↦ let r = stand is o (rw (n, list_any-append is (nodes c) (nodes o), m) at h) in record { above = r.above; unit = r.unit; below = r.below; way = rw (n, m) r.way; alone = rw (n, m) r.alone; passes = r.passes }
   ]
 ]
 

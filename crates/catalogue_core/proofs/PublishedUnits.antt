@@ -15,16 +15,16 @@ use Rattle.catalogue_core.specs.Pages.{before_last}
 use Rattle.catalogue_core.specs.Members.{StandsIn}
 use Rattle.catalogue_core.specs.Published.{last_of, TellsOf, IsPublished}
 
-stands_left : {X : Type 0} (x : X) (xs ys : List X) → StandsIn x xs → StandsIn x (xs ++ ys)
+pub stands_left : {X : Type 0} (x : X) (xs ys : List X) → StandsIn x xs → StandsIn x (xs ++ ys)
 stands_left x [] ys h = absurd h
 stands_left x (z ∷ zs) ys (inl e) = inl e
 stands_left x (z ∷ zs) ys (inr h) = inr (stands_left x zs ys h)
 
-stands_right : {X : Type 0} (x : X) (xs ys : List X) → StandsIn x ys → StandsIn x (xs ++ ys)
+pub stands_right : {X : Type 0} (x : X) (xs ys : List X) → StandsIn x ys → StandsIn x (xs ++ ys)
 stands_right x [] ys h = h
 stands_right x (z ∷ zs) ys h = inr (stands_right x zs ys h)
 
-wider : (day : ℤ) (ways more : List (List Unit)) → ((way : List Unit) → StandsIn way ways → StandsIn way more) → (told : PublicUnit) → IsPublished day ways told → IsPublished day more told
+abbrev pub wider : (day : ℤ) (ways more : List (List Unit)) → ((way : List Unit) → StandsIn way ways → StandsIn way more) → (told : PublicUnit) → IsPublished day ways told → IsPublished day more told
 wider day ways more f told p = record { way = p.way; stands = f p.way p.stands; no_draft = p.no_draft; open_above = p.open_above; tells = p.tells }
 
 pub before_last-push : {X : Type 0} (xs : List X) (x : X) → before_last (xs ++ x ∷ []) ≡ xs
@@ -40,16 +40,16 @@ last_of-push (y ∷ z ∷ zs) x = last_of-push (z ∷ zs) x
 is_draft : Unit → Bool
 is_draft unit = unit.draft
 
-none_pushed : (test : Unit → Bool) (w : List Unit) (unit : Unit) → list_any test w ≡ false → test unit ≡ false → list_any test (w ++ unit ∷ []) ≡ false
+pub none_pushed : (test : Unit → Bool) (w : List Unit) (unit : Unit) → list_any test w ≡ false → test unit ≡ false → list_any test (w ++ unit ∷ []) ≡ false
 none_pushed test w unit h e =
     list_any-append test w (unit ∷ []) ∙ (ap (λ b. b || (test unit || false)) h ∙ ap (λ b. b || false) e)
 
-told_of : (day : ℤ) (unit : Unit) (b : Bool) → is_closed day unit ≡ b → public_unit (unit, b) ≡ cond (is_closed day unit) (stub_of unit unit.until) (Told unit.id unit.values)
+pub told_of : (day : ℤ) (unit : Unit) (b : Bool) → is_closed day unit ≡ b → public_unit (unit, b) ≡ cond (is_closed day unit) (stub_of unit unit.until) (Told unit.id unit.values)
 told_of day unit true e = ap (λ b. cond b (stub_of unit unit.until) (Told unit.id unit.values)) (sym e)
 told_of day unit false e = ap (λ b. cond b (stub_of unit unit.until) (Told unit.id unit.values)) (sym e)
 
 -- the unit itself
-here : (day : ℤ) (w : List Unit) (unit : Unit) (ways : List (List Unit)) → unit.draft ≡ false → list_any (λ (u : Unit). u.draft) w ≡ false → list_any (is_closed day) w ≡ false → IsPublished day ((w ++ unit ∷ []) ∷ ways) (public_unit (unit, is_closed day unit))
+abbrev pub here : (day : ℤ) (w : List Unit) (unit : Unit) (ways : List (List Unit)) → unit.draft ≡ false → list_any (λ (u : Unit). u.draft) w ≡ false → list_any (is_closed day) w ≡ false → IsPublished day ((w ++ unit ∷ []) ∷ ways) (public_unit (unit, is_closed day unit))
 here day w unit ways d h k =
     record {
       way = w ++ unit ∷ [];

@@ -1,4 +1,4 @@
--- When marks decide that a container is open to the public.
+-- When marks decide that a container is open to a reader. The public is a reader without permits.
 use Rattle.std.specs.Prelude.{◌≡◌, ℕ, ℤ, Bool, true, false, not, ◌&&◌, List, map, filter}
 use Rattle.std.specs.List.{list_any, list_all}
 use Rattle.isad_core.specs.declared.values.BoxKey.{BoxKey}
@@ -8,37 +8,50 @@ use Rattle.tree_core.specs.Marks.{IsNumbered, withholds, contents_paths}
 use Rattle.tree_core.specs.declared.marks.Mark.{Mark}
 use Rattle.catalogue_core.specs.Housing.{is_some_there, is_open}
 use Rattle.catalogue_core.specs.Marking.{mark_of, unnumbered, AreMarks, AreWalkMarks}
+use Rattle.catalogue_core.specs.Pages.{before_last}
 use Rattle.catalogue_core.specs.Units.{Unit, has_id}
+
+-- the same mark for a reader: `permitted` says for which units he has a permit that day
+abbrev pub with_permit : (ℕ → Bool) → Mark → Mark
+with_permit permitted mark = record mark { permit = permitted mark.id }
+
+abbrev pub mark_for : (ℕ → Bool) → Unit → Mark
+mark_for permitted unit = with_permit permitted (mark_of unit)
+
+-- whether a permit stands on a path above its last unit
+abbrev pub is_opened_above : List Mark → Bool
+is_opened_above path = list_any (λ (mark : Mark). mark.permit) (before_last path)
 
 -- whether a unit is clean by the marks of its path and of its branch: nothing on its path withholds it, and
 -- nothing within its branch withholds it or what takes its containers from it
 abbrev pub is_clean : ℤ → List Mark → Forest Mark → Bool
 is_clean today path Empty = not (withholds today false path)
 is_clean today path (Node unit below others) =
-    not (withholds today false path) && list_all (λ way. not (withholds today false way)) (contents_paths unit below)
+    not (withholds today false path)
+    && list_all (λ way. not (withholds today (is_opened_above path) way)) (contents_paths unit below)
 
 -- the units that name a container among their own
 abbrev pub naming : BoxKey → Forest Unit → List Unit
 naming box f = filter (λ unit. list_any (is_same_box box) unit.values.boxes) (nodes f)
 
--- A container is open to the public exactly where some unit names it, and each that does is clean by its marks.
+-- A container is open to a reader exactly where some unit names it, and each that does is clean by its marks for him.
 abbrev pub OpenByMarks : Type 0
-OpenByMarks = (f : Forest Unit) (box : BoxKey) (today : ℤ) → HasDistinctIds (each (λ unit. unit.id) f) →
-    is_open f box (λ _. false) today
+OpenByMarks = (f : Forest Unit) (box : BoxKey) (permitted : ℕ → Bool) (today : ℤ) → HasDistinctIds (each (λ unit. unit.id) f) →
+    is_open f box permitted today
     ≡ (is_some_there (naming box f)
-    && list_all (λ unit. is_clean today (map mark_of (path (has_id unit.id) f)) (each mark_of (tree (has_id unit.id) f))) (naming box f))
+    && list_all (λ unit. is_clean today (map (mark_for permitted) (path (has_id unit.id) f)) (each (mark_for permitted) (tree (has_id unit.id) f))) (naming box f))
 
 -- The numbers of marks do not matter there.
 abbrev pub NumbersTellNothing : Type 0
 NumbersTellNothing = (today : ℤ) (path : List Mark) (branch : Forest Mark) →
     is_clean today path branch ≡ is_clean today (map unnumbered path) (each unnumbered branch)
 
--- What `clean_path` and `clean_contents` answer on the marks that are read for a unit: both say yes exactly where the
--- unit is clean. The last two premises are what their contracts say.
+-- What `clean_path` and `clean_contents` answer on the marks that are read for a unit, once the reader's permits are put into
+-- them: both say yes exactly where the unit is clean. The last two premises are what their contracts say.
 abbrev pub MarksSayClean : Type 0
-MarksSayClean = (f : Forest Unit) (unit : ℕ) (today : ℤ) (marks branch : List Mark) (path_clean contents_clean : Bool) →
+MarksSayClean = (f : Forest Unit) (unit : ℕ) (permitted : ℕ → Bool) (today : ℤ) (marks branch : List Mark) (path_clean contents_clean : Bool) →
     has (has_id unit) f ≡ true → AreMarks (path (has_id unit) f) marks → AreWalkMarks (tree (has_id unit) f) branch →
-    path_clean ≡ not (withholds today false marks) →
-    ((k : ℕ) (first : Mark) (below : Forest Mark) → IsNumbered k (Node first below Empty) → branch ≡ nodes (Node first below Empty)
-    → contents_clean ≡ list_all (λ way. not (withholds today false way)) (contents_paths first below)) →
-    (path_clean && contents_clean) ≡ is_clean today (map mark_of (path (has_id unit) f)) (each mark_of (tree (has_id unit) f))
+    path_clean ≡ not (withholds today false (map (with_permit permitted) marks)) →
+    ((k : ℕ) (first : Mark) (below : Forest Mark) → IsNumbered k (Node first below Empty) → map (with_permit permitted) branch ≡ nodes (Node first below Empty)
+    → contents_clean ≡ list_all (λ way. not (withholds today (is_opened_above (map (with_permit permitted) marks)) way)) (contents_paths first below)) →
+    (path_clean && contents_clean) ≡ is_clean today (map (mark_for permitted) (path (has_id unit) f)) (each (mark_for permitted) (tree (has_id unit) f))

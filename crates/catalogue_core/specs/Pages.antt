@@ -39,8 +39,11 @@ side_by_side press above (Node unit children others) =
     ∷ side_by_side press above others
 
 -- the tops, a line for each
+abbrev pub tops_text : List (ℕ × Shown) → Bytes
+tops_text tops = flat_map (λ (top : ℕ × Shown). line (decimal top.0 ++ 32 ∷ head_line top.1)) tops
+
 abbrev pub fonds_text : Press → Forest PublicUnit → Bytes
-fonds_text press f = flat_map (λ (top : ℕ × Shown). line (decimal top.0 ++ 32 ∷ head_line top.1)) (side_by_side press [] f)
+fonds_text press f = tops_text (side_by_side press [] f)
 
 -- ---- the finding aid of a unit
 

@@ -3,7 +3,7 @@ use Rattle.std.specs.Prelude.{◌≡◌, ℕ, ℤ, false, cond, List, [], ◌∷
 use Rattle.std.specs.List.{list_any}
 use Rattle.isad_core.specs.Codes.{code_of}
 use Rattle.isad_core.specs.Texts.{Bytes}
-use Rattle.isad_core.specs.Values.{text_of}
+use Rattle.isad_core.specs.Values.{identifier, text_of}
 use Rattle.isad_core.specs.declared.values.BoxKey.{BoxKey}
 use Rattle.isad_core.specs.declared.values.Values.{Values}
 use Rattle.catalogue_core.specs.Units.{Unit, is_closed}
@@ -35,6 +35,9 @@ pub record IsPublished (day : ℤ) (ways : List (List Unit)) (told : PublicUnit)
   pub no_draft : list_any (λ (unit : Unit). unit.draft) way ≡ false
   pub open_above : list_any (is_closed day) (before_last way) ≡ false
   pub tells : TellsOf day (last_of way) told
+
+abbrev pub identifiers : List Unit → List Bytes
+identifiers way = map (λ (unit : Unit). identifier unit.values) way
 
 -- ---- what stands on a page
 

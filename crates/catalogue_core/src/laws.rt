@@ -3,7 +3,7 @@
 ghost use Rattle.catalogue_core.specs.OpenMarks.{OpenByMarks, MarksSayClean, NumbersTellNothing};
 ghost use Rattle.catalogue_core.specs.OneRule.{TellsWhatIsOpen, StubsWhatIsClosed, PagesTellTheHousing};
 
-/// When a container is open to the public, by the marks of the units that name it.
+/// When a container is open to a reader with his permits, by the marks of the units that name it. The public has none.
 pub fn open_by_marks()
     ensures open { OpenByMarks }
     ensures clean { MarksSayClean }

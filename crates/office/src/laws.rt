@@ -1,10 +1,11 @@
 //! Laws of the machine, and of what rows say.
 
 pub use office_core::laws::{
-    days_stay_days, desk_stays_sound, given_in_order, imports_again, imports_bring_the_new,
-    imports_keep_the_catalogue, issues_the_first, nothing_leaks, numbers_stay,
-    only_the_published_is_shown, open_to_holders, orders_go_on, out_apart, settings_stay,
-    starts_sound, stays_sound, told_by_number, units_come_new,
+    all_that_is_published_is_shown, answered_from_the_published, days_stay_days, desk_stays_sound,
+    given_in_order, imports_again, imports_bring_the_new, imports_keep_the_catalogue,
+    issues_the_first, nothing_leaks, numbers_stay, only_the_published_is_shown, open_to_holders,
+    orders_go_on, out_apart, settings_stay, starts_sound, stays_sound, told_by_number,
+    units_come_new,
 };
 pub use office_rows::laws::{
     catalogue_has_no_cause, links_say_the_forest, one_row_changes, rows_read_back,

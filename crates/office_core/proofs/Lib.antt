@@ -20,6 +20,7 @@ pub mod SoundDesk
 pub mod WorkedAnswers
 pub mod NoLeak
 pub mod Published
+pub mod PublishedPart
 pub mod Again
 pub mod Comes
 pub mod Days

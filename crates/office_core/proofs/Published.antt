@@ -1,57 +1,156 @@
--- Every unit that the public is shown is published.
-use Rattle.std.proofs.Common.{◌≡◌, ℕ, ◌+◌, List, [], ◌∷◌, ◌++◌, Some, refl, subst}
-use Rattle.std.specs.Prelude.{map}
+-- What the public is shown is printed from published units alone.
+use Rattle.std.proofs.Common.{◌≡◌, ℕ, Bool, true, false, cond, List, [], ◌∷◌, ◌++◌, Option, Some, None, refl, sym, ap, ap₂, ◌∙◌, subst, inl, inr, ◌⊎◌}
+use Rattle.std.specs.Prelude.{map, nat_eq}
 use Rattle.std.specs.List.{AllByRecursion}
+use Rattle.std.proofs.lemmas.Bool.{cases_Bool, false≢true, eqb-true}
+use Rattle.std.proofs.lemmas.List.{map-append}
 use Rattle.isad_core.specs.Texts.{Bytes}
+use Rattle.isad_core.specs.Printed.{aid as aid_text, page as page_text}
 use Rattle.isad_core.specs.declared.shown.Page.{Page}
-use Rattle.tree_core.specs.Forest.{Forest, Empty, Node, nodes, path, tree}
-use Rattle.catalogue_core.proofs.EachOf.{all_append, all_split}
-use Rattle.catalogue_core.specs.Housing.{paths}
-use Rattle.catalogue_core.specs.Publishing.{PublicUnit, Told, Stub}
-use Rattle.office_core.specs.State.{State}
+use Rattle.isad_core.specs.declared.shown.Shown.{Shown}
+use Rattle.desk_core.specs.declared.refusal.Refusal.TheVariants.{UnknownUnit}
+use Rattle.tree_core.specs.Forest.{Forest, Empty, Node, has, path, tree}
 use Rattle.catalogue_core.specs.Aids.{identifier_of, shown_unit, shown_below}
-use Rattle.catalogue_core.specs.Pages.{is_numbered, above_last, side_by_side, page_at}
-use Rattle.office_core.specs.Queries.{press, public_forest}
-use Rattle.catalogue_core.specs.Published.{IsPublished}
-use Rattle.office_core.specs.Secrecy.{ShowsPublished, ShowsOnlyPublished}
-use Rattle.catalogue_core.proofs.PagesAlike.{tree_alike}
-use Rattle.catalogue_core.proofs.PublishedUnits.{published_below, same}
+use Rattle.catalogue_core.specs.Housing.{paths}
+use Rattle.catalogue_core.specs.Pages.{Press, number_of, is_numbered, before_last, above_last, side_by_side, tops_text, aid_units, page_at, page_of}
+use Rattle.catalogue_core.specs.Published.{IsPublished, identifiers}
+use Rattle.catalogue_core.specs.Publishing.{PublicUnit, Told, Stub}
+use Rattle.catalogue_core.specs.Units.{is_closed}
+use Rattle.catalogue_core.proofs.DistinctLists.{all_so}
+use Rattle.catalogue_core.proofs.EachOf.{all_append}
+use Rattle.catalogue_core.proofs.PagesAlike.{path_alike}
+use Rattle.catalogue_core.proofs.PageUnits.{page_told, there_where_shown}
+use Rattle.catalogue_core.proofs.PublicPaths.{known_of, stand, nowhere}
+use Rattle.catalogue_core.proofs.PublishedUnits.{published_below, before_last-push}
+use Rattle.catalogue_core.proofs.ShownUnits.{ShowsIn, ShowsOne, low_of, all_beside, Place, place, shown_first, shown_lower, shown_beside}
+use Rattle.office_core.specs.declared.query.Answer.{Answer}
+use Rattle.office_core.specs.declared.query.Answer.TheVariants.{Text, Unknown}
+use Rattle.office_core.specs.declared.query.Query.TheVariants as query
+use Rattle.office_core.specs.State.{State}
+use Rattle.office_core.specs.Queries.{answer, page_answer, press, public_forest}
+use Rattle.office_core.specs.Secrecy.{ShowsPublished, ShowsNumbered, ShowsBranch, PageShowsPublished, ShowsOnlyPublished, is_text, ShowsAllPublished}
 
--- what is printed of published units
+same_text : (a b : Bytes) → Text a ≡ Text b → a ≡ b
+same_text a b e = cc
 
-shows : (s : State) (ids : List Bytes) (depth : ℕ) (told : PublicUnit) → IsPublished s.day (paths s.catalogue.forest) told → ShowsPublished s (shown_unit (press s).at s.catalogue.containers ids depth told)
-shows s ids depth told p = record { told = told; published = p; ids = ids; depth = depth; is = refl }
+-- ---- units
 
-all_shown : (s : State) (above : List Bytes) (depth : ℕ) (f : Forest PublicUnit) → AllByRecursion (IsPublished s.day (paths s.catalogue.forest)) (nodes f) → AllByRecursion (ShowsPublished s) (shown_below (press s).at s.catalogue.containers above depth f)
-all_shown s above depth Empty h = tt
-all_shown s above depth (Node a c o) h =
-    let r = all_split (IsPublished s.day (paths s.catalogue.forest)) (nodes c) (nodes o) h.1 in (
-      shows s (above ++ identifier_of a ∷ []) depth a h.0,
-      all_append (ShowsPublished s) (shown_below (press s).at s.catalogue.containers (above ++ identifier_of a ∷ []) (depth + 1) c) (shown_below (press s).at s.catalogue.containers above depth o) (all_shown s (above ++ identifier_of a ∷ []) (depth + 1) c r.0) (all_shown s above depth o r.1),
-    )
+abbrev In : State → Shown → Type 0
+In s = ShowsIn (press s).at s.catalogue.containers s.day (paths s.catalogue.forest)
 
-all_beside : (s : State) (above : List Bytes) (f : Forest PublicUnit) → AllByRecursion (IsPublished s.day (paths s.catalogue.forest)) (nodes f) → AllByRecursion (λ top. ShowsPublished s top.1) (side_by_side (press s) above f)
-all_beside s above Empty h = tt
-all_beside s above (Node a c o) h =
-    let r = all_split (IsPublished s.day (paths s.catalogue.forest)) (nodes c) (nodes o) h.1 in
-    (shows s (above ++ identifier_of a ∷ []) 0 a h.0, all_beside s above o r.1)
+abbrev One : State → ℕ × Shown → Type 0
+One s = ShowsOne (press s).at s.catalogue.containers s.day (paths s.catalogue.forest)
 
-abbrev PageShows : State → Page → Type 0
-PageShows s shown = ShowsPublished s shown.head × AllByRecursion (λ below. ShowsPublished s below.1) shown.below
+shows : (s : State) (shown : Shown) → In s shown → ShowsPublished s shown
+shows s shown it = record { told = it.told; published = it.published; depth = it.depth; is = it.is }
 
-page_shows : (s : State) (way : List PublicUnit) (f : Forest PublicUnit) (shown : Page) → AllByRecursion (IsPublished s.day (paths s.catalogue.forest)) (nodes f) → page_at (press s) way f ≡ Some shown → PageShows s shown
-page_shows s way Empty shown h e = absurd (cc)
-page_shows s way (Node (Stub id identifier level until) c o) shown h e =
-    subst (PageShows s) (same _ shown e) (shows s (map identifier_of way) 0 (Stub id identifier level until) h.0, tt)
-page_shows s way (Node (Told id values) c o) shown h e =
-    let r = all_split (IsPublished s.day (paths s.catalogue.forest)) (nodes c) (nodes o) h.1 in
-    subst (PageShows s) (same _ shown e) (shows s (map identifier_of way) 0 (Told id values) h.0, all_beside s (map identifier_of way) c r.0)
+shows_one : (s : State) (top : ℕ × Shown) → One s top → ShowsNumbered s top
+shows_one s (u, shown) (it, n) = (record { told = it.told; published = it.published; depth = it.depth; is = it.is }, n)
+
+abbrev PlaceOf : State → ℕ → Type 0
+PlaceOf s u = Place s.day (is_numbered u) [] s.catalogue.forest (public_forest s)
+
+place_of : (s : State) (u : ℕ) → has (is_numbered u) (public_forest s) ≡ true → PlaceOf s u
+place_of s u h = place s.day (is_numbered u) [] s.catalogue.forest refl refl h
+
+-- the unit with this number, with any number of units above it in what is printed
+first_shown : (s : State) (u : ℕ) (p : PlaceOf s u) → ShowsNumbered s (u, shown_unit (press s).at s.catalogue.containers (identifiers p.above ++ identifier_of (known_of s.day p.unit) ∷ []) 0 (known_of s.day p.unit))
+first_shown s u p =
+    let n : number_of (known_of s.day p.unit) ≡ u = sym (eqb-true u (number_of (known_of s.day p.unit)) p.passes) in
+    subst (λ k. ShowsNumbered s (k, shown_unit (press s).at s.catalogue.containers (identifiers p.above ++ identifier_of (known_of s.day p.unit) ∷ []) 0 (known_of s.day p.unit))) n
+    (shows_one s _ (shown_first (press s).at s.catalogue.containers s.day (is_numbered u) s.catalogue.forest p 0))
+
+-- ---- a finding aid
+
+aid_shown : (s : State) (u : ℕ) → has (is_numbered u) (public_forest s) ≡ true → ShowsBranch s u (aid_units (press s) u (public_forest s))
+aid_shown s u h =
+    let p = place_of s u h in
+    let ids : above_last (path (is_numbered u) (public_forest s)) ≡ identifiers p.above = ap (map identifier_of) (ap before_last p.ends ∙ before_last-push p.way (known_of s.day p.unit)) ∙ p.codes in
+    subst (λ above. ShowsBranch s u (shown_below (press s).at s.catalogue.containers above 0 (tree (is_numbered u) (public_forest s)))) (sym ids)
+    (subst (λ f. ShowsBranch s u (shown_below (press s).at s.catalogue.containers (identifiers p.above) 0 f)) (sym p.alone) (
+      first_shown s u p,
+      all_append (ShowsPublished s) (shown_below (press s).at s.catalogue.containers (identifiers p.above ++ identifier_of (known_of s.day p.unit) ∷ []) 1 (low_of s.day p.children (is_closed s.day p.unit))) []
+          (all_so (In s) (ShowsPublished s) (shows s) (shown_below (press s).at s.catalogue.containers (identifiers p.above ++ identifier_of (known_of s.day p.unit) ∷ []) 1 (low_of s.day p.children (is_closed s.day p.unit)))
+          (shown_lower (press s).at s.catalogue.containers s.day (is_numbered u) s.catalogue.forest p 1)) tt,
+    ))
+
+aid_at : (s : State) (u : ℕ) (b : Bool) → has (is_numbered u) (public_forest s) ≡ b → (text : Bytes) → cond b (Text (aid_text (aid_units (press s) u (public_forest s)))) (Unknown UnknownUnit) ≡ Text text
+    → (units : List Shown) × (text ≡ aid_text units) × ShowsBranch s u units
+aid_at s u true h text e = (aid_units (press s) u (public_forest s), sym (same_text _ text e), aid_shown s u h)
+aid_at s u false h text e = absurd (cc)
+
+-- ---- a page
+
+same_page : (a b : Page) → Some a ≡ Some b → a ≡ b
+same_page a b e = cc
+
+-- the head of a page, and the units below it
+page_parts : (at : Press) (way : List PublicUnit) (unit : PublicUnit) (low : Forest PublicUnit) (shown : Page) → page_at at way (Node unit low Empty) ≡ Some shown
+    → (shown.head ≡ shown_unit at.at at.containers (map identifier_of way) 0 unit) × ((shown.below ≡ []) ⊎ (shown.below ≡ side_by_side at (map identifier_of way) low))
+page_parts at way (Stub id identifier level until) low shown e = let k = same_page _ shown e in (ap (λ (p : Page). p.head) (sym k), inl (ap (λ (p : Page). p.below) (sym k)))
+page_parts at way (Told id values) low shown e = let k = same_page _ shown e in (ap (λ (p : Page). p.head) (sym k), inr (ap (λ (p : Page). p.below) (sym k)))
+
+page_shown : (s : State) (u : ℕ) (shown : Page) → page_of (press s) u (public_forest s) ≡ Some shown → PageShowsPublished s u shown
+page_shown s u shown e =
+    let p = place_of s u (there_where_shown (press s) u (public_forest s) shown e) in
+    let way = path (is_numbered u) (public_forest s) in
+    let parts = page_parts (press s) way (known_of s.day p.unit) (low_of s.day p.children (is_closed s.day p.unit)) shown (sym (ap (page_at (press s) way) p.alone) ∙ e) in
+    let ids : map identifier_of way ≡ identifiers p.above ++ identifier_of (known_of s.day p.unit) ∷ [] =
+    ap (map identifier_of) p.ends ∙ (map-append identifier_of p.way (known_of s.day p.unit ∷ []) ∙ ap (λ l. l ++ identifier_of (known_of s.day p.unit) ∷ []) p.codes) in
+    let told = page_told (press s) s.day s.catalogue.forest u shown e in
+    let head_is = parts.0 ∙ ap (λ l. shown_unit (press s).at s.catalogue.containers l 0 (known_of s.day p.unit)) ids in
+    record {
+      head = subst (λ h. ShowsNumbered s (u, h)) (sym head_is) (first_shown s u p);
+      way = path_alike (IsPublished s.day (paths s.catalogue.forest)) (is_numbered u) (public_forest s) (published_below s.day [] s.catalogue.forest refl refl);
+      lines = told.0;
+      boxes = told.1;
+      below = below p way ids parts.1;
+    }
+  where
+    below : (p : PlaceOf s u) (way : List PublicUnit) → map identifier_of way ≡ identifiers p.above ++ identifier_of (known_of s.day p.unit) ∷ [] → (shown.below ≡ []) ⊎ (shown.below ≡ side_by_side (press s) (map identifier_of way) (low_of s.day p.children (is_closed s.day p.unit))) → AllByRecursion (ShowsNumbered s) shown.below
+    below p way ids (inl none) = subst (AllByRecursion (ShowsNumbered s)) (sym none) tt
+    below p way ids (inr some) =
+        subst (AllByRecursion (ShowsNumbered s)) (sym (some ∙ ap (λ l. side_by_side (press s) l (low_of s.day p.children (is_closed s.day p.unit))) ids))
+        (all_so (One s) (ShowsNumbered s) (shows_one s) (side_by_side (press s) (identifiers p.above ++ identifier_of (known_of s.day p.unit) ∷ []) (low_of s.day p.children (is_closed s.day p.unit)))
+        (shown_beside (press s).at s.catalogue.containers s.day (is_numbered u) s.catalogue.forest p))
+
+page_answered : (s : State) (u : ℕ) (found : Option Page) → page_of (press s) u (public_forest s) ≡ found → (text : Bytes) → page_answer found ≡ Text text → (shown : Page) × (text ≡ page_text shown) × PageShowsPublished s u shown
+page_answered s u None h text e = absurd (cc)
+page_answered s u (Some shown) h text e = (shown, sym (same_text _ text e), page_shown s u shown h)
+
+-- ---- the answers
 
 pub only_published : (s : State) → ShowsOnlyPublished s
 only_published s =
-    let all = published_below s.day [] s.catalogue.forest refl refl in
     record {
-      fonds = all_beside s [] (public_forest s) all;
-      aid = λ u. all_shown s (above_last (path (is_numbered u) (public_forest s))) 0 (tree (is_numbered u) (public_forest s)) (tree_alike (IsPublished s.day (paths s.catalogue.forest)) (is_numbered u) (public_forest s) all);
-      page = λ u shown e. page_shows s (path (is_numbered u) (public_forest s)) (tree (is_numbered u) (public_forest s)) shown (tree_alike (IsPublished s.day (paths s.catalogue.forest)) (is_numbered u) (public_forest s) all) e;
+      fonds = λ text e. (
+        side_by_side (press s) [] (public_forest s),
+        sym (same_text _ text e),
+        all_so (One s) (ShowsNumbered s) (shows_one s) (side_by_side (press s) [] (public_forest s)) (all_beside (press s) s.day [] s.catalogue.forest refl refl),
+      );
+      aid = λ u text e. aid_at s u (has (is_numbered u) (public_forest s)) refl text e;
+      page = λ u text e. page_answered s u (page_of (press s) u (public_forest s)) refl text e;
     }
+
+-- ---- and each that is published is shown
+
+aid_there : (b : Bool) (text : Bytes) → is_text (cond b (Text text) (Unknown UnknownUnit)) ≡ b
+aid_there true text = refl
+aid_there false text = refl
+
+page_made : (at : Press) (way : List PublicUnit) (unit : PublicUnit) (low : Forest PublicUnit) → is_text (page_answer (page_at at way (Node unit low Empty))) ≡ true
+page_made at way (Stub id identifier level until) low = refl
+page_made at way (Told id values) low = refl
+
+page_there : (s : State) (u : ℕ) → is_text (answer s (query.Page u)) ≡ has (is_numbered u) (public_forest s)
+page_there s u =
+    let way = path (is_numbered u) (public_forest s) in
+    elim (cases_Bool (has (is_numbered u) (public_forest s))) [
+      | inl y ↦
+          let it = stand (is_numbered u) (public_forest s) y in
+          ap (λ f. is_text (page_answer (page_at (press s) way f))) it.alone ∙ (page_made (press s) way it.unit it.below ∙ sym y)
+      | inr n ↦ ap (λ f. is_text (page_answer (page_at (press s) way f))) (nowhere (is_numbered u) (public_forest s) n) ∙ sym n
+    ]
+
+pub all_published : (s : State) → ShowsAllPublished s
+all_published s = record { aid = λ u. aid_there (has (is_numbered u) (public_forest s)) _; page = page_there s }

@@ -1,19 +1,27 @@
 -- What the public cannot learn, and what it is shown of what.
-use Rattle.std.specs.Prelude.{◌≡◌, ℕ, List, [], Some}
+use Rattle.std.specs.Prelude.{◌≡◌, ℕ, ℤ, Bool, true, false, cond, List, [], ◌∷◌, None}
 use Rattle.std.specs.List.{flat_map, AllByRecursion}
 use Rattle.isad_core.specs.Texts.{Bytes}
+use Rattle.isad_core.specs.Printed.{aid as aid_text, page as page_text}
+use Rattle.isad_core.specs.Values.{text_of}
+use Rattle.isad_core.specs.declared.element.Element.TheVariants.{ReferenceCode}
 use Rattle.isad_core.specs.declared.shown.Page.{Page}
 use Rattle.isad_core.specs.declared.shown.Shown.{Shown}
-use Rattle.tree_core.specs.Forest.{nodes}
+use Rattle.isad_core.specs.declared.values.Values.{Values}
+use Rattle.tree_core.specs.Forest.{Forest, nodes, each, has, path}
+use Rattle.tree_core.specs.Withheld.{public}
+use Rattle.catalogue_core.specs.Units.{Unit, is_closed}
 use Rattle.catalogue_core.specs.Merging.{box_number}
 use Rattle.catalogue_core.specs.Housing.{paths}
 use Rattle.catalogue_core.specs.Publishing.{PublicUnit}
-use Rattle.office_core.specs.declared.query.Query.TheVariants as query
-use Rattle.office_core.specs.State.{State}
 use Rattle.catalogue_core.specs.Aids.{shown_unit}
-use Rattle.catalogue_core.specs.Pages.{side_by_side, aid_units, page_of}
+use Rattle.catalogue_core.specs.Pages.{number_of, is_numbered, tops_text}
+use Rattle.catalogue_core.specs.Published.{boxes_told, identifiers, IsPublished, LineIsTold, BoxIsTold}
+use Rattle.office_core.specs.declared.query.Query.TheVariants as query
+use Rattle.office_core.specs.declared.query.Answer.{Answer}
+use Rattle.office_core.specs.declared.query.Answer.TheVariants.{Text}
+use Rattle.office_core.specs.State.{State, start}
 use Rattle.office_core.specs.Queries.{answer, press, public_forest}
-use Rattle.catalogue_core.specs.Published.{boxes_told, IsPublished}
 
 -- the public parts of two offices are the same: whose archives they are, the day, what the public may know of the
 -- forest, and the numbers of the containers that stand in it
@@ -33,17 +41,82 @@ pub record AnswersAlike (s t : State) : Type 0 where
   pub aid : (u : ℕ) → answer s (query.Aid u) ≡ answer t (query.Aid u)
   pub page : (u : ℕ) → answer s (query.Page u) ≡ answer t (query.Page u)
 
--- what is printed is what is told of such a unit
+-- ---- of what the public is shown
+
+-- What is printed is what is told of a published unit, with its own reference code: by the identifiers of its path.
 pub record ShowsPublished (s : State) (shown : Shown) : Type 0 where
   pub told : PublicUnit
   pub published : IsPublished s.day (paths s.catalogue.forest) told
-  pub ids : List Bytes
   pub depth : ℕ
-  pub is : shown ≡ shown_unit (press s).at s.catalogue.containers ids depth told
+  pub is : shown ≡ shown_unit (press s).at s.catalogue.containers (identifiers published.way) depth told
 
--- Every unit in an answer to the public's questions is such a unit.
+-- the same of the unit with this number
+abbrev pub ShowsNumbered : State → ℕ × Shown → Type 0
+ShowsNumbered s (u, shown) = (it : ShowsPublished s shown) × (u ≡ number_of it.told)
+
+-- the unit with this number, and others behind it
+abbrev pub ShowsBranch : State → ℕ → List Shown → Type 0
+ShowsBranch s u [] = ⊥
+ShowsBranch s u (head ∷ below) = ShowsNumbered s (u, head) × AllByRecursion (ShowsPublished s) below
+
+-- the path of a unit, as far as the public may know of it
+abbrev pub public_path : State → ℕ → List PublicUnit
+public_path s u = path (is_numbered u) (public_forest s)
+
+-- The page of a unit shows published units alone: the unit and those right below it, and those of its path, of which its
+-- lines and its containers are told.
+pub record PageShowsPublished (s : State) (u : ℕ) (shown : Page) : Type 0 where
+  pub head : ShowsNumbered s (u, shown.head)
+  pub way : AllByRecursion (IsPublished s.day (paths s.catalogue.forest)) (public_path s u)
+  pub lines : AllByRecursion (LineIsTold (press s).at (public_path s u)) shown.lines
+  pub boxes : AllByRecursion (BoxIsTold (press s) (public_path s u)) shown.boxes
+  pub below : AllByRecursion (ShowsNumbered s) shown.below
+
+-- An answer to one of the public's questions is printed from published units alone.
 pub record ShowsOnlyPublished (s : State) : Type 0 where
-  pub fonds : AllByRecursion (λ top. ShowsPublished s top.1) (side_by_side (press s) [] (public_forest s))
-  pub aid : (u : ℕ) → AllByRecursion (ShowsPublished s) (aid_units (press s) u (public_forest s))
-  pub page : (u : ℕ) (shown : Page) → page_of (press s) u (public_forest s) ≡ Some shown →
-      ShowsPublished s shown.head × AllByRecursion (λ below. ShowsPublished s below.1) shown.below
+  pub fonds : (text : Bytes) → answer s query.Fonds ≡ Text text →
+      (tops : List (ℕ × Shown)) × (text ≡ tops_text tops) × AllByRecursion (ShowsNumbered s) tops
+  pub aid : (u : ℕ) (text : Bytes) → answer s (query.Aid u) ≡ Text text →
+      (units : List Shown) × (text ≡ aid_text units) × ShowsBranch s u units
+  pub page : (u : ℕ) (text : Bytes) → answer s (query.Page u) ≡ Text text →
+      (shown : Page) × (text ≡ page_text shown) × PageShowsPublished s u shown
+
+abbrev pub is_text : Answer → Bool
+is_text (Text text) = true
+is_text _ = false
+
+-- Every unit that the public may know has a finding aid and a page, and no other number has.
+pub record ShowsAllPublished (s : State) : Type 0 where
+  pub aid : (u : ℕ) → is_text (answer s (query.Aid u)) ≡ has (is_numbered u) (public_forest s)
+  pub page : (u : ℕ) → is_text (answer s (query.Page u)) ≡ has (is_numbered u) (public_forest s)
+
+-- ---- the office as far as it is published
+
+-- of a description, the identifier and the level
+abbrev pub bare : Values → Values
+bare values = record { level = values.level; texts = text_of ReferenceCode values ∷ []; boxes = [] }
+
+-- a unit without where its description came from, and where it is closed, without its description
+abbrev pub published_unit : Unit × Bool → Unit
+published_unit (unit, closed) = record unit {
+  source = [];
+  legacy = [];
+  values = cond closed (bare unit.values) unit.values;
+  until = cond closed unit.until None;
+}
+
+-- no draft branch, and nothing below a closed unit
+abbrev pub published_forest : ℤ → Forest Unit → Forest Unit
+published_forest day f = each published_unit (public (λ unit. unit.draft) (is_closed day) f)
+
+-- An office that keeps nothing but this: whose archives they are, the day, what is published of its units, and the numbers
+-- of its containers. It has no readers, seats, orders, runs or permits.
+abbrev pub published_part : State → State
+published_part s =
+    record (start (record { country = s.settings.country; repo = s.settings.repo; seats = 0; daily = 0; hands = 0; run_size = 0 }) s.day) {
+      catalogue = record {
+        forest = published_forest s.day s.catalogue.forest;
+        containers = s.catalogue.containers;
+        next = 1;
+      };
+    }

@@ -11,7 +11,8 @@ ghost use Rattle.isad_core.specs.Days.{IsDayNumber};
 ghost use Rattle.tree_core.specs.Spans.{number};
 ghost use Rattle.office_core.specs.Soundness.{AreGoodDays, AreGoodSettings, IsSound, NamesDays};
 ghost use Rattle.office_core.specs.Imported.{ImportsBringTheNew, ImportsKeepTheCatalogue};
-ghost use Rattle.office_core.specs.Secrecy.{SamePublic, AnswersAlike, ShowsOnlyPublished};
+ghost use Rattle.office_core.specs.Secrecy.{SamePublic, AnswersAlike, published_part};
+ghost use Rattle.office_core.specs.Secrecy.{ShowsOnlyPublished, ShowsAllPublished};
 ghost use Rattle.office_core.specs.Laws.{OutApart, GoesOn, IssuesTheFirst, OpenToHolders};
 ghost use Rattle.office_core.specs.Laws.{ImportsAgain};
 ghost use Rattle.office_core.specs.Numbers.{StaysNamed, Kind, GivenInOrder, StartsAtOne, NamesWhatCame};
@@ -66,9 +67,19 @@ pub fn nothing_leaks()
     ensures { (s t : State) → SamePublic s t → AnswersAlike s t }
 {}
 
-/// Every unit in an answer to the public's questions is published, and is a stub where it is closed.
+/// An answer to one of the public's questions is printed from published units alone: heads, lines and containers.
 pub fn only_the_published_is_shown()
     ensures { (s : State) → ShowsOnlyPublished s }
+{}
+
+/// Each unit that the public may know has its finding aid and its page, and no other number has one.
+pub fn all_that_is_published_is_shown()
+    ensures { (s : State) → ShowsAllPublished s }
+{}
+
+/// The public is answered as by an office that keeps nothing but what is published.
+pub fn answered_from_the_published()
+    ensures { (s : State) → AnswersAlike s (published_part s) }
 {}
 
 /// An accepted import that is done again at once changes nothing, and its reply counts every row as the same.
