@@ -2,11 +2,14 @@ pub mod LegibleMerges
 pub mod Members
 pub mod NodeLemmas
 pub mod OpenLemmas
+pub mod EachRow
+pub mod EnteredUnits
 pub mod FileRows
 pub mod EachOf
 pub mod DistinctLists
 pub mod AsciiTexts
 pub mod Branches
+pub mod DistinctFront
 pub mod EachAfter
 pub mod GoodChanges
 pub mod GoodRows
@@ -20,8 +23,11 @@ pub mod KeptCatalogues
 pub mod KeptUnits
 pub mod MergedNodes
 pub mod NamedBoxes
+pub mod OneMoreRow
 pub mod PagesAlike
 pub mod PublishedUnits
 pub mod Rooted
+pub mod RowByRow
+pub mod RowsMerged
 pub mod UnitPlaces
 pub mod UnitsAfter

@@ -18,3 +18,4 @@ pub mod Members
 pub mod Published
 pub mod Pages
 pub mod LegibleCatalogues
+pub mod RowByRow
