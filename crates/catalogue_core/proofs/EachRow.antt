@@ -103,7 +103,7 @@ found_numbers source legacy (u ∷ us) v d p e = at (is_from source legacy u) re
 found_behind : (legacy : Bytes) (rows : List Row) (row : Row) → find (has_legacy legacy) (rows ++ row ∷ []) ≡ or_else (find (has_legacy legacy) rows) (cond (has_legacy legacy row) (Some row) None)
 found_behind legacy rows row = find-append (has_legacy legacy) rows (row ∷ [])
 
-none_with : (legacy : Bytes) (rows : List Row) → AllByRecursion (λ (row : Row). bytes_eq legacy row.legacy ≡ false) rows → find (has_legacy legacy) rows ≡ None
+pub none_with : (legacy : Bytes) (rows : List Row) → AllByRecursion (λ (row : Row). bytes_eq legacy row.legacy ≡ false) rows → find (has_legacy legacy) rows ≡ None
 none_with legacy [] h = refl
 none_with legacy (row ∷ rows) h = ap (λ (b : Bool). cond b (Some row) (find (has_legacy legacy) rows)) h.0 ∙ none_with legacy rows h.1
 

@@ -28,6 +28,7 @@ pub mod PagesAlike
 pub mod PublishedUnits
 pub mod Rooted
 pub mod RowByRow
+pub mod RowCounts
 pub mod RowsMerged
 pub mod UnitPlaces
 pub mod UnitsAfter

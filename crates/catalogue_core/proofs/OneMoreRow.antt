@@ -48,7 +48,7 @@ all_split : {A : Type 0} (P : A → Type 0) (xs ys : List A) → AllByRecursion 
 all_split P [] ys h = (tt, h)
 all_split P (x ∷ xs) ys h = let r = all_split P xs ys h.1 in ((h.0, r.0), r.1)
 
-all_branched : (P : New → Type 0) (p : Option ℕ) (ns : List New) → AllByRecursion P ns → AllByRecursion P (nodes (branches p ns))
+pub all_branched : (P : New → Type 0) (p : Option ℕ) (ns : List New) → AllByRecursion P ns → AllByRecursion P (nodes (branches p ns))
 all_branched P p [] h = tt
 all_branched P p (x ∷ ns) h = at (option_eq nat_eq x.parent p) (all_branched P (Some x.id) ns h.1) (all_branched P p ns h.1)
   where

@@ -35,7 +35,7 @@ no_number : (r : Option Unit) → option_map (λ (u : Unit). u.id) r ≡ None �
 no_number None e = refl
 no_number (Some u) e = absurd (cc)
 
-some_depth : (d : Option ℕ) → cause_at d ≡ None → (k : ℕ) × (d ≡ Some k)
+pub some_depth : (d : Option ℕ) → cause_at d ≡ None → (k : ℕ) × (d ≡ Some k)
 some_depth None e = absurd (cc)
 some_depth (Some k) e = (k, refl)
 
@@ -62,7 +62,7 @@ module _ (c : Catalogue) (source : Bytes) (good : AreGoodUnits c) where
   -- ---- a row of a unit that was there
 
   module _ (before nb : List Row) (row : Row) (v : Unit) (s : StandsSo before nb) (apart : IsApart row before) (e : find (is_from source row.legacy) (nodes c.forest) ≡ Some v) where
-    known_number : number_there (so_far before nb) source row.legacy ≡ Some v.id
+    pub known_number : number_there (so_far before nb) source row.legacy ≡ Some v.id
     known_number =
         s.numbers row.legacy
         ∙ (number_past c.forest source (c.next + length nb) (onto [] nb) row.legacy (all_onto (λ (r : Row). bytes_eq row.legacy r.legacy ≡ false) [] nb tt (s.part row apart))
@@ -86,7 +86,7 @@ module _ (c : Catalogue) (source : Bytes) (good : AreGoodUnits c) where
     revises : AllByRecursion (λ (u : Unit). valued source row v.id (revised source before u) ≡ revised source (before ++ row ∷ []) u) (nodes c.forest)
     revises = all_so (λ (u : Unit). has_id v.id u ≡ is_from source row.legacy u) (λ (u : Unit). valued source row v.id (revised source before u) ≡ revised source (before ++ row ∷ []) u) revises_one (nodes c.forest) (found_numbers source row.legacy (nodes c.forest) v good.ids good.pairs e)
 
-    known_more : with_values v.id row.values (so_far before nb) ≡ so_far (before ++ row ∷ []) nb
+    pub known_more : with_values v.id row.values (so_far before nb) ≡ so_far (before ++ row ∷ []) nb
     known_more = sym (merged_known c source before row v.id (numbered nb) others revises)
 
     known_alike : (legacy : Bytes) → Alike (is_from source legacy) (grown_to before nb) (grown_to (before ++ row ∷ []) nb)
@@ -102,7 +102,7 @@ module _ (c : Catalogue) (source : Bytes) (good : AreGoodUnits c) where
         number true u = refl
         number false u = refl
 
-    known_stands : StandsSo (before ++ row ∷ []) nb
+    pub known_stands : StandsSo (before ++ row ∷ []) nb
     known_stands = record {
       part = λ other h. s.part other (all_split (λ (r : Row). bytes_eq other.legacy r.legacy ≡ false) before (row ∷ []) h).0;
       depths = λ legacy. ap₂ (λ (b : Bool) n. cond b (Some (n + 1)) None) (known_alike legacy).there (known_alike legacy).deep ∙ s.depths legacy;
@@ -150,7 +150,7 @@ module _ (c : Catalogue) (source : Bytes) (good : AreGoodUnits c) where
     abbrev come : New
     come = record { id = c.next + length nb; parent = option_and_then (number_of c.forest source (c.next + length nb) (onto [] nb)) row.parent; row = row }
 
-    no_such_number : number_there (so_far before nb) source row.legacy ≡ None
+    pub no_such_number : number_there (so_far before nb) source row.legacy ≡ None
     no_such_number =
         s.numbers row.legacy
         ∙ (number_past c.forest source (c.next + length nb) (onto [] nb) row.legacy (all_onto (λ (r : Row). bytes_eq row.legacy r.legacy ≡ false) [] nb tt (s.part row apart))
@@ -182,7 +182,7 @@ module _ (c : Catalogue) (source : Bytes) (good : AreGoodUnits c) where
         low [] h = tt
         low (u ∷ us) h = (let l = h.0 in let i = revised_id source before u in omega (arith, l, i), low us h.1)
 
-    new_more : with_new source row (so_far before nb) ≡ so_far (before ++ row ∷ []) (nb ++ row ∷ [])
+    pub new_more : with_new source row (so_far before nb) ≡ so_far (before ++ row ∷ []) (nb ++ row ∷ [])
     new_more =
         ap (λ (n : New). with_unit n.parent (new_unit source n) (so_far before nb)) is_come
         ∙ (sym (merged_new c source before (numbered nb) come can)
@@ -252,7 +252,7 @@ module _ (c : Catalogue) (source : Bytes) (good : AreGoodUnits c) where
           ap (λ l. option_map (λ (u : Unit). u.id) (find (is_from source l) (nodes after_it))) (one_text legacy row.legacy h) ∙ ap (option_map (λ (u : Unit). u.id)) placed.found
       number_now legacy false h = ap (option_map (λ (u : Unit). u.id)) (stayed legacy h).found ∙ s.numbers legacy
 
-      new_stands : StandsSo (before ++ row ∷ []) (nb ++ row ∷ [])
+      pub new_stands : StandsSo (before ++ row ∷ []) (nb ++ row ∷ [])
       new_stands = record {
         part = λ other h. (let r = all_split (λ (r : Row). bytes_eq other.legacy r.legacy ≡ false) before (row ∷ []) h in all_append (λ (r : Row). bytes_eq other.legacy r.legacy ≡ false) nb (row ∷ []) (s.part other r.0) r.1);
         depths = λ legacy.
@@ -266,7 +266,7 @@ module _ (c : Catalogue) (source : Bytes) (good : AreGoodUnits c) where
             ∙ ap (λ above. number_of c.forest source (c.next + length (nb ++ row ∷ [])) above legacy) (sym (onto-more [] nb row))));
       }
 
-    depth_same : (p : Option Bytes) → depth_there (so_far before nb) source p ≡ depth_under c.forest source p (onto [] nb)
+    pub depth_same : (p : Option Bytes) → depth_there (so_far before nb) source p ≡ depth_under c.forest source p (onto [] nb)
     depth_same None = refl
     depth_same (Some legacy) = s.depths legacy
 
@@ -276,7 +276,7 @@ module _ (c : Catalogue) (source : Bytes) (good : AreGoodUnits c) where
   abbrev AreFurther : List Row → List Row → Type 0
   AreFurther before = AllByRecursion (λ (r : Row). IsApart r before)
 
-  further : (before rest : List Row) (row : Row) → AreFurther before rest → AllByRecursion (λ (r : Row). bytes_eq row.legacy r.legacy ≡ false) rest → AreFurther (before ++ row ∷ []) rest
+  pub further : (before rest : List Row) (row : Row) → AreFurther before rest → AllByRecursion (λ (r : Row). bytes_eq row.legacy r.legacy ≡ false) rest → AreFurther (before ++ row ∷ []) rest
   further before [] row h k = tt
   further before (r ∷ rest) row h k =
       (all_append (λ (b : Row). bytes_eq r.legacy b.legacy ≡ false) before (row ∷ []) h.0 (other_way row.legacy r.legacy k.0, tt), further before rest row h.1 k.1)

@@ -19,7 +19,7 @@ use Rattle.catalogue_core.proofs.EachOf.{all_true}
 use Rattle.catalogue_core.proofs.ImportedAgain.{merged_none}
 use Rattle.catalogue_core.proofs.RowByRow.{IsApart, StandsSo, goes}
 
-none_merged : (c : Catalogue) (source : Bytes) → distinct c.containers ≡ c.containers → merged c source [] [] ≡ c
+pub none_merged : (c : Catalogue) (source : Bytes) → distinct c.containers ≡ c.containers → merged c source [] [] ≡ c
 none_merged c source apart =
     let next : c.next + 0 ≡ c.next = omega arith in
     ap (λ f. made_of f (distinct (c.containers ++ [])) (c.next + 0)) (merged_none source [] c.forest (all_true (λ u. revised source [] u ≡ u) (λ u. at (bytes_eq u.source source) u) (nodes c.forest)))

@@ -1,5 +1,5 @@
 -- A file's rows, entered into a catalogue one after another.
-use Rattle.std.specs.Prelude.{ℕ, ◌+◌, Bool, cond, List, [], ◌∷◌, Option, Some, None, option_and_then, Result, Ok, Err}
+use Rattle.std.specs.Prelude.{◌≡◌, count_by, ℕ, ◌+◌, Bool, cond, List, [], ◌∷◌, Option, Some, None, option_and_then, Result, Ok, Err}
 use Rattle.isad_core.specs.Texts.{Bytes}
 use Rattle.atom_csv.specs.declared.file.Row.{Row}
 use Rattle.tree_core.specs.Forest.{Forest}
@@ -57,3 +57,8 @@ abbrev pub count_rows : (Forest Unit → Bytes → Row → Bool) → Bytes → L
 count_rows test source [] c = 0
 count_rows test source (row ∷ rows) c =
     cond (test c.forest source row) 1 0 + if_ok (count_rows test source rows) (with_row source row c)
+
+-- where all are placed, as many as pass it on the forest before
+abbrev pub CountsAlike : Catalogue → Bytes → List Row → (Forest Unit → Bytes → Row → Bool) → Type 0
+CountsAlike c source rows test =
+    (after : Catalogue) → with_rows source rows c ≡ Ok after → count_rows test source rows c ≡ count_by (test c.forest source) rows
