@@ -23,7 +23,7 @@ pub record IsTaken (c : Catalogue) (source file : Bytes) (intake : Intake) : Typ
   pub placed : faults_below c.forest source [] (new_rows c source intake.file.rows) ≡ []
   pub is : intake.catalogue ≡ merged c source intake.file.rows (numbered_from c.forest source c.next [] (new_rows c source intake.file.rows))
 
-first_ok : {A : Type 0} (faults : List (ℕ × ℕ)) (value : A) (got : A) → or_first faults value ≡ Ok got → (faults ≡ []) × (got ≡ value)
+pub first_ok : {A : Type 0} (faults : List (ℕ × ℕ)) (value : A) (got : A) → or_first faults value ≡ Ok got → (faults ≡ []) × (got ≡ value)
 first_ok [] value got e = (refl, cc)
 first_ok (fault ∷ faults) value got e = absurd (cc)
 

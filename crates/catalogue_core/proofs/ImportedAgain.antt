@@ -217,7 +217,7 @@ grown_none source Empty = refl
 grown_none source (Node u c o) =
     ap (λ k. Node u k (grown source [] o)) (join_none (grown source [] c) ∙ grown_none source c) ∙ ap (λ k. Node u c k) (grown_none source o)
 
-merged_none : (source : Bytes) (rows : List Row) (f : Forest Unit) → AllByRecursion (λ u. revised source rows u ≡ u) (nodes f) → merged_forest source rows [] f ≡ f
+pub merged_none : (source : Bytes) (rows : List Row) (f : Forest Unit) → AllByRecursion (λ u. revised source rows u ≡ u) (nodes f) → merged_forest source rows [] f ≡ f
 merged_none source rows f h = join_none (grown source [] (each (revised source rows) f)) ∙ (grown_none source (each (revised source rows) f) ∙ each_same (revised source rows) f h)
 
 -- ---- the file, taken in again

@@ -21,3 +21,4 @@ pub mod Published
 pub mod OneRule
 pub mod Pages
 pub mod LegibleCatalogues
+pub mod RowByRow

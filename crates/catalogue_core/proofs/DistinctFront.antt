@@ -1,0 +1,33 @@
+-- Containers that were made distinct already, with others behind them.
+use Rattle.std.proofs.Common.{◌≡◌, Bool, true, false, not, cond, ◌||◌, List, [], ◌∷◌, ◌++◌, refl, sym, ap, ◌∙◌, subst}
+use Rattle.std.specs.Prelude.{filter}
+use Rattle.std.specs.List.{list_any}
+use Rattle.isad_core.specs.declared.values.BoxKey.{BoxKey}
+use Rattle.isad_core.specs.Boxes.{distinct, is_same}
+use Rattle.catalogue_core.proofs.Imported.{distinct_append, distinct_again, same_box}
+
+-- another container is found as well where those like x are left out
+any_kept : (x b : BoxKey) → is_same x b ≡ false → (ys : List BoxKey) → list_any (λ y. is_same y b) (filter (λ later. not (is_same x later)) ys) ≡ list_any (λ y. is_same y b) ys
+any_kept x b other [] = refl
+any_kept x b other (y ∷ ys) = at (is_same x y) refl (any_kept x b other ys)
+  where
+    at : (c : Bool) → is_same x y ≡ c → list_any (λ y. is_same y b) (filter (λ later. not (is_same x later)) ys) ≡ list_any (λ y. is_same y b) ys
+        → list_any (λ y. is_same y b) (cond (not c) (y ∷ filter (λ later. not (is_same x later)) ys) (filter (λ later. not (is_same x later)) ys)) ≡ (is_same y b || list_any (λ y. is_same y b) ys)
+    at true e k = k ∙ sym (ap (λ c. c || list_any (λ y. is_same y b) ys) (subst (λ z. is_same z b ≡ false) (same_box x y e) other))
+    at false e k = ap (λ c. is_same y b || c) k
+
+any_distinct : (b : BoxKey) (xs : List BoxKey) → list_any (λ x. is_same x b) (distinct xs) ≡ list_any (λ x. is_same x b) xs
+any_distinct b [] = refl
+any_distinct b (x ∷ xs) = at (is_same x b) refl (any_distinct b xs)
+  where
+    at : (c : Bool) → is_same x b ≡ c → list_any (λ x. is_same x b) (distinct xs) ≡ list_any (λ x. is_same x b) xs
+        → (c || list_any (λ y. is_same y b) (filter (λ later. not (is_same x later)) (distinct xs))) ≡ (c || list_any (λ x. is_same x b) xs)
+    at true e k = refl
+    at false e k = any_kept x b e (distinct xs) ∙ k
+
+pub distinct_front : (xs ys : List BoxKey) → distinct (distinct xs ++ ys) ≡ distinct (xs ++ ys)
+distinct_front xs ys =
+    distinct_append (distinct xs) ys
+    ∙ (ap (λ l. l ++ filter (λ b. not (list_any (λ x. is_same x b) (distinct xs))) (distinct ys)) (distinct_again xs)
+    ∙ (ap (λ test. distinct xs ++ filter test (distinct ys)) (λ i b. not (any_distinct b xs i))
+    ∙ sym (distinct_append xs ys)))
