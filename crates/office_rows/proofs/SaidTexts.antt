@@ -15,7 +15,7 @@ use Rattle.catalogue_core.specs.CatalogueRows.{UnitRow, ElementRow, ContainerRow
 use Rattle.office_core.specs.Words.{numbered}
 use Rattle.office_core.specs.Laws.{numbers_from}
 use Rattle.office_core.specs.SoundOffice.{AreTexts}
-use Rattle.office_rows.specs.DeskRows.{reader_from}
+use Rattle.office_rows.specs.DeskShown.{reader_from}
 use Rattle.office_rows.specs.Reading.{OfficeRows, state_of, box_at, boxes_from, values_said, unit_from, unit_said}
 use Rattle.office_rows.specs.CellJudged.{IsLegibleUnitRow, IsLegibleContainerRow, AreLegibleRows}
 use Rattle.office_rows.proofs.RowsByNumber.{each_in}

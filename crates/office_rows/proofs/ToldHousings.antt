@@ -20,7 +20,7 @@ use Rattle.catalogue_core.specs.Units.{Unit}
 use Rattle.catalogue_core.specs.Merging.{box_number}
 use Rattle.office_core.specs.Laws.{numbers_from}
 use Rattle.office_core.specs.Words.{numbered}
-use Rattle.office_rows.specs.DeskRows.{rows_from}
+use Rattle.office_rows.specs.DeskShown.{rows_from}
 use Rattle.catalogue_core.specs.CatalogueRows.{HousingRow, housing_row, box_from, housings_of}
 use Rattle.office_rows.specs.Reading.{OfficeRows, box_at, boxes_from, boxes_said, unit_said}
 use Rattle.catalogue_core.specs.CatalogueCauses.{is_same_place, is_housed_alike}

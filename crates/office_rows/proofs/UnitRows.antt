@@ -20,7 +20,7 @@ use Rattle.office_core.specs.State.{State}
 use Rattle.catalogue_core.specs.GoodCatalogues.{IsGoodUnit}
 use Rattle.office_core.specs.Words.{numbered}
 use Rattle.office_core.specs.Laws.{numbers_from}
-use Rattle.office_rows.specs.DeskRows.{rows_from}
+use Rattle.office_rows.specs.DeskShown.{rows_from}
 use Rattle.tree_core.specs.Versions.{Version, Links, Spans}
 use Rattle.catalogue_core.specs.CatalogueRows.{UnitRow, unit_row, ElementRow, after_level, element_rows_from, HousingRow, housing_row, text_said, container_row, box_from, places_said, place_rows}
 use Rattle.office_rows.specs.Reading.{number_of, box_at, boxes_from, boxes_said, OfficeRows, tables, values_said, unit_from, unit_said, SaysUnits}

@@ -6,13 +6,13 @@ use Rattle.isad_core.specs.declared.values.BoxKey.{BoxKey}
 use Rattle.isad_core.specs.declared.values.Values.{Values}
 use Rattle.tree_core.specs.Forest.{nodes, each}
 use Rattle.tree_core.specs.Versions.{version_number, Version}
-use Rattle.desk_core.specs.DeskRows.{Desk}
+use Rattle.desk_core.specs.DeskRows.{Desk, SeatRow, waiting_for, RunRow, RunLineRow, PermitRow}
 use Rattle.catalogue_core.specs.Units.{Unit}
 use Rattle.catalogue_core.specs.CatalogueRows.{CatalogueRows, OfficeRow, UnitRow, unit_row, element_rows_from, container_row, HousingRow, housing_row, place_rows, places_said, box_from, text_said, housings_of}
 use Rattle.office_core.specs.Words.{numbered}
 use Rattle.office_core.specs.Laws.{numbers_from}
 use Rattle.office_core.specs.State.{Line, Run, Permit, State}
-use Rattle.office_rows.specs.DeskRows.{rows_from, reader_rows, reader_from, SeatRow, seat_rows, order_rows, order_from, waiting_for, past_in, holding_rows, place_in, RunRow, run_rows, RunLineRow, run_line_rows, PermitRow, permit_rows}
+use Rattle.office_rows.specs.DeskShown.{rows_from, reader_rows, reader_from, seat_rows, order_rows, order_from, past_in, holding_rows, place_in, run_rows, run_line_rows, permit_rows}
 
 -- ---- all tables
 
