@@ -1,5 +1,6 @@
 pub mod Reading
 pub mod Casts
+pub mod CellTexts
 pub mod Sorted
 pub mod Tests
 pub mod Rows
@@ -34,4 +35,3 @@ pub mod UpdateOf
 pub mod DeleteOf
 pub mod SelectOf
 pub mod Fresh
-pub mod CellTexts
