@@ -4,13 +4,13 @@ pub use Rattle.finding_aids.specs.Places
 pub use Rattle.finding_aids.specs.Planting
 pub use Rattle.finding_aids.specs.Preview
 pub use Rattle.finding_aids.specs.Slots
-pub use Rattle.office_rows.specs.DeskRows
+pub use Rattle.office_rows.specs.DeskShown
 pub use Rattle.office_rows.specs.Reading
-pub use Rattle.office_rows.specs.ReadingRows
+pub use Rattle.office_rows.specs.WorkedReading
 pub use Rattle.desk_core.specs.DeskCauses
-pub use Rattle.office_rows.specs.DeskCausesRows
+pub use Rattle.office_rows.specs.WorkedDeskCauses
 pub use Rattle.catalogue_core.specs.CatalogueCauses
-pub use Rattle.office_rows.specs.CatalogueCausesRows
+pub use Rattle.office_rows.specs.WorkedCatalogueCauses
 pub use Rattle.office_rows.specs.DeskJudged
 pub use Rattle.office_rows.specs.Causes
 pub use Rattle.office_rows.specs.CellCauses

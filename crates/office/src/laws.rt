@@ -8,7 +8,7 @@ pub use office_core::laws::{
     units_come_new,
 };
 pub use office_rows::laws::{
-    catalogue_has_no_cause, links_say_the_forest, one_row_changes, rows_read_back,
-    rows_say_the_catalogue, rows_without_a_cause, spans_say_the_forest, tables_have_no_cause,
-    tables_say_the_state,
+    catalogue_has_no_cause, cells_have_no_cause, cells_without_a_cause, links_say_the_forest,
+    one_row_changes, rows_read_back, rows_say_the_catalogue, rows_without_a_cause,
+    spans_say_the_forest, tables_have_no_cause, tables_say_the_state, texts_are_utf8,
 };

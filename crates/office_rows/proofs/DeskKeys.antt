@@ -10,7 +10,8 @@ use Rattle.office_core.specs.Words.{numbers_to}
 use Rattle.office_core.specs.State.{State, Line, Run, Permit, is_seat_of, containers}
 use Rattle.catalogue_core.specs.Members.{StandsIn}
 use Rattle.office_core.specs.SoundDesk.{IsAscending, SitOnce, ByContainer, ByUnit, IsSoundDesk}
-use Rattle.office_rows.specs.DeskRows.{ReaderRow, reader_row, SeatRow, seat_rows_from, OrderRow, order_row, HoldingRow, holding_row, RunRow, run_row, RunLineRow, run_line_row, lines_from, PermitRow, permit_row}
+use Rattle.desk_core.specs.DeskRows.{ReaderRow, SeatRow, OrderRow, HoldingRow, RunRow, RunLineRow, PermitRow}
+use Rattle.office_rows.specs.DeskShown.{reader_row, seat_rows_from, order_row, holding_row, run_row, run_line_row, lines_from, permit_row}
 use Rattle.tree_core.specs.Versions.{Version}
 use Rattle.office_rows.specs.Reading.{tables}
 use Rattle.desk_core.specs.DeskCauses.{AreInOrder, MeetsDeskKeys}

@@ -12,7 +12,8 @@ use Rattle.office_core.specs.Words.{numbered, some_and}
 use Rattle.office_core.specs.State.{State, Order, is_ticket, is_container}
 use Rattle.catalogue_core.specs.Finding.{has_unit}
 use Rattle.catalogue_core.specs.Sources.{is_between}
-use Rattle.office_rows.specs.DeskRows.{ReaderRow, reader_row, OrderRow, order_row, order_rows, RunRow, run_row}
+use Rattle.desk_core.specs.DeskRows.{ReaderRow, OrderRow, RunRow}
+use Rattle.office_rows.specs.DeskShown.{reader_row, order_row, order_rows, run_row}
 use Rattle.tree_core.specs.Versions.{Version}
 use Rattle.catalogue_core.specs.CatalogueRows.{UnitRow, unit_row, ContainerRow, container_row}
 use Rattle.office_rows.specs.Reading.{tables}

@@ -10,7 +10,8 @@ use Rattle.office_core.specs.State.{is_ticket, is_container}
 use Rattle.catalogue_core.specs.Members.{StandsIn}
 use Rattle.office_core.specs.Rules.{is_name}
 use Rattle.catalogue_core.specs.Sources.{is_between}
-use Rattle.office_rows.specs.DeskRows.{ReaderRow, reader_from, SeatRow, OrderRow, PermitRow}
+use Rattle.desk_core.specs.DeskRows.{ReaderRow, SeatRow, OrderRow, PermitRow}
+use Rattle.office_rows.specs.DeskShown.{reader_from}
 use Rattle.catalogue_core.specs.CatalogueRows.{ContainerRow, box_from}
 use Rattle.office_rows.specs.Reading.{OfficeRows, state_of}
 use Rattle.isad_core.specs.Words.{are_numbered_from}

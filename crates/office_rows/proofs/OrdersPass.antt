@@ -17,7 +17,8 @@ use Rattle.office_core.specs.Laws.{Standing, Waiting, WithItsReader, Ended, stan
 use Rattle.office_core.specs.SoundDesk.{ExactlyOne, IsFiled, is_out_for}
 use Rattle.office_core.specs.Soundness.{IsSound}
 use Rattle.catalogue_core.specs.Sources.{is_between}
-use Rattle.office_rows.specs.DeskRows.{rows_from, OrderRow, order_row, order_rows, state_number, HoldingRow, holding_row, holding_rows}
+use Rattle.desk_core.specs.DeskRows.{OrderRow, HoldingRow}
+use Rattle.office_rows.specs.DeskShown.{rows_from, order_row, order_rows, state_number, holding_row, holding_rows}
 use Rattle.tree_core.specs.Versions.{Version}
 use Rattle.office_rows.specs.Reading.{tables}
 use Rattle.isad_core.specs.Words.{are_numbered_from}

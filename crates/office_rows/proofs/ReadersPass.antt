@@ -15,7 +15,8 @@ use Rattle.office_core.specs.Soundness.{IsSound}
 use Rattle.office_core.specs.Rules.{is_name}
 use Rattle.catalogue_core.specs.Sources.{is_between}
 use Rattle.isad_core.specs.Limits.{most_tickets, most_permits}
-use Rattle.office_rows.specs.DeskRows.{ReaderRow, reader_row, reader_rows, SeatRow, seat_rows_from, seat_rows, PermitRow, permit_row, permit_rows}
+use Rattle.desk_core.specs.DeskRows.{ReaderRow, SeatRow, PermitRow}
+use Rattle.office_rows.specs.DeskShown.{reader_row, reader_rows, seat_rows_from, seat_rows, permit_row, permit_rows}
 use Rattle.tree_core.specs.Versions.{Version}
 use Rattle.office_rows.specs.Reading.{tables}
 use Rattle.isad_core.specs.Words.{are_numbered_from}

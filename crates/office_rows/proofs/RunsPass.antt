@@ -13,7 +13,8 @@ use Rattle.catalogue_core.specs.Members.{StandsIn}
 use Rattle.office_core.specs.SoundDesk.{IsGoodLine}
 use Rattle.office_core.specs.Soundness.{IsSound}
 use Rattle.isad_core.specs.Limits.{most_runs}
-use Rattle.office_rows.specs.DeskRows.{RunRow, run_row, run_rows, RunLineRow, run_line_row, lines_from, run_line_rows, OrderRow}
+use Rattle.desk_core.specs.DeskRows.{RunRow, RunLineRow, OrderRow}
+use Rattle.office_rows.specs.DeskShown.{run_row, run_rows, run_line_row, lines_from, run_line_rows}
 use Rattle.tree_core.specs.Versions.{Version}
 use Rattle.office_rows.specs.Reading.{line_from, run_from, tables}
 use Rattle.isad_core.specs.Words.{are_numbered_from}

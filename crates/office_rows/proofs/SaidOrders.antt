@@ -10,7 +10,8 @@ use Rattle.office_core.specs.State.{End, Done, Cancelled, container_of}
 use Rattle.catalogue_core.specs.Members.{StandsIn}
 use Rattle.office_core.specs.Laws.{standing}
 use Rattle.office_core.specs.SoundDesk.{IsAscending, IsFiled, AreFiled, is_out_for}
-use Rattle.office_rows.specs.DeskRows.{OrderRow, order_row, order_rows, order_from, state_number, waiting_for, end_of, past_in, HoldingRow, place_from, place_in}
+use Rattle.desk_core.specs.DeskRows.{OrderRow, waiting_for, HoldingRow}
+use Rattle.office_rows.specs.DeskShown.{order_row, order_rows, order_from, state_number, end_of, past_in, place_from, place_in}
 use Rattle.office_rows.specs.Reading.{OfficeRows, state_of}
 use Rattle.desk_core.specs.DeskCauses.{AreInOrder, MeetsDeskKeys, is_out_order, is_at_desk, is_out_well, is_good_holding, is_holding_of, has_its_holding, are_good_holdings}
 use Rattle.office_rows.specs.Causes.{around, is_container_there}

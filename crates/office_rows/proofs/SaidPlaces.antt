@@ -15,7 +15,8 @@ use Rattle.office_core.specs.State.{Order, State, containers, is_container, orde
 use Rattle.catalogue_core.specs.Members.{StandsIn}
 use Rattle.office_core.specs.SoundDesk.{IsGoodOrder, AreGoodOrders, AreGoodPlaces}
 use Rattle.catalogue_core.specs.Sources.{is_between}
-use Rattle.office_rows.specs.DeskRows.{OrderRow, order_from, end_of, HoldingRow, holding_row, holding_rows, place_from, place_in}
+use Rattle.desk_core.specs.DeskRows.{OrderRow, HoldingRow}
+use Rattle.office_rows.specs.DeskShown.{order_from, end_of, holding_row, holding_rows, place_from, place_in}
 use Rattle.office_rows.specs.Reading.{OfficeRows, state_of}
 use Rattle.desk_core.specs.DeskCauses.{MeetsDeskKeys, is_live, are_twice}
 use Rattle.office_rows.specs.Causes.{holds_well, holder_of, is_held_against_rules, day_is_broken}

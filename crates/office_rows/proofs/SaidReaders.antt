@@ -16,7 +16,8 @@ use Rattle.office_core.specs.SoundDesk.{SitOnce, AreGoodSeats, AreGoodReaders, B
 use Rattle.office_core.specs.Soundness.{ArePermitsOfUnits}
 use Rattle.office_core.specs.Rules.{is_name}
 use Rattle.isad_core.specs.Limits.{most_permits}
-use Rattle.office_rows.specs.DeskRows.{ReaderRow, reader_row, reader_rows, reader_from, SeatRow, seat_rows_from, seat_rows, PermitRow, permit_row, permit_rows}
+use Rattle.desk_core.specs.DeskRows.{ReaderRow, SeatRow, PermitRow}
+use Rattle.office_rows.specs.DeskShown.{reader_row, reader_rows, reader_from, seat_rows_from, seat_rows, permit_row, permit_rows}
 use Rattle.office_rows.specs.Reading.{OfficeRows, state_of, seats_said, permits_said}
 use Rattle.desk_core.specs.DeskCauses.{AreInOrder, MeetsDeskKeys, is_registered}
 use Rattle.office_rows.specs.Causes.{is_unit_there}

@@ -15,7 +15,7 @@ use Rattle.catalogue_core.specs.CatalogueRows.{UnitRow, ElementRow, ContainerRow
 use Rattle.office_core.specs.Words.{numbered}
 use Rattle.office_core.specs.Laws.{numbers_from}
 use Rattle.office_core.specs.SoundOffice.{AreTexts}
-use Rattle.office_rows.specs.DeskRows.{reader_from}
+use Rattle.office_rows.specs.DeskShown.{reader_from}
 use Rattle.office_rows.specs.Reading.{OfficeRows, state_of, box_at, boxes_from, values_said, unit_from, unit_said}
 use Rattle.office_rows.specs.CellJudged.{IsLegibleUnitRow, IsLegibleContainerRow, AreLegibleRows}
 use Rattle.office_rows.proofs.RowsByNumber.{each_in}
@@ -62,7 +62,7 @@ module _ (t : OfficeRows) (l : AreLegibleRows t) where
   boxes : AllByRecursion IsLegibleBox (map box_from t.catalogue.containers)
   boxes = boxes_legible t.catalogue.containers l.containers
 
-  values_legible : (u : ℕ) (level : Bytes) → IsUtf8 level → AreLegibleValues (values_said t u level)
+  values_legible : (u : ℕ) (level : Bytes) → IsUtf8 level → AreLegibleValues (values_said t.catalogue u level)
   values_legible u level h =
       record {
         level = h;
@@ -70,17 +70,17 @@ module _ (t : OfficeRows) (l : AreLegibleRows t) where
         boxes = own_boxes_legible (map box_from t.catalogue.containers) (housings_of u t.catalogue.housings) 1 (length (housings_of u t.catalogue.housings)) boxes;
       }
 
-  unit_legible : (u : ℕ) → HasLegibleTexts (unit_said t u)
+  unit_legible : (u : ℕ) → HasLegibleTexts (unit_said t.catalogue u)
   unit_legible u = at (find (λ (row : UnitRow). nat_eq row.id u) t.catalogue.units) refl
     where
       at : (r : Option UnitRow) → find (λ (row : UnitRow). nat_eq row.id u) t.catalogue.units ≡ r
-          → HasLegibleTexts (unwrap_or (option_map (unit_from t) r) (record { id = u; source = []; legacy = []; values = values_said t u []; draft = false; until = None }))
+          → HasLegibleTexts (unwrap_or (option_map (unit_from t.catalogue) r) (record { id = u; source = []; legacy = []; values = values_said t.catalogue u []; draft = false; until = None }))
       at None e = record { source = no_text; legacy = no_text; values = values_legible u [] no_text }
       at (Some row) e =
           let texts = each_in IsLegibleUnitRow t.catalogue.units row l.units (find_some (λ (row : UnitRow). nat_eq row.id u) t.catalogue.units row e).0 in
           record { source = texts.source; legacy = texts.legacy; values = values_legible row.id row.level texts.level }
 
-  units_legible : (us : List ℕ) → AllByRecursion HasLegibleTexts (map (unit_said t) us)
+  units_legible : (us : List ℕ) → AllByRecursion HasLegibleTexts (map (unit_said t.catalogue) us)
   units_legible [] = tt
   units_legible (u ∷ us) = (unit_legible u, units_legible us)
 
@@ -90,7 +90,7 @@ module _ (t : OfficeRows) (l : AreLegibleRows t) where
         country = l.country;
         repo = l.repo;
         catalogue = record {
-          units = subst (AllByRecursion HasLegibleTexts) (sym (nodes-each (unit_said t) (places_said t.catalogue.places))) (units_legible (nodes (places_said t.catalogue.places)));
+          units = subst (AllByRecursion HasLegibleTexts) (sym (nodes-each (unit_said t.catalogue) (places_said t.catalogue.places))) (units_legible (nodes (places_said t.catalogue.places)));
           containers = boxes;
         };
         readers = readers_said t.desk.readers l.readers;

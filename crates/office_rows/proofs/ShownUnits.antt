@@ -139,7 +139,7 @@ units_shown version s g =
     let given = each_in (λ (unit : Unit). (1 ≤ unit.id) × (unit.id < s.catalogue.next)) us r.it g.units.given r.there in
     subst (λ n. is_unit_number n ≡ true) r.is (between 1 most_unit_numbers r.it.id given.0 (omega (arith, given, next))) in
     let t = tables version s in
-    let same_height : height (places_said t.catalogue.places) ≡ height s.catalogue.forest = sym (height-each (unit_said t) (places_said t.catalogue.places)) ∙ ap (λ g. height g) (units_back version s g.units.ids g.units.each) in
+    let same_height : height (places_said t.catalogue.places) ≡ height s.catalogue.forest = sym (height-each (unit_said t.catalogue) (places_said t.catalogue.places)) ∙ ap (λ g. height g) (units_back version s g.units.ids g.units.each) in
     let deep : height (places_said t.catalogue.places) ≤ most_deep = subst (λ n. n ≤ most_deep) (sym same_height) g.units.depth in
     record {
       places = places_shown version f apart numbers (omega (arith, few, same_count));

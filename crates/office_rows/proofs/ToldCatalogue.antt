@@ -151,7 +151,7 @@ good_rows version t p h =
       placed = b.0;
       told = c.0;
       few = leb-true (length t.catalogue.units) most_units d.0;
-      depth = subst (λ n. n ≤ most_deep) (sym (height-each (unit_said t) (places_said t.catalogue.places))) (leb-true (height (places_said t.catalogue.places)) most_deep d.1);
+      depth = subst (λ n. n ≤ most_deep) (sym (height-each (unit_said t.catalogue) (places_said t.catalogue.places))) (leb-true (height (places_said t.catalogue.places)) most_deep d.1);
     }
 
 units_of : (version : Version) (t : OfficeRows) → ArePlaced version t.catalogue.places (places_said t.catalogue.places) → AreGoodRows t → AreUnitsOf t (places_said t.catalogue.places)
@@ -178,7 +178,7 @@ names_apart (u ∷ us) d = (others us d.0, names_apart us d.1)
 alike_flips : (a b : UnitRow) → is_named_alike a b ≡ is_named_alike b a
 alike_flips a b = grind (arith, bytes_eq-Decides a.source b.source, bytes_eq-Decides b.source a.source, bytes_eq-Decides a.legacy b.legacy, bytes_eq-Decides b.legacy a.legacy)
 
-good_unit : (t : OfficeRows) (row : UnitRow) → IsGoodRow t.office.next_unit row → ((e : ElementRow) → In e t.catalogue.elements → is_blank_text e.value ≡ false) → distinct (boxes_said (map box_from t.catalogue.containers) t.catalogue.housings row.id) ≡ boxes_said (map box_from t.catalogue.containers) t.catalogue.housings row.id → IsGoodUnit (map box_from t.catalogue.containers) (unit_from t row)
+good_unit : (t : OfficeRows) (row : UnitRow) → IsGoodRow t.office.next_unit row → ((e : ElementRow) → In e t.catalogue.elements → is_blank_text e.value ≡ false) → distinct (boxes_said (map box_from t.catalogue.containers) t.catalogue.housings row.id) ≡ boxes_said (map box_from t.catalogue.containers) t.catalogue.housings row.id → IsGoodUnit (map box_from t.catalogue.containers) (unit_from t.catalogue row)
 good_unit t row g e d =
     record {
       source = g.source;
@@ -195,9 +195,9 @@ all_mapped : (P : Unit → Type 0) (g : ℕ → Unit) (us : List ℕ) → ((u : 
 all_mapped P g [] h = tt
 all_mapped P g (u ∷ us) h = (h u (inl refl), all_mapped P g us (λ v i. h v (inr i)))
 
-ids_said : (t : OfficeRows) (us : List ℕ) → map (λ (unit : Unit). unit.id) (map (unit_said t) us) ≡ us
+ids_said : (t : OfficeRows) (us : List ℕ) → map (λ (unit : Unit). unit.id) (map (unit_said t.catalogue) us) ≡ us
 ids_said t [] = refl
-ids_said t (u ∷ us) = ap (λ v. v ∷ map (λ (unit : Unit). unit.id) (map (unit_said t) us)) (said_id t u) ∙ ap (λ l. u ∷ l) (ids_said t us)
+ids_said t (u ∷ us) = ap (λ v. v ∷ map (λ (unit : Unit). unit.id) (map (unit_said t.catalogue) us)) (said_id t u) ∙ ap (λ l. u ∷ l) (ids_said t us)
 
 -- ---- the containers
 
@@ -250,8 +250,8 @@ module _ (version : Version) (t : OfficeRows) (k : MeetsCatalogueKeys t.catalogu
   office = good_office version t.office n.office
 
   -- what is so of each unit of a row is so of each unit
-  of_units : (P : Unit → Type 0) → ((row : UnitRow) → In row t.catalogue.units → P (unit_from t row)) → AllByRecursion P (nodes (state_of t).catalogue.forest)
-  of_units P h = subst (AllByRecursion P) (sym (nodes-each (unit_said t) (places_said t.catalogue.places))) (all_mapped P (unit_said t) (nodes (places_said t.catalogue.places)) (each_said t (places_said t.catalogue.places) P k.units units h))
+  of_units : (P : Unit → Type 0) → ((row : UnitRow) → In row t.catalogue.units → P (unit_from t.catalogue row)) → AllByRecursion P (nodes (state_of t).catalogue.forest)
+  of_units P h = subst (AllByRecursion P) (sym (nodes-each (unit_said t.catalogue) (places_said t.catalogue.places))) (all_mapped P (unit_said t.catalogue) (nodes (places_said t.catalogue.places)) (each_said t (places_said t.catalogue.places) P k.units units h))
 
   sound_units : AreGoodUnits (state_of t).catalogue
   sound_units =
@@ -262,7 +262,7 @@ module _ (version : Version) (t : OfficeRows) (k : MeetsCatalogueKeys t.catalogu
       record {
         each = of_units (IsGoodUnit (map box_from t.catalogue.containers)) (λ row i. good_unit t row (rows.each row i) (λ e j. (element e j).filled)
             (said_apart (map box_from t.catalogue.containers) t.catalogue.housings (nodes (places_said t.catalogue.places)) boxes_differ k.housings housing k.housed_once row.id));
-        ids = subst (IsDistinct nat_eq) (sym (ap (map (λ (unit : Unit). unit.id)) (nodes-each (unit_said t) (places_said t.catalogue.places)) ∙ ids_said t (nodes (places_said t.catalogue.places)))) placed.apart;
+        ids = subst (IsDistinct nat_eq) (sym (ap (map (λ (unit : Unit). unit.id)) (nodes-each (unit_said t.catalogue) (places_said t.catalogue.places)) ∙ ids_said t (nodes (places_said t.catalogue.places)))) placed.apart;
         pairs = names_apart (nodes f) (IsDistinct-IsPermutation is_named_alike alike_flips t.catalogue.units (map unit_row (nodes f)) (IsPermutation-sym (map unit_row (nodes f)) t.catalogue.units reordered) k.names);
         given = of_units (λ (unit : Unit). (1 ≤ unit.id) × (unit.id < t.office.next_unit)) (λ row i. (rows.each row i).given);
         next = office.next;
@@ -298,11 +298,11 @@ module _ (version : Version) (t : OfficeRows) (k : MeetsCatalogueKeys t.catalogu
         housings = housings_are_said t f placed.apart boxes_differ k.housings housing;
       }
     where
-      numbers_back : (g : Forest ℕ) → each number_of (each (unit_said t) g) ≡ g
+      numbers_back : (g : Forest ℕ) → each number_of (each (unit_said t.catalogue) g) ≡ g
       numbers_back Empty = refl
       numbers_back (Node u c o) =
-          ap (λ v. Node v (each number_of (each (unit_said t) c)) (each number_of (each (unit_said t) o))) (said_id t u)
-          ∙ (ap (λ x. Node u x (each number_of (each (unit_said t) o))) (numbers_back c) ∙ ap (λ x. Node u c x) (numbers_back o))
+          ap (λ v. Node v (each number_of (each (unit_said t.catalogue) c)) (each number_of (each (unit_said t.catalogue) o))) (said_id t u)
+          ∙ (ap (λ x. Node u x (each number_of (each (unit_said t.catalogue) o))) (numbers_back c) ∙ ap (λ x. Node u c x) (numbers_back o))
 
 pub catalogue_is_said : (version : Version) (t : OfficeRows) → SaysTheCatalogue version t
 catalogue_is_said version t k h = let n = no_cause version t h in (sound version t k n, shown version t k n)

@@ -106,15 +106,15 @@ good_element units row h =
     }
 
 pub elements_are_said : (t : OfficeRows) (f : Forest ℕ) → IsDistinct nat_eq (nodes f) → IsDistinct is_same_element t.catalogue.elements → ((row : ElementRow) → In row t.catalogue.elements → (In row.k numbers) × (In row.unit (nodes f)))
-    → IsPermutation (flat_map (λ (unit : Unit). element_rows_from unit.id 1 unit.values.texts) (nodes (each (unit_said t) f))) t.catalogue.elements
+    → IsPermutation (flat_map (λ (unit : Unit). element_rows_from unit.id 1 unit.values.texts) (nodes (each (unit_said t.catalogue) f))) t.catalogue.elements
 elements_are_said t f a d h =
     let key : ElementRow → ℕ = λ row. row.unit in
     let shown : Unit → List ElementRow = λ unit. element_rows_from unit.id 1 unit.values.texts in
     let of : ℕ → List ElementRow = λ u. element_rows_from u 1 (map (text_said t.catalogue.elements u) (numbers_from 1 25)) in
-    let same : flat_map shown (nodes (each (unit_said t) f)) ≡ flat_map of (nodes f) =
-    ap (flat_map shown) (nodes-each (unit_said t) f)
-    ∙ (flat_map-map shown (unit_said t) (nodes f)
-    ∙ flat_map_same (λ u. shown (unit_said t u)) of (nodes f) (λ u i. ap (λ n. element_rows_from n 1 (unit_said t u).values.texts) (said_id t u) ∙ ap (element_rows_from u 1) (said_texts t u))) in
+    let same : flat_map shown (nodes (each (unit_said t.catalogue) f)) ≡ flat_map of (nodes f) =
+    ap (flat_map shown) (nodes-each (unit_said t.catalogue) f)
+    ∙ (flat_map-map shown (unit_said t.catalogue) (nodes f)
+    ∙ flat_map_same (λ u. shown (unit_said t.catalogue u)) of (nodes f) (λ u i. ap (λ n. element_rows_from n 1 (unit_said t.catalogue u).values.texts) (said_id t u) ∙ ap (element_rows_from u 1) (said_texts t u))) in
     subst (λ l. IsPermutation l t.catalogue.elements) (sym same)
     (IsPermutation-trans (flat_map of (nodes f)) (flat_map (λ u. mine u t.catalogue.elements) (nodes f)) t.catalogue.elements
     (flat_map_reordered of (λ u. mine u t.catalogue.elements) (nodes f) (λ u i.

@@ -20,7 +20,7 @@ use Rattle.catalogue_core.specs.Units.{Unit}
 use Rattle.catalogue_core.specs.Merging.{box_number}
 use Rattle.office_core.specs.Laws.{numbers_from}
 use Rattle.office_core.specs.Words.{numbered}
-use Rattle.office_rows.specs.DeskRows.{rows_from}
+use Rattle.office_rows.specs.DeskShown.{rows_from}
 use Rattle.catalogue_core.specs.CatalogueRows.{HousingRow, housing_row, box_from, housings_of}
 use Rattle.office_rows.specs.Reading.{OfficeRows, box_at, boxes_from, boxes_said, unit_said}
 use Rattle.catalogue_core.specs.CatalogueCauses.{is_same_place, is_housed_alike}
@@ -144,15 +144,15 @@ said_known boxes mine n (suc more) = at (at_place n mine) (said_known boxes mine
 
 pub housings_are_said : (t : OfficeRows) (f : Forest ℕ) → IsDistinct nat_eq (nodes f) → IsDistinct is_same_box (map box_from t.catalogue.containers) → IsDistinct is_same_place t.catalogue.housings
     → ((row : HousingRow) → In row t.catalogue.housings → IsGoodHousing (map box_from t.catalogue.containers) (nodes f) t.catalogue.housings row)
-    → IsPermutation (flat_map (λ (unit : Unit). rows_from (housing_row (map box_from t.catalogue.containers) unit.id) 1 unit.values.boxes) (nodes (each (unit_said t) f))) t.catalogue.housings
+    → IsPermutation (flat_map (λ (unit : Unit). rows_from (housing_row (map box_from t.catalogue.containers) unit.id) 1 unit.values.boxes) (nodes (each (unit_said t.catalogue) f))) t.catalogue.housings
 housings_are_said t f a b p h =
     let boxes : List BoxKey = map box_from t.catalogue.containers in
     let shown : Unit → List HousingRow = λ unit. rows_from (housing_row boxes unit.id) 1 unit.values.boxes in
     let of : ℕ → List HousingRow = λ u. rows_from (housing_row boxes u) 1 (boxes_said boxes t.catalogue.housings u) in
-    let same : flat_map shown (nodes (each (unit_said t) f)) ≡ flat_map of (nodes f) =
-    ap (flat_map shown) (nodes-each (unit_said t) f)
-    ∙ (flat_map-map shown (unit_said t) (nodes f)
-    ∙ flat_map_same (λ u. shown (unit_said t u)) of (nodes f) (λ u i. ap (λ n. rows_from (housing_row boxes n) 1 (unit_said t u).values.boxes) (said_id t u) ∙ ap (rows_from (housing_row boxes u) 1) (said_boxes t u))) in
+    let same : flat_map shown (nodes (each (unit_said t.catalogue) f)) ≡ flat_map of (nodes f) =
+    ap (flat_map shown) (nodes-each (unit_said t.catalogue) f)
+    ∙ (flat_map-map shown (unit_said t.catalogue) (nodes f)
+    ∙ flat_map_same (λ u. shown (unit_said t.catalogue u)) of (nodes f) (λ u i. ap (λ n. rows_from (housing_row boxes n) 1 (unit_said t.catalogue u).values.boxes) (said_id t u) ∙ ap (rows_from (housing_row boxes u) 1) (said_boxes t u))) in
     subst (λ l. IsPermutation l t.catalogue.housings) (sym same)
     (IsPermutation-trans (flat_map of (nodes f)) (flat_map (λ u. housings_of u t.catalogue.housings) (nodes f)) t.catalogue.housings
     (flat_map_reordered of (λ u. housings_of u t.catalogue.housings) (nodes f) (λ u i. own_housings boxes t.catalogue.housings (nodes f) b p h u))

@@ -20,7 +20,7 @@ use Rattle.office_core.specs.State.{State}
 use Rattle.catalogue_core.specs.GoodCatalogues.{IsGoodUnit}
 use Rattle.office_core.specs.Words.{numbered}
 use Rattle.office_core.specs.Laws.{numbers_from}
-use Rattle.office_rows.specs.DeskRows.{rows_from}
+use Rattle.office_rows.specs.DeskShown.{rows_from}
 use Rattle.tree_core.specs.Versions.{Version, Links, Spans}
 use Rattle.catalogue_core.specs.CatalogueRows.{UnitRow, unit_row, ElementRow, after_level, element_rows_from, HousingRow, housing_row, text_said, container_row, box_from, places_said, place_rows}
 use Rattle.office_rows.specs.Reading.{number_of, box_at, boxes_from, boxes_said, OfficeRows, tables, values_said, unit_from, unit_said, SaysUnits}
@@ -217,7 +217,7 @@ pub record HasRows (t : OfficeRows) (boxes : List BoxKey) (u : Unit) : Type 0 wh
   pub elements : filter (λ (r : ElementRow). nat_eq r.unit u.id) t.catalogue.elements ≡ element_rows_from u.id 1 u.values.texts
   pub housings : filter (λ (r : HousingRow). nat_eq r.unit u.id) t.catalogue.housings ≡ rows_from (housing_row boxes u.id) 1 u.values.boxes
 
-pub unit_back : (t : OfficeRows) (boxes : List BoxKey) (u : Unit) → map box_from t.catalogue.containers ≡ boxes → HasRows t boxes u → IsGoodUnit boxes u → unit_said t u.id ≡ u
+pub unit_back : (t : OfficeRows) (boxes : List BoxKey) (u : Unit) → map box_from t.catalogue.containers ≡ boxes → HasRows t boxes u → IsGoodUnit boxes u → unit_said t.catalogue u.id ≡ u
 unit_back t boxes u c h g =
     let texts : map (text_said t.catalogue.elements u.id) (numbers_from 1 25) ≡ u.values.texts =
     ap (λ f. map f (numbers_from 1 25)) (fun_ext (λ k. ap (option_map (λ (row : ElementRow). row.value)) (found_kept (λ (row : ElementRow). nat_eq row.unit u.id) (λ (row : ElementRow). nat_eq row.k (after_level k)) t.catalogue.elements) ∙ ap (value_at k) h.elements))
@@ -226,8 +226,8 @@ unit_back t boxes u c h g =
     ap (λ k. boxes_said k t.catalogue.housings u.id) c
     ∙ (ap (λ mine. boxes_from boxes mine 1 (length mine)) h.housings
     ∙ (ap (λ n. boxes_from boxes (rows_from (housing_row boxes u.id) 1 u.values.boxes) 1 n) (length-rows boxes u.id 1 u.values.boxes) ∙ boxes_back boxes u.id 1 u.values.boxes g.known)) in
-    let none : Unit = record { id = u.id; source = []; legacy = []; values = values_said t u.id []; draft = false; until = None } in
-    ap (λ r. unwrap_or (option_map (unit_from t) r) none) h.row
+    let none : Unit = record { id = u.id; source = []; legacy = []; values = values_said t.catalogue u.id []; draft = false; until = None } in
+    ap (λ r. unwrap_or (option_map (unit_from t.catalogue) r) none) h.row
     ∙ (ap (λ x. record u { values = record { level = u.values.level; texts = x; boxes = boxes_said (map box_from t.catalogue.containers) t.catalogue.housings u.id } }) texts
     ∙ ap (λ x. record u { values = record { level = u.values.level; texts = u.values.texts; boxes = x } }) bs)
 
@@ -270,7 +270,7 @@ pub units_back : (version : Version) (s : State) → IsDistinct nat_eq (map numb
 units_back version s d g =
     let t = tables version s in
     let c = rows_back container_row box_from (λ n box. refl) 1 s.catalogue.containers in
-    ap (each (unit_said t)) (places_back version s.catalogue.forest d)
-    ∙ (each_each number_of (unit_said t) s.catalogue.forest
-    ∙ each_same (λ u. unit_said t u.id) s.catalogue.forest
-    (all_two (HasRows t s.catalogue.containers) (IsGoodUnit s.catalogue.containers) (λ u. unit_said t u.id ≡ u) (λ u h k. unit_back t s.catalogue.containers u c h k) (nodes s.catalogue.forest) (all_rows version s d) g))
+    ap (each (unit_said t.catalogue)) (places_back version s.catalogue.forest d)
+    ∙ (each_each number_of (unit_said t.catalogue) s.catalogue.forest
+    ∙ each_same (λ u. unit_said t.catalogue u.id) s.catalogue.forest
+    (all_two (HasRows t s.catalogue.containers) (IsGoodUnit s.catalogue.containers) (λ u. unit_said t.catalogue u.id ≡ u) (λ u h k. unit_back t s.catalogue.containers u c h k) (nodes s.catalogue.forest) (all_rows version s d) g))

@@ -6,13 +6,13 @@ use Rattle.isad_core.specs.declared.values.BoxKey.{BoxKey}
 use Rattle.isad_core.specs.declared.values.Values.{Values}
 use Rattle.tree_core.specs.Forest.{nodes, each}
 use Rattle.tree_core.specs.Versions.{version_number, Version}
-use Rattle.desk_core.specs.DeskRows.{Desk}
+use Rattle.desk_core.specs.DeskRows.{Desk, SeatRow, waiting_for, RunRow, RunLineRow, PermitRow}
 use Rattle.catalogue_core.specs.Units.{Unit}
 use Rattle.catalogue_core.specs.CatalogueRows.{CatalogueRows, OfficeRow, UnitRow, unit_row, element_rows_from, container_row, HousingRow, housing_row, place_rows, places_said, box_from, text_said, housings_of}
 use Rattle.office_core.specs.Words.{numbered}
 use Rattle.office_core.specs.Laws.{numbers_from}
 use Rattle.office_core.specs.State.{Line, Run, Permit, State}
-use Rattle.office_rows.specs.DeskRows.{rows_from, reader_rows, reader_from, SeatRow, seat_rows, order_rows, order_from, waiting_for, past_in, holding_rows, place_in, RunRow, run_rows, RunLineRow, run_line_rows, PermitRow, permit_rows}
+use Rattle.office_rows.specs.DeskShown.{rows_from, reader_rows, reader_from, seat_rows, order_rows, order_from, past_in, holding_rows, place_in, run_rows, run_line_rows, permit_rows}
 
 -- ---- all tables
 
@@ -74,30 +74,30 @@ boxes_from boxes mine n more =
 abbrev pub boxes_said : List BoxKey → List HousingRow → ℕ → List BoxKey
 boxes_said boxes housings u = boxes_from boxes (housings_of u housings) 1 (length (housings_of u housings))
 
-abbrev pub values_said : OfficeRows → ℕ → Bytes → Values
-values_said t u level =
+abbrev pub values_said : CatalogueRows → ℕ → Bytes → Values
+values_said c u level =
     record {
       level = level;
-      texts = map (text_said t.catalogue.elements u) (numbers_from 1 25);
-      boxes = boxes_said (map box_from t.catalogue.containers) t.catalogue.housings u;
+      texts = map (text_said c.elements u) (numbers_from 1 25);
+      boxes = boxes_said (map box_from c.containers) c.housings u;
     }
 
-abbrev pub unit_from : OfficeRows → UnitRow → Unit
-unit_from t row =
+abbrev pub unit_from : CatalogueRows → UnitRow → Unit
+unit_from c row =
     record {
       id = row.id;
       source = row.source;
       legacy = row.legacy;
-      values = values_said t row.id row.level;
+      values = values_said c row.id row.level;
       draft = row.draft;
       until = row.until;
     }
 
 -- the unit of a number; where no row tells of it, an empty one
-abbrev pub unit_said : OfficeRows → ℕ → Unit
-unit_said t u =
-    unwrap_or (option_map (unit_from t) (find (λ (row : UnitRow). nat_eq row.id u) t.catalogue.units))
-    (record { id = u; source = []; legacy = []; values = values_said t u []; draft = false; until = None })
+abbrev pub unit_said : CatalogueRows → ℕ → Unit
+unit_said c u =
+    unwrap_or (option_map (unit_from c) (find (λ (row : UnitRow). nat_eq row.id u) c.units))
+    (record { id = u; source = []; legacy = []; values = values_said c u []; draft = false; until = None })
 
 -- who sits on the seats from n on, so many in all
 abbrev pub seats_said : ℕ → ℕ → List SeatRow → List (Option ℕ)
@@ -129,7 +129,7 @@ state_of t =
       };
       day = t.office.day;
       catalogue = record {
-        forest = each (unit_said t) (places_said t.catalogue.places);
+        forest = each (unit_said t.catalogue) (places_said t.catalogue.places);
         containers = map box_from t.catalogue.containers;
         next = t.office.next_unit;
       };

@@ -3,7 +3,7 @@
 ghost use Rattle.std.specs.Prelude.{◌≡◌, ℕ, List};
 ghost use Rattle.office_core.specs.State.{State};
 ghost use Rattle.office_core.specs.SoundDesk.{IsSoundDesk};
-ghost use Rattle.office_rows.specs.DeskRows.{OneRowChanges};
+ghost use Rattle.office_rows.specs.DeskShown.{OneRowChanges};
 ghost use Rattle.tree_core.specs.Forest.{Forest};
 ghost use Rattle.tree_core.specs.Spans.{number};
 ghost use Rattle.tree_core.specs.Links.{HoldsLinks};

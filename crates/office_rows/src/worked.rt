@@ -1,9 +1,9 @@
 //! Rows of small offices, worked by hand, and the causes against them.
 
-ghost use Rattle.office_rows.specs.CatalogueCausesRows as causes;
-ghost use Rattle.office_rows.specs.CellCausesRows as cell_causes;
-ghost use Rattle.office_rows.specs.DeskCausesRows as desk_causes;
-ghost use Rattle.office_rows.specs.ReadingRows as tables;
+ghost use Rattle.office_rows.specs.WorkedCatalogueCauses as causes;
+ghost use Rattle.office_rows.specs.WorkedCells as cell_causes;
+ghost use Rattle.office_rows.specs.WorkedDeskCauses as desk_causes;
+ghost use Rattle.office_rows.specs.WorkedReading as tables;
 ghost use Rattle.office_core.specs.WorkedReplies as row;
 
 /// The rows of small offices say the states that they show, in both versions.

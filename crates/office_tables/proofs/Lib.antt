@@ -1,5 +1,6 @@
 pub mod Reading
 pub mod Casts
+pub mod CellTexts
 pub mod Sorted
 pub mod Tests
 pub mod Rows

@@ -1,6 +1,9 @@
 pub mod Schema
 pub mod Step
 pub mod Faults
+pub mod Cells
+pub mod CatalogueCells
+pub mod DeskCells
 pub mod Transactions
 pub mod Put
 pub mod Counting

@@ -1,4 +1,4 @@
-use Rattle.office_rows.proofs.CellCausesRows.{told}
+use Rattle.office_rows.proofs.WorkedCells.{told}
 use Rattle.office_rows.proofs.worked.worked_cell_causes.Goals as goal
 
 pub returns : goal.returns

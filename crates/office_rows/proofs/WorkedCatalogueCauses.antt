@@ -1,7 +1,7 @@
 -- What the causes 1 to 5 say of a small office, computed.
 use Rattle.std.proofs.Common.{refl}
 use Rattle.catalogue_core.specs.Housing.{is_open}
-use Rattle.office_rows.specs.CatalogueCausesRows.{Told}
+use Rattle.office_rows.specs.WorkedCatalogueCauses.{Told}
 
 pub told : Told
 unfolding is_open

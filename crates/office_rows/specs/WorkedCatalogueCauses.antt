@@ -6,7 +6,7 @@ use Rattle.tree_core.specs.Versions.{Links, Spans}
 use Rattle.catalogue_core.specs.CatalogueRows.{CatalogueRows, LinkRows, SpanRows, ElementRow, ContainerRow, HousingRow}
 use Rattle.office_rows.specs.Reading.{OfficeRows}
 use Rattle.office_rows.specs.Causes.{cause}
-use Rattle.office_rows.specs.DeskCausesRows.{sound as office_rows, catalogue as plans_housed, plans, many_units}
+use Rattle.office_rows.specs.WorkedDeskCauses.{sound as office_rows, catalogue as plans_housed, plans, many_units}
 
 -- its unit has a title
 abbrev pub title : ElementRow

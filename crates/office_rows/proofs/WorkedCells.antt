@@ -1,6 +1,6 @@
 -- What is told of rows with a cell that its column cannot have, computed.
 use Rattle.std.proofs.Common.{refl}
-use Rattle.office_rows.specs.CellCausesRows.{Told}
+use Rattle.office_rows.specs.WorkedCells.{Told}
 
 pub told : Told
 told =
