@@ -15,8 +15,10 @@ ghost use Rattle.office_core.specs.declared.query.Query.{Query};
 /// Queries change nothing: the state after commands and queries is that after the commands alone, and so are the
 /// replies.
 pub fn queries_change_nothing()
-    ensures state { (s : State) (asked : List Asked) → state_after_all s asked ≡ state_after s (commands_of asked) }
-    ensures replies { (s : State) (asked : List Asked) → replies_of (all_told s asked) ≡ replies s (commands_of asked) }
+    ensures state { (s : State) (asked : List Asked) →
+        state_after_all s asked ≡ state_after s (commands_of asked) }
+    ensures replies { (s : State) (asked : List Asked) →
+        replies_of (all_told s asked) ≡ replies s (commands_of asked) }
 {}
 
 /// Each answer is of the state that the commands before it made.
@@ -26,8 +28,8 @@ pub fn answers_are_of_their_time()
         ∷ all_told (state_after s (commands_of before)) later }
 {}
 
-/// An import may go row by row, from the catalogue before: it gives what merging all rows gives, with the same counts and
-/// remarks, or the same first fault.
+/// An import may go row by row, from the catalogue before: it gives what merging all rows gives, with the same counts
+/// and remarks, or the same first fault.
 pub fn imports_row_by_row()
     ensures takes { (s : State) → IsSound s → TakesRowByRow s }
     ensures faults { (s : State) → IsSound s → FaultsRowByRow s }
@@ -40,5 +42,6 @@ pub fn settings_without_a_fault()
     ensures first { wrong_setting
         (record { country = codes "gb"; repo = []; seats = 0; daily = 3; hands = 1; run_size = 2 }) ≡ Some Country }
     ensures later { wrong_setting
-        (record { country = codes "GB"; repo = codes "0999"; seats = 2; daily = 3; hands = 11; run_size = 0 }) ≡ Some Hands }
+        (record { country = codes "GB"; repo = codes "0999"; seats = 2; daily = 3; hands = 11; run_size = 0 })
+        ≡ Some Hands }
 {}
