@@ -1,4 +1,6 @@
 pub mod Units
+pub mod CatalogueRows
+pub mod CatalogueCauses
 pub mod Merging
 pub mod Publishing
 pub mod Finding

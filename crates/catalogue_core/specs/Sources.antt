@@ -2,9 +2,7 @@
 use Rattle.std.specs.Prelude.{ℕ, Bool, ◌&&◌, ◌||◌, length, nat_eq, nat_le}
 use Rattle.std.specs.List.{list_all}
 use Rattle.isad_core.specs.Texts.{Bytes}
-
-abbrev pub is_between : ℕ → ℕ → ℕ → Bool
-is_between low high b = nat_le low b && nat_le b high
+pub use Rattle.isad_core.specs.Words.{is_between}
 
 -- an ASCII letter, a digit, a dot, a low line or a hyphen
 abbrev pub is_source_letter : ℕ → Bool

@@ -1,6 +1,8 @@
 pub mod Checks
 pub mod Decisions
+pub mod DeskCauses
 pub mod DeskRows
+pub mod Names
 pub mod Orders
 pub mod Refusals
 pub mod Runs

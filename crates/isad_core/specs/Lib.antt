@@ -9,3 +9,4 @@ pub mod Texts
 pub mod Values
 pub mod Worked
 pub mod Legible
+pub mod Words

@@ -1,10 +1,11 @@
 -- The rules of the office: what each command asks for, in order, what it does, and what is told of it.
-use Rattle.std.specs.Prelude.{option_map, ℕ, ℤ, int_lt, zero, suc, Bool, not, ◌&&◌, cond, List, [], ◌∷◌, ◌++◌, length, filter, replicate, Option, Some, None, Result, Ok, Err, unwrap_or, is_some, nat_eq, nat_lt, nat_le}
-use Rattle.std.specs.List.{list_any, list_all}
+use Rattle.std.specs.Prelude.{option_map, ℕ, ℤ, int_lt, zero, suc, Bool, not, ◌&&◌, cond, List, [], ◌∷◌, ◌++◌, length, filter, replicate, Option, Some, None, Result, Ok, Err, unwrap_or, is_some, nat_lt, nat_le}
+use Rattle.std.specs.List.{list_any}
 use Rattle.isad_core.specs.Limits.{most_deep, most_tickets, most_runs, most_permits}
-use Rattle.isad_core.specs.Texts.{Bytes, is_blank_text}
+use Rattle.isad_core.specs.Texts.{Bytes}
 use Rattle.tree_core.specs.Forest.{branch, has_place}
 use Rattle.desk_core.specs.Checks.{order_checks, issue_checks, take_seat_checks, leave_seat_checks}
+pub use Rattle.desk_core.specs.Names.{is_name}
 use Rattle.desk_core.specs.Refusals.{Check, when, unless, first_that_holds}
 use Rattle.desk_core.specs.declared.reader.Place.{Place}
 use Rattle.desk_core.specs.declared.reader.Place.TheVariants.{Shelf, Desk, Out}
@@ -24,14 +25,6 @@ use Rattle.office_core.specs.State as state
 use Rattle.catalogue_core.specs.Intake.{Taken, take}
 use Rattle.office_core.specs.ImportReply.{bad_file, too_much, told_of}
 use Rattle.catalogue_core.specs.Sources.{is_source}
-
--- ---- names
-
--- a reader's name: 1 to 100 bytes, not blank, without control characters
-abbrev pub is_name : Bytes → Bool
-is_name name =
-    nat_le 1 (length name) && (nat_le (length name) 100
-    && (not (is_blank_text name) && list_all (λ b. nat_le 32 b && not (nat_eq b 127)) name))
 
 -- ---- the gate
 

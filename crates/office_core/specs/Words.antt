@@ -1,6 +1,6 @@
 -- Words of the rules that are not about a reading room.
 use Rattle.std.specs.Prelude.{ℕ, zero, suc, Bool, true, false, not, cond, List, [], ◌∷◌, ◌++◌, Option, Some, None, nat_eq, slice_get, option_map, filter}
-use Rattle.std.specs.List.{list_any}
+pub use Rattle.isad_core.specs.Words.{some_and, stands}
 
 -- the n-th of a list, counted from 1
 abbrev pub numbered : {X : Type 0} → List X → ℕ → Option X
@@ -15,11 +15,6 @@ numbers_to (suc n) = numbers_to n ++ suc n ∷ []
 -- the function with another value at n
 abbrev pub put : {X : Type 0} → (ℕ → X) → ℕ → X → ℕ → X
 put f n x m = cond (nat_eq n m) x (f m)
-
--- there is a value, and it passes
-abbrev pub some_and : {X : Type 0} → (X → Bool) → Option X → Bool
-some_and test None = false
-some_and test (Some x) = test x
 
 -- the first that passes
 abbrev pub first_that : {X : Type 0} → (X → Bool) → List X → Option X
@@ -39,10 +34,6 @@ first (x ∷ xs) = Some x
 abbrev pub is_empty : {X : Type 0} → List X → Bool
 is_empty [] = true
 is_empty (x ∷ xs) = false
-
--- whether the number stands in the list
-abbrev pub stands : ℕ → List ℕ → Bool
-stands n ns = list_any (nat_eq n) ns
 
 -- the list without the number
 abbrev pub without : ℕ → List ℕ → List ℕ

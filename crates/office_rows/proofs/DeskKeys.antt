@@ -10,10 +10,11 @@ use Rattle.office_core.specs.Words.{numbers_to}
 use Rattle.office_core.specs.State.{State, Line, Run, Permit, is_seat_of, containers}
 use Rattle.catalogue_core.specs.Members.{StandsIn}
 use Rattle.office_core.specs.SoundDesk.{IsAscending, SitOnce, ByContainer, ByUnit, IsSoundDesk}
-use Rattle.office_rows.specs.DeskRows.{ReaderRow, reader_row, SeatRow, seat_rows_from, OrderRow, order_row, HoldingRow, holding_row, RunRow, run_row, RunLineRow, run_line_row, lines_from, PermitRow, permit_row}
+use Rattle.desk_core.specs.DeskRows.{ReaderRow, SeatRow, OrderRow, HoldingRow, RunRow, RunLineRow, PermitRow}
+use Rattle.office_rows.specs.DeskShown.{reader_row, seat_rows_from, order_row, holding_row, run_row, run_line_row, lines_from, permit_row}
 use Rattle.tree_core.specs.Versions.{Version}
 use Rattle.office_rows.specs.Reading.{tables}
-use Rattle.office_rows.specs.DeskCauses.{AreInOrder, MeetsDeskKeys}
+use Rattle.desk_core.specs.DeskCauses.{AreInOrder, MeetsDeskKeys}
 use Rattle.office_core.proofs.Words.{same_number, ascending-push}
 use Rattle.office_rows.proofs.Members.{all_in, all_of_in, none_in, in_append, in_filter_map, in_map, in_flat_map, in_numbers}
 use Rattle.office_rows.proofs.NumberedRows.{in_order, rows_are_numbered, stands_at}
@@ -140,16 +141,16 @@ permits_order permits (t ∷ ts) h u =
 by_container : (s : State) → IsSoundDesk s → AllByRecursion (λ (run : Run). ByContainer run.lines) s.runs
 by_container s g = all_of_in (λ (run : Run). ByContainer run.lines) s.runs (λ run k. let i = stands_at s.runs run k in (g.runs.each i.0 run i.1).by_container)
 
-pub meets_keys : (version : Version) (s : State) → IsSoundDesk s → MeetsDeskKeys (tables version s)
+pub meets_keys : (version : Version) (s : State) → IsSoundDesk s → MeetsDeskKeys (tables version s).desk
 meets_keys version s g =
     let t = tables version s in
     record {
-      readers = in_order (λ (row : ReaderRow). row.ticket) 1 t.readers (rows_are_numbered reader_row (λ row. row.ticket) (λ n x. refl) 1 s.readers);
+      readers = in_order (λ (row : ReaderRow). row.ticket) 1 t.desk.readers (rows_are_numbered reader_row (λ row. row.ticket) (λ n x. refl) 1 s.readers);
       seats = seats_order 1 s.seats;
       sitters = sitters_order 1 s.seats g.seats.once;
-      orders = in_order (λ (row : OrderRow). row.id) 1 t.orders (rows_are_numbered (order_row s) (λ row. row.id) (λ n x. refl) 1 s.orders);
+      orders = in_order (λ (row : OrderRow). row.id) 1 t.desk.orders (rows_are_numbered (order_row s) (λ row. row.id) (λ n x. refl) 1 s.orders);
       holdings = holdings_order s.place (containers s) (ascending_to (length s.catalogue.containers));
-      runs = in_order (λ (row : RunRow). row.id) 1 t.runs (rows_are_numbered run_row (λ row. row.id) (λ n x. refl) 1 s.runs);
+      runs = in_order (λ (row : RunRow). row.id) 1 t.desk.runs (rows_are_numbered run_row (λ row. row.id) (λ n x. refl) 1 s.runs);
       run_lines = lines_order 1 s.runs (by_container s g);
       permits = permits_order s.permits (numbers_to (length s.readers)) (ascending_to (length s.readers)) g.permits.by_unit;
     }

@@ -3,7 +3,7 @@ use Rattle.std.proofs.Common.{◌≡◌, ℕ, ◌≤◌, Bool, true, ◌&&◌, O
 use Rattle.std.proofs.lemmas.Int.{ints}
 use Rattle.std.specs.Prelude.{ℤ, pos, neg_ℤ, nat_eq, nat_le, int_le, ◌≤ℤ◌, is_some, option_map}
 use Rattle.std.specs.List.{list_any}
-use Rattle.std.proofs.lemmas.Bool.{eqb-true, eq-eqb, cases_eq, le-leb, and_from, and_parts, leb-true}
+use Rattle.std.proofs.lemmas.Bool.{eq-eqb, cases_eq, le-leb, and_from, and_parts, leb-true}
 use Rattle.isad_core.specs.Days.{IsDayNumber, is_day_number}
 use Rattle.tree_core.specs.Forest.{nodes}
 use Rattle.tree_core.proofs.Lists.{list_any-map}
@@ -12,10 +12,13 @@ use Rattle.office_core.specs.Words.{numbered, some_and}
 use Rattle.office_core.specs.State.{State, Order, is_ticket, is_container}
 use Rattle.catalogue_core.specs.Finding.{has_unit}
 use Rattle.catalogue_core.specs.Sources.{is_between}
-use Rattle.office_rows.specs.DeskRows.{ReaderRow, reader_row, OrderRow, order_row, order_rows, RunRow, run_row}
+use Rattle.desk_core.specs.DeskRows.{ReaderRow, OrderRow, RunRow}
+use Rattle.office_rows.specs.DeskShown.{reader_row, order_row, order_rows, run_row}
 use Rattle.tree_core.specs.Versions.{Version}
-use Rattle.office_rows.specs.Reading.{UnitRow, unit_row, ContainerRow, container_row, tables}
-use Rattle.office_rows.specs.DeskCauses.{is_registered, is_container_there, is_unit_there}
+use Rattle.catalogue_core.specs.CatalogueRows.{UnitRow, unit_row, ContainerRow, container_row}
+use Rattle.office_rows.specs.Reading.{tables}
+use Rattle.desk_core.specs.DeskCauses.{is_registered}
+use Rattle.office_rows.specs.Causes.{is_container_there, is_unit_there}
 use Rattle.office_core.proofs.Words.{other_number}
 use Rattle.office_rows.proofs.Members.{any_same}
 use Rattle.office_rows.proofs.NumberedRows.{any_numbered, known_numbered, rows_are_numbered, numbered-rows}
@@ -57,14 +60,14 @@ is_day_so n h =
 -- ---- the tables of a state
 
 module _ (version : Version) (s : State) where
-  pub registered : (ticket : ℕ) → is_registered (tables version s) ticket ≡ is_ticket s ticket
+  pub registered : (ticket : ℕ) → is_registered (tables version s).desk ticket ≡ is_ticket s ticket
   registered ticket =
-      known_numbered (λ (row : ReaderRow). row.ticket) (tables version s).readers ticket (rows_are_numbered reader_row (λ row. row.ticket) (λ n x. refl) 1 s.readers)
+      known_numbered (λ (row : ReaderRow). row.ticket) (tables version s).desk.readers ticket (rows_are_numbered reader_row (λ row. row.ticket) (λ n x. refl) 1 s.readers)
       ∙ (ap is_some (numbered-rows reader_row s.readers ticket) ∙ is_some-map (reader_row ticket) (numbered s.readers ticket))
 
   pub container_there : (c : ℕ) → is_container_there (tables version s) c ≡ is_container s c
   container_there c =
-      known_numbered (λ (row : ContainerRow). row.id) (tables version s).containers c (rows_are_numbered container_row (λ row. row.id) (λ n x. refl) 1 s.catalogue.containers)
+      known_numbered (λ (row : ContainerRow). row.id) (tables version s).catalogue.containers c (rows_are_numbered container_row (λ row. row.id) (λ n x. refl) 1 s.catalogue.containers)
       ∙ (ap is_some (numbered-rows container_row s.catalogue.containers c) ∙ is_some-map (container_row c) (numbered s.catalogue.containers c))
 
   pub unit_there : (u : ℕ) → is_unit_there (tables version s) u ≡ has_unit s.catalogue.forest u
@@ -78,7 +81,7 @@ module _ (version : Version) (s : State) where
       any_numbered (λ (row : OrderRow). row.id) p (order_rows s) o (rows_are_numbered (order_row s) (λ row. row.id) (λ n x. refl) 1 s.orders)
       ∙ (ap (some_and p) (numbered-rows (order_row s) s.orders o) ∙ some_and-map p (order_row s o) (numbered s.orders o))
 
-  pub run_there : (n : ℕ) → list_any (λ (row : RunRow). nat_eq row.id n) (tables version s).runs ≡ is_some (numbered s.runs n)
+  pub run_there : (n : ℕ) → list_any (λ (row : RunRow). nat_eq row.id n) (tables version s).desk.runs ≡ is_some (numbered s.runs n)
   run_there n =
-      known_numbered (λ (row : RunRow). row.id) (tables version s).runs n (rows_are_numbered run_row (λ row. row.id) (λ n x. refl) 1 s.runs)
+      known_numbered (λ (row : RunRow). row.id) (tables version s).desk.runs n (rows_are_numbered run_row (λ row. row.id) (λ n x. refl) 1 s.runs)
       ∙ (ap is_some (numbered-rows run_row s.runs n) ∙ is_some-map (run_row n) (numbered s.runs n))

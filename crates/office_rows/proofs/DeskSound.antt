@@ -1,21 +1,22 @@
 -- Rows with none of the causes 6 to 10 say a sound desk, which shows just those rows.
 use Rattle.tree_core.specs.Versions.{Version}
-use Rattle.office_rows.specs.Reading.{Rows}
-use Rattle.office_rows.specs.DeskCauses.{are_good_readers, are_good_orders, are_good_holdings, are_good_runs}
+use Rattle.office_rows.specs.Reading.{OfficeRows}
+use Rattle.desk_core.specs.DeskCauses.{are_good_readers, are_good_orders, are_good_holdings, are_good_runs}
 use Rattle.office_rows.specs.DeskJudged.{PassingRowsAreSound}
 use Rattle.office_rows.proofs.DeskParts.{reader_parts, orders_parts, not_bad}
 use Rattle.office_rows.proofs.SaidReaders.{said_readers, reader_days, readers_again, said_seats, seats_again, said_permits, permit_days, permits_placed, permits_again}
 use Rattle.office_rows.proofs.SaidOrders.{holding_parts, said_filed, orders_again}
 use Rattle.office_rows.proofs.SaidPlaces.{said_orders, order_days, said_places, holdings_again}
 use Rattle.office_rows.proofs.SaidRuns.{run_parts, said_runs, run_days, runs_again, lines_again}
+use Rattle.office_rows.specs.Causes.{around}
 
-pub desk_sound : (version : Version) (t : Rows) → PassingRowsAreSound version t
+pub desk_sound : (version : Version) (t : OfficeRows) → PassingRowsAreSound version t
 desk_sound version t c h =
     let k = h.keys in
-    let r = reader_parts t (not_bad (are_good_readers t) h.causes.readers) in
-    let o = orders_parts t (not_bad (are_good_orders t) h.causes.orders) in
-    let q = holding_parts t k o (not_bad (are_good_holdings t) h.causes.holdings) in
-    let p = run_parts t (not_bad (are_good_runs t) h.causes.runs) in
+    let r = reader_parts t (not_bad (are_good_readers (around t) t.desk) h.causes.readers) in
+    let o = orders_parts t (not_bad (are_good_orders (around t) t.desk) h.causes.orders) in
+    let q = holding_parts t k o (not_bad (are_good_holdings (around t) t.desk) h.causes.holdings) in
+    let p = run_parts t (not_bad (are_good_runs (around t) t.desk) h.causes.runs) in
     record {
       desk = record {
         boxes = c.apart;

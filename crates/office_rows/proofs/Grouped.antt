@@ -6,7 +6,7 @@ use Rattle.std.proofs.lemmas.Bool.{eqb-true, cases_eq, false≢true}
 use Rattle.std.proofs.lemmas.List.Concat.{flat_map-cons}
 use Rattle.catalogue_core.specs.Members.{StandsIn}
 use Rattle.office_core.specs.Laws.{numbers_from}
-use Rattle.office_rows.specs.DeskCauses.{AreInOrder}
+use Rattle.desk_core.specs.DeskCauses.{AreInOrder}
 use Rattle.office_core.proofs.Words.{same_number, other_number}
 use Rattle.office_rows.proofs.Members.{all_in, all_of_in, in_filter, in_map}
 

@@ -9,12 +9,13 @@ use Rattle.tree_core.specs.Versions.{Version}
 use Rattle.catalogue_core.specs.Units.{has_id}
 use Rattle.office_core.specs.State.{State}
 use Rattle.office_core.specs.Soundness.{IsSound}
-use Rattle.office_rows.specs.Reading.{UnitRow, unit_row, ContainerRow, Rows, tables, state_of}
-use Rattle.office_rows.specs.CatalogueCauses.{catalogue_tests, IsCatalogueOf}
-use Rattle.office_rows.specs.DeskCauses.{are_numbered_from, readers_are_bad, orders_are_bad, holdings_are_bad, runs_are_bad, day_is_broken}
+use Rattle.catalogue_core.specs.CatalogueRows.{UnitRow, unit_row, ContainerRow}
+use Rattle.office_rows.specs.Reading.{OfficeRows, tables, state_of}
+use Rattle.office_rows.specs.Causes.{around, catalogue_tests, day_is_broken, first_held, desk_tests}
+use Rattle.office_rows.specs.Judged.{IsCatalogueOf, IsSoundCatalogue, SaysASoundState, HasNoCause}
+use Rattle.isad_core.specs.Words.{are_numbered_from}
+use Rattle.desk_core.specs.DeskCauses.{readers_are_bad, orders_are_bad, holdings_are_bad, runs_are_bad}
 use Rattle.office_rows.specs.DeskJudged.{HasNoDeskCause, HasGoodCatalogue, SoundTablesPass, PassingRowsAreSound}
-use Rattle.office_rows.specs.Causes.{first_held, desk_tests}
-use Rattle.office_rows.specs.Judged.{IsSoundCatalogue, SaysASoundState, HasNoCause}
 use Rattle.office_rows.proofs.Judging.{none_held, hold_none, none_before, none_behind, none_in_both}
 use Rattle.office_rows.proofs.RowsByNumber.{in_map}
 use Rattle.office_rows.proofs.ToldCatalogue.{no_cause, catalogue_is_said}
@@ -22,12 +23,12 @@ use Rattle.office_rows.proofs.ShownCatalogue.{catalogue_is_shown}
 
 -- ---- the rows of a sound state
 
-no_desk_cause : (t : Rows) → HasNoDeskCause t → first_held (desk_tests t) ≡ None
+no_desk_cause : (t : OfficeRows) → HasNoDeskCause t → first_held (desk_tests t) ≡ None
 no_desk_cause t h =
-    hold_none (readers_are_bad t) (orders_are_bad t ∷ holdings_are_bad t ∷ runs_are_bad t ∷ day_is_broken t ∷ []) h.readers
-    (hold_none (orders_are_bad t) (holdings_are_bad t ∷ runs_are_bad t ∷ day_is_broken t ∷ []) h.orders
-    (hold_none (holdings_are_bad t) (runs_are_bad t ∷ day_is_broken t ∷ []) h.holdings
-    (hold_none (runs_are_bad t) (day_is_broken t ∷ []) h.runs
+    hold_none (readers_are_bad (around t) t.desk) (orders_are_bad (around t) t.desk ∷ holdings_are_bad (around t) t.desk ∷ runs_are_bad (around t) t.desk ∷ day_is_broken t ∷ []) h.readers
+    (hold_none (orders_are_bad (around t) t.desk) (holdings_are_bad (around t) t.desk ∷ runs_are_bad (around t) t.desk ∷ day_is_broken t ∷ []) h.orders
+    (hold_none (holdings_are_bad (around t) t.desk) (runs_are_bad (around t) t.desk ∷ day_is_broken t ∷ []) h.holdings
+    (hold_none (runs_are_bad (around t) t.desk) (day_is_broken t ∷ []) h.runs
     (hold_none (day_is_broken t) [] h.day refl))))
 
 sound_catalogue : (s : State) → IsSound s → IsSoundCatalogue s
@@ -41,12 +42,12 @@ tables_are_shown version s passes g =
 
 -- ---- rows without a cause
 
-desk_has_none : (t : Rows) → first_held (desk_tests t) ≡ None → HasNoDeskCause t
+desk_has_none : (t : OfficeRows) → first_held (desk_tests t) ≡ None → HasNoDeskCause t
 desk_has_none t h =
-    let a = none_held (readers_are_bad t) (orders_are_bad t ∷ holdings_are_bad t ∷ runs_are_bad t ∷ day_is_broken t ∷ []) h in
-    let b = none_held (orders_are_bad t) (holdings_are_bad t ∷ runs_are_bad t ∷ day_is_broken t ∷ []) a.1 in
-    let c = none_held (holdings_are_bad t) (runs_are_bad t ∷ day_is_broken t ∷ []) b.1 in
-    let d = none_held (runs_are_bad t) (day_is_broken t ∷ []) c.1 in
+    let a = none_held (readers_are_bad (around t) t.desk) (orders_are_bad (around t) t.desk ∷ holdings_are_bad (around t) t.desk ∷ runs_are_bad (around t) t.desk ∷ day_is_broken t ∷ []) h in
+    let b = none_held (orders_are_bad (around t) t.desk) (holdings_are_bad (around t) t.desk ∷ runs_are_bad (around t) t.desk ∷ day_is_broken t ∷ []) a.1 in
+    let c = none_held (holdings_are_bad (around t) t.desk) (runs_are_bad (around t) t.desk ∷ day_is_broken t ∷ []) b.1 in
+    let d = none_held (runs_are_bad (around t) t.desk) (day_is_broken t ∷ []) c.1 in
     let e = none_held (day_is_broken t) [] d.1 in
     record { readers = a.0; orders = b.0; holdings = c.0; runs = d.0; day = e.0 }
 
@@ -63,19 +64,19 @@ found u (row ∷ rows) h = elim (or_cases (nat_eq row.id u) (list_any (λ (row :
   | inr k ↦ let r = found u rows k in record { row = r.row; there = inr r.there; is = r.is }
 ]
 
-good_catalogue : (version : Version) (t : Rows) → IsSoundCatalogue (state_of t) → IsCatalogueOf version t (state_of t) → first_held (catalogue_tests version t) ≡ None → HasGoodCatalogue t
+good_catalogue : (version : Version) (t : OfficeRows) → IsSoundCatalogue (state_of t) → IsCatalogueOf version t (state_of t) → first_held (catalogue_tests version t) ≡ None → HasGoodCatalogue t
 good_catalogue version t g c h =
     record {
-      containers = (and_parts (are_numbered_from (λ (row : ContainerRow). row.id) 1 t.containers) _ (no_cause version t h).containers).0;
+      containers = (and_parts (are_numbered_from (λ (row : ContainerRow). row.id) 1 t.catalogue.containers) _ (no_cause version t h).containers).0;
       apart = g.boxes;
       placed = λ u e.
-          let f = found u t.units e in
+          let f = found u t.catalogue.units e in
           let us = nodes (state_of t).catalogue.forest in
-          let r = in_map unit_row us f.row (In-permutation (map unit_row us) t.units f.row c.units f.there) in
+          let r = in_map unit_row us f.row (In-permutation (map unit_row us) t.catalogue.units f.row c.units f.there) in
           any_passes (has_id u) us r.it r.there (eq-eqb u r.it.id (sym (ap (λ (row : UnitRow). row.id) r.is ∙ f.is)));
     }
 
-pub rows_are_said : (version : Version) (t : Rows) → PassingRowsAreSound version t → SaysASoundState version t
+pub rows_are_said : (version : Version) (t : OfficeRows) → PassingRowsAreSound version t → SaysASoundState version t
 rows_are_said version t passes keys h =
     let first = none_before (catalogue_tests version t) (desk_tests t) h in
     let c = catalogue_is_said version t keys.catalogue first in

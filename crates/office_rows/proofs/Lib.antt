@@ -1,8 +1,11 @@
 pub mod Members
 pub mod TableLaws
-pub mod ReadingRows
+pub mod WorkedReading
 pub mod ReadBack
 pub mod Nested
+pub mod SaidTexts
+pub mod CellCauses
+pub mod PlaceNumbers
 pub mod Linked
 pub mod UnitRows
 pub mod Whole
@@ -14,7 +17,7 @@ pub mod ToldElements
 pub mod ToldContainers
 pub mod ToldHousings
 pub mod ToldCatalogue
-pub mod DeskCausesRows
+pub mod WorkedDeskCauses
 pub mod Apart
 pub mod ShownUnits
 pub mod ShownElements
@@ -26,7 +29,8 @@ pub mod OrdersPass
 pub mod RunsPass
 pub mod DeskKeys
 pub mod DeskPasses
-pub mod CatalogueCausesRows
+pub mod WorkedCatalogueCauses
+pub mod WorkedCells
 pub mod JudgedWhole
 pub mod Grouped
 pub mod DeskParts

@@ -5,8 +5,9 @@ use Rattle.std.specs.List.{list_any, AllByRecursion}
 use Rattle.std.proofs.lemmas.Bool.{and_parts, and_from, and_left, or_from, eqb-true}
 use Rattle.office_core.specs.Words.{numbered, some_and}
 use Rattle.catalogue_core.specs.Members.{StandsIn}
-use Rattle.office_rows.specs.DeskRows.{rows_from}
-use Rattle.office_rows.specs.DeskCauses.{AreInOrder, are_numbered_from}
+use Rattle.office_rows.specs.DeskShown.{rows_from}
+use Rattle.desk_core.specs.DeskCauses.{AreInOrder}
+use Rattle.isad_core.specs.Words.{are_numbered_from}
 use Rattle.office_core.proofs.Words.{same_number, other_number, or_false}
 use Rattle.office_rows.proofs.Members.{any_same}
 

@@ -17,10 +17,13 @@ use Rattle.office_core.specs.Laws.{Standing, Waiting, WithItsReader, Ended, stan
 use Rattle.office_core.specs.SoundDesk.{ExactlyOne, IsFiled, is_out_for}
 use Rattle.office_core.specs.Soundness.{IsSound}
 use Rattle.catalogue_core.specs.Sources.{is_between}
-use Rattle.office_rows.specs.DeskRows.{rows_from, OrderRow, order_row, order_rows, state_number, HoldingRow, holding_row, holding_rows}
+use Rattle.desk_core.specs.DeskRows.{OrderRow, HoldingRow}
+use Rattle.office_rows.specs.DeskShown.{rows_from, order_row, order_rows, state_number, holding_row, holding_rows}
 use Rattle.tree_core.specs.Versions.{Version}
 use Rattle.office_rows.specs.Reading.{tables}
-use Rattle.office_rows.specs.DeskCauses.{are_numbered_from, is_registered, is_container_there, is_live, are_twice, is_of_the_day, is_good_order, are_good_orders, is_out_order, is_good_holding, is_holding_of, has_its_holding, are_good_holdings}
+use Rattle.isad_core.specs.Words.{are_numbered_from}
+use Rattle.desk_core.specs.DeskCauses.{is_registered, is_live, are_twice, is_of_the_day, is_good_order, are_good_orders, is_out_order, is_good_holding, is_holding_of, has_its_holding, are_good_holdings}
+use Rattle.office_rows.specs.Causes.{around, is_container_there}
 use Rattle.office_core.proofs.Words.{same_number, numbered_within}
 use Rattle.office_core.proofs.Counts.{numbered_from_one}
 use Rattle.office_core.proofs.Filed.{out_with}
@@ -108,35 +111,35 @@ module _ (version : Version) (s : State) (g : IsSound s) where
       let same = g.desk.orders.once o p order other e q (is_past o order e h2.0) (is_past p other q h3.0) (eqb-true order.ticket other.ticket h4.0) (eqb-true order.container other.container h4.1) in
       absurd (false≢true (sym (ap not (ap (nat_eq o) (sym same) ∙ same_number o)) ∙ h1.0)))
 
-  good_order_of : (o : ℕ) (order : Order) → numbered s.orders o ≡ Some order → is_good_order (tables version s) (order_row s o order) ≡ true
+  good_order_of : (o : ℕ) (order : Order) → numbered s.orders o ≡ Some order → is_good_order (around (tables version s)) (tables version s).desk (order_row s o order) ≡ true
   good_order_of o order e =
       let t = tables version s in
       let row = order_row s o order in
       let it = g.desk.orders.each o order e in
       let many = count_rows (order_row s) (is_of_the_day row) (λ x. nat_eq x.ticket order.ticket && int_eq x.day order.day) (λ n x. refl) 1 s.orders in
       let most = g.desk.orders.daily order.ticket order.day in
-      and_from (is_registered t order.ticket) _ (registered version s order.ticket ∙ it.ticket)
+      and_from (is_registered t.desk order.ticket) _ (registered version s order.ticket ∙ it.ticket)
       (and_from (is_container_there t order.container) _ (container_there version s order.container ∙ it.container)
       (and_from (is_between 1 4 row.state) _ (in_four (container_of s o) (λ c. stands o (s.queue c)) (λ c. is_out_for o (s.place c)) (s.past o) order.container (for_it o order e) (g.desk.filed.each o))
       (and_from (is_day_number order.day) _ (is_day_number-true order.day (all_in (λ order. IsDayNumber order.day) s.orders order g.days.orders (numbered_in s.orders o order e)))
       (and_from (int_le order.day s.day) _ (not_later order.day s.day it.day)
-      (and_from (nat_le (count_by (is_of_the_day row) t.orders) s.settings.daily) _ (le-leb (count_by (is_of_the_day row) t.orders) s.settings.daily (omega (arith, many, most)))
-      (not_from_false (list_any (are_twice row) t.orders) (none_of_in (are_twice row) t.orders (λ other k.
+      (and_from (nat_le (count_by (is_of_the_day row) t.desk.orders) s.settings.daily) _ (le-leb (count_by (is_of_the_day row) t.desk.orders) s.settings.daily (omega (arith, many, most)))
+      (not_from_false (list_any (are_twice row) t.desk.orders) (none_of_in (are_twice row) t.desk.orders (λ other k.
       let i = in_rows (order_row s) s.orders other k in
       ap (are_twice row) i.3 ∙ not_twice o i.0 order i.1 e i.2))))))))
 
-  good_order : (r : OrderRow) → StandsIn r (order_rows s) → is_good_order (tables version s) r ≡ true
+  good_order : (r : OrderRow) → StandsIn r (order_rows s) → is_good_order (around (tables version s)) (tables version s).desk r ≡ true
   good_order r k =
       let i = in_rows (order_row s) s.orders r k in
-      ap (is_good_order (tables version s)) i.3 ∙ good_order_of i.0 i.1 i.2
+      ap (is_good_order (around (tables version s)) (tables version s).desk) i.3 ∙ good_order_of i.0 i.1 i.2
 
-  pub orders_pass : are_good_orders (tables version s) ≡ true
+  pub orders_pass : are_good_orders (around (tables version s)) (tables version s).desk ≡ true
   orders_pass =
       let t = tables version s in
       let few = g.desk.orders.few in
       let count = length-rows (order_row s) 1 s.orders in
-      and_from (are_numbered_from (λ (row : OrderRow). row.id) 1 t.orders) _ (rows_are_numbered (order_row s) (λ row. row.id) (λ n x. refl) 1 s.orders)
-      (and_from (nat_le (length t.orders) most_orders) _ (le-leb (length t.orders) most_orders (omega (arith, few, count))) (tests_of_in (is_good_order t) t.orders good_order))
+      and_from (are_numbered_from (λ (row : OrderRow). row.id) 1 t.desk.orders) _ (rows_are_numbered (order_row s) (λ row. row.id) (λ n x. refl) 1 s.orders)
+      (and_from (nat_le (length t.desk.orders) most_orders) _ (le-leb (length t.desk.orders) most_orders (omega (arith, few, count))) (tests_of_in (is_good_order (around t) t.desk) t.desk.orders good_order))
 
   -- ---- places
 
@@ -153,18 +156,18 @@ module _ (version : Version) (s : State) (g : IsSound s) where
       ∙ (ap (some_and (λ (order : Order). nat_eq order.container c && nat_eq (state_number (standing s o)) 2)) x.1
       ∙ and_from (nat_eq x.0.container c) (nat_eq (state_number (standing s o)) 2) (ap (λ k. nat_eq k c) x.2 ∙ same_number c) (ap (λ st. nat_eq (state_number st) 2) it))
 
-  good_place : (c : ℕ) (p : Place) (r : HoldingRow) → s.place c ≡ p → holding_row c p ≡ Some r → is_good_holding (tables version s) r ≡ true
+  good_place : (c : ℕ) (p : Place) (r : HoldingRow) → s.place c ≡ p → holding_row c p ≡ Some r → is_good_holding (around (tables version s)) (tables version s).desk r ≡ true
   good_place c Shelf r e h = absurd (cc)
   good_place c Desk r e h =
       let q : HoldingRow = record { container = c; place = 1; held_by = None } in
       let same : q ≡ r = cc in
-      subst (λ r. is_good_holding (tables version s) r ≡ true) same (and_from (is_container_there (tables version s) c) true (container_there version s c ∙ is_there c (λ f. absurd (cc))) refl)
+      subst (λ r. is_good_holding (around (tables version s)) (tables version s).desk r ≡ true) same (and_from (is_container_there (tables version s) c) true (container_there version s c ∙ is_there c (λ f. absurd (cc))) refl)
   good_place c (Out o) r e h =
       let q : HoldingRow = record { container = c; place = 2; held_by = Some o } in
       let same : q ≡ r = cc in
-      subst (λ r. is_good_holding (tables version s) r ≡ true) same (and_from (is_container_there (tables version s) c) (list_any (is_out_order o c) (order_rows s)) (container_there version s c ∙ is_there c (λ f. absurd (cc))) (out_row c o e))
+      subst (λ r. is_good_holding (around (tables version s)) (tables version s).desk r ≡ true) same (and_from (is_container_there (tables version s) c) (list_any (is_out_order o c) (order_rows s)) (container_there version s c ∙ is_there c (λ f. absurd (cc))) (out_row c o e))
 
-  good_holding : (r : HoldingRow) → StandsIn r (holding_rows s) → is_good_holding (tables version s) r ≡ true
+  good_holding : (r : HoldingRow) → StandsIn r (holding_rows s) → is_good_holding (around (tables version s)) (tables version s).desk r ≡ true
   good_holding r k =
       let i = in_filter_map (λ c. holding_row c (s.place c)) (containers s) r k in
       good_place i.0 (s.place i.0) r refl i.2
@@ -187,18 +190,18 @@ module _ (version : Version) (s : State) (g : IsSound s) where
       (filter_map_in (λ c. holding_row c (s.place c)) (containers s) c row (numbers_in (length s.catalogue.containers) c (numbered_from_one s.catalogue.containers c there) (numbered_within s.catalogue.containers c there)) (ap (holding_row c) out))
       (and_from (nat_eq c order.container) (nat_eq o o) (ap (nat_eq c) (sym same) ∙ same_number c) (same_number o))
 
-  has_holding : (r : OrderRow) → StandsIn r (order_rows s) → has_its_holding (tables version s) r ≡ true
+  has_holding : (r : OrderRow) → StandsIn r (order_rows s) → has_its_holding (tables version s).desk r ≡ true
   has_holding r k =
       let i = in_rows (order_row s) s.orders r k in
       let n = nat_eq (state_number (standing s i.0)) 2 in
       let held = list_any (is_holding_of (order_row s i.0 i.1)) (holding_rows s) in
-      ap (has_its_holding (tables version s)) i.3
+      ap (has_its_holding (tables version s).desk) i.3
       ∙ elim (cases_Bool n) [
         | inl e ↦ or_right (not n) held (holding_of i.0 i.1 i.2 e)
         | inr e ↦ or_left (not n) held (ap not e)
       ]
 
-  pub holdings_pass : are_good_holdings (tables version s) ≡ true
+  pub holdings_pass : are_good_holdings (around (tables version s)) (tables version s).desk ≡ true
   holdings_pass =
       let t = tables version s in
-      and_from (list_all (is_good_holding t) t.holdings) (list_all (has_its_holding t) t.orders) (tests_of_in (is_good_holding t) t.holdings good_holding) (tests_of_in (has_its_holding t) t.orders has_holding)
+      and_from (list_all (is_good_holding (around t) t.desk) t.desk.holdings) (list_all (has_its_holding t.desk) t.desk.orders) (tests_of_in (is_good_holding (around t) t.desk) t.desk.holdings good_holding) (tests_of_in (has_its_holding t.desk) t.desk.orders has_holding)

@@ -15,10 +15,13 @@ use Rattle.office_core.specs.Soundness.{IsSound}
 use Rattle.office_core.specs.Rules.{is_name}
 use Rattle.catalogue_core.specs.Sources.{is_between}
 use Rattle.isad_core.specs.Limits.{most_tickets, most_permits}
-use Rattle.office_rows.specs.DeskRows.{ReaderRow, reader_row, reader_rows, SeatRow, seat_rows_from, seat_rows, PermitRow, permit_row, permit_rows}
+use Rattle.desk_core.specs.DeskRows.{ReaderRow, SeatRow, PermitRow}
+use Rattle.office_rows.specs.DeskShown.{reader_row, reader_rows, seat_rows_from, seat_rows, permit_row, permit_rows}
 use Rattle.tree_core.specs.Versions.{Version}
 use Rattle.office_rows.specs.Reading.{tables}
-use Rattle.office_rows.specs.DeskCauses.{are_numbered_from, is_good_reader, is_good_seat, is_good_permit, are_good_readers, is_registered, is_unit_there}
+use Rattle.isad_core.specs.Words.{are_numbered_from}
+use Rattle.desk_core.specs.DeskCauses.{is_good_reader, is_good_seat, is_good_permit, are_good_readers, is_registered}
+use Rattle.office_rows.specs.Causes.{around, is_unit_there}
 use Rattle.office_core.proofs.Words.{same_number}
 use Rattle.office_rows.proofs.ReadBack.{permits_back}
 use Rattle.office_rows.proofs.Members.{all_in, any_of_in, tests_of_in, in_flat_map, in_map}
@@ -54,13 +57,13 @@ module _ (version : Version) (s : State) (g : IsSound s) where
       ∙ and_from (is_name i.1.name) (is_day_number i.1.until) (g.desk.readers.names i.0 i.1 i.2)
       (is_day_number-true i.1.until (all_in (λ reader. IsDayNumber reader.until) s.readers i.1 g.days.readers (numbered_in s.readers i.0 i.1 i.2)))
 
-  good_seat : (r : SeatRow) → StandsIn r (seat_rows s) → is_good_seat (tables version s) r ≡ true
+  good_seat : (r : SeatRow) → StandsIn r (seat_rows s) → is_good_seat (around (tables version s)) (tables version s).desk r ≡ true
   good_seat r k =
       let i = in_seats 1 s.seats r k in
       let low = i.0 in
       let high = i.1 in
       let count = g.desk.seats.count in
-      and_from (is_between 1 s.settings.seats r.seat) (is_registered (tables version s) r.ticket) (between 1 s.settings.seats r.seat low (omega (arith, high, count)))
+      and_from (is_between 1 s.settings.seats r.seat) (is_registered (tables version s).desk r.ticket) (between 1 s.settings.seats r.seat low (omega (arith, high, count)))
       (registered version s r.ticket ∙ g.desk.seats.known r.ticket (any_of_in (is_seat_of r.ticket) s.seats (Some r.ticket) i.2 (same_number r.ticket)))
 
   -- who has a permit is registered
@@ -78,28 +81,28 @@ module _ (version : Version) (s : State) (g : IsSound s) where
       ∙ (sym (length-map mine (λ (row : PermitRow). (let p : Permit = record { unit = row.unit; until = row.until } in p)))
       ∙ ap (λ permits. length (permits ticket)) (permits_back s g.desk.permits))
 
-  good_permit_of : (ticket : ℕ) (p : Permit) → StandsIn p (s.permits ticket) → is_good_permit (tables version s) (permit_row ticket p) ≡ true
+  good_permit_of : (ticket : ℕ) (p : Permit) → StandsIn p (s.permits ticket) → is_good_permit (around (tables version s)) (tables version s).desk (permit_row ticket p) ≡ true
   good_permit_of ticket p k =
       let t = tables version s in
       let few = g.desk.permits.few ticket in
       let count = permits_count ticket in
-      and_from (is_registered t ticket) _ (registered version s ticket ∙ has_ticket ticket p k)
+      and_from (is_registered t.desk ticket) _ (registered version s ticket ∙ has_ticket ticket p k)
       (and_from (is_unit_there t p.unit) _ (unit_there version s p.unit ∙ all_in (λ permit. has_unit s.catalogue.forest permit.unit ≡ true) (s.permits ticket) p (g.permits ticket) k)
       (and_from (is_day_number p.until) _ (is_day_number-true p.until (all_in (λ permit. IsDayNumber permit.until) (s.permits ticket) p (g.days.permits ticket) k))
-      (le-leb (count_by (λ (other : PermitRow). nat_eq other.ticket ticket) t.permits) most_permits (omega (arith, count, few)))))
+      (le-leb (count_by (λ (other : PermitRow). nat_eq other.ticket ticket) t.desk.permits) most_permits (omega (arith, count, few)))))
 
-  good_permit : (r : PermitRow) → StandsIn r (permit_rows s) → is_good_permit (tables version s) r ≡ true
+  good_permit : (r : PermitRow) → StandsIn r (permit_rows s) → is_good_permit (around (tables version s)) (tables version s).desk r ≡ true
   good_permit r k =
       let i = in_flat_map (λ t. map (permit_row t) (s.permits t)) (numbers_to (length s.readers)) r k in
       let j = in_map (permit_row i.0) (s.permits i.0) r i.2 in
-      ap (is_good_permit (tables version s)) j.2 ∙ good_permit_of i.0 j.0 j.1
+      ap (is_good_permit (around (tables version s)) (tables version s).desk) j.2 ∙ good_permit_of i.0 j.0 j.1
 
-  pub readers_pass : are_good_readers (tables version s) ≡ true
+  pub readers_pass : are_good_readers (around (tables version s)) (tables version s).desk ≡ true
   readers_pass =
       let t = tables version s in
       let few = g.desk.readers.few in
       let count = length-rows reader_row 1 s.readers in
-      and_from (are_numbered_from (λ (row : ReaderRow). row.ticket) 1 t.readers) _ readers_numbered
-      (and_from (nat_le (length t.readers) most_tickets) _ (le-leb (length t.readers) most_tickets (omega (arith, few, count)))
-      (and_from (list_all is_good_reader t.readers) _ (tests_of_in is_good_reader t.readers good_reader)
-      (and_from (list_all (is_good_seat t) t.seats) _ (tests_of_in (is_good_seat t) t.seats good_seat) (tests_of_in (is_good_permit t) t.permits good_permit))))
+      and_from (are_numbered_from (λ (row : ReaderRow). row.ticket) 1 t.desk.readers) _ readers_numbered
+      (and_from (nat_le (length t.desk.readers) most_tickets) _ (le-leb (length t.desk.readers) most_tickets (omega (arith, few, count)))
+      (and_from (list_all is_good_reader t.desk.readers) _ (tests_of_in is_good_reader t.desk.readers good_reader)
+      (and_from (list_all (is_good_seat (around t) t.desk) t.desk.seats) _ (tests_of_in (is_good_seat (around t) t.desk) t.desk.seats good_seat) (tests_of_in (is_good_permit (around t) t.desk) t.desk.permits good_permit))))

@@ -13,10 +13,13 @@ use Rattle.catalogue_core.specs.Members.{StandsIn}
 use Rattle.office_core.specs.SoundDesk.{IsGoodLine}
 use Rattle.office_core.specs.Soundness.{IsSound}
 use Rattle.isad_core.specs.Limits.{most_runs}
-use Rattle.office_rows.specs.DeskRows.{RunRow, run_row, run_rows, RunLineRow, run_line_row, lines_from, run_line_rows, OrderRow}
+use Rattle.desk_core.specs.DeskRows.{RunRow, RunLineRow, OrderRow}
+use Rattle.office_rows.specs.DeskShown.{run_row, run_rows, run_line_row, lines_from, run_line_rows}
 use Rattle.tree_core.specs.Versions.{Version}
 use Rattle.office_rows.specs.Reading.{line_from, run_from, tables}
-use Rattle.office_rows.specs.DeskCauses.{are_numbered_from, is_good_run, is_order_of_line, is_good_line, are_good_runs, holds_well, is_held_against_rules, day_is_broken}
+use Rattle.isad_core.specs.Words.{are_numbered_from}
+use Rattle.desk_core.specs.DeskCauses.{is_good_run, is_order_of_line, is_good_line, are_good_runs}
+use Rattle.office_rows.specs.Causes.{around, holds_well, is_held_against_rules, day_is_broken}
 use Rattle.office_core.proofs.Words.{same_number}
 use Rattle.office_rows.proofs.ReadBack.{runs_back}
 use Rattle.office_rows.proofs.Whole.{says_the_state}
@@ -64,7 +67,7 @@ module _ (version : Version) (s : State) (g : IsSound s) where
       let d : length (map line_from mine) ≡ length run.lines = cc in
       sym (length-filter (λ (line : RunLineRow). nat_eq line.run n) rows) ∙ (sym (length-map mine line_from) ∙ d)
 
-  good_run_of : (n : ℕ) (run : Run) → numbered s.runs n ≡ Some run → is_good_run (tables version s) (run_row n run) ≡ true
+  good_run_of : (n : ℕ) (run : Run) → numbered s.runs n ≡ Some run → is_good_run (around (tables version s)) (tables version s).desk (run_row n run) ≡ true
   good_run_of n run e =
       let t = tables version s in
       let it = g.desk.runs.each n run e in
@@ -73,34 +76,34 @@ module _ (version : Version) (s : State) (g : IsSound s) where
       let count = lines_count n run e in
       and_from (is_day_number run.day) _ (is_day_number-true run.day (all_in (λ run. IsDayNumber run.day) s.runs run g.days.runs (numbered_in s.runs n run e)))
       (and_from (int_le run.day s.day) _ (not_later run.day s.day it.day)
-      (between 1 s.settings.run_size (count_by (λ (line : RunLineRow). nat_eq line.run n) t.run_lines) (omega (arith, some, count)) (omega (arith, few, count))))
+      (between 1 s.settings.run_size (count_by (λ (line : RunLineRow). nat_eq line.run n) t.desk.run_lines) (omega (arith, some, count)) (omega (arith, few, count))))
 
-  good_run : (r : RunRow) → StandsIn r (run_rows s) → is_good_run (tables version s) r ≡ true
+  good_run : (r : RunRow) → StandsIn r (run_rows s) → is_good_run (around (tables version s)) (tables version s).desk r ≡ true
   good_run r k =
       let i = in_rows run_row s.runs r k in
-      ap (is_good_run (tables version s)) i.3 ∙ good_run_of i.0 i.1 i.2
+      ap (is_good_run (around (tables version s)) (tables version s).desk) i.3 ∙ good_run_of i.0 i.1 i.2
 
-  good_line_of : (n : ℕ) (run : Run) (line : Line) → numbered s.runs n ≡ Some run → StandsIn line run.lines → is_good_line (tables version s) (run_line_row n line) ≡ true
+  good_line_of : (n : ℕ) (run : Run) (line : Line) → numbered s.runs n ≡ Some run → StandsIn line run.lines → is_good_line (tables version s).desk (run_line_row n line) ≡ true
   good_line_of n run line e k =
       let t = tables version s in
       let it = all_in (IsGoodLine s) run.lines line (g.desk.runs.each n run e).lines k in
-      and_from (list_any (λ (row : RunRow). nat_eq row.id n) t.runs) (list_any (is_order_of_line (run_line_row n line)) t.orders) (run_there version s n ∙ ap is_some e)
+      and_from (list_any (λ (row : RunRow). nat_eq row.id n) t.desk.runs) (list_any (is_order_of_line (run_line_row n line)) t.desk.orders) (run_there version s n ∙ ap is_some e)
       (order_there version s (λ (row : OrderRow). nat_eq row.container line.container && nat_eq row.ticket line.ticket) line.order
       ∙ both_of (numbered s.orders line.order) line.container line.ticket (of_container (numbered s.orders line.order) line.container it.order) it.ticket)
 
-  good_line : (r : RunLineRow) → StandsIn r (run_line_rows s) → is_good_line (tables version s) r ≡ true
+  good_line : (r : RunLineRow) → StandsIn r (run_line_rows s) → is_good_line (tables version s).desk r ≡ true
   good_line r k =
       let i = in_lines s.runs r k in
-      ap (is_good_line (tables version s)) i.5 ∙ good_line_of i.0 i.1 i.2 i.3 i.4
+      ap (is_good_line (tables version s).desk) i.5 ∙ good_line_of i.0 i.1 i.2 i.3 i.4
 
-  pub runs_pass : are_good_runs (tables version s) ≡ true
+  pub runs_pass : are_good_runs (around (tables version s)) (tables version s).desk ≡ true
   runs_pass =
       let t = tables version s in
       let few = g.desk.runs.few in
       let count = length-rows run_row 1 s.runs in
-      and_from (are_numbered_from (λ (row : RunRow). row.id) 1 t.runs) _ (rows_are_numbered run_row (λ row. row.id) (λ n x. refl) 1 s.runs)
-      (and_from (nat_le (length t.runs) most_runs) _ (le-leb (length t.runs) most_runs (omega (arith, few, count)))
-      (and_from (list_all (is_good_run t) t.runs) _ (tests_of_in (is_good_run t) t.runs good_run) (tests_of_in (is_good_line t) t.run_lines good_line)))
+      and_from (are_numbered_from (λ (row : RunRow). row.id) 1 t.desk.runs) _ (rows_are_numbered run_row (λ row. row.id) (λ n x. refl) 1 s.runs)
+      (and_from (nat_le (length t.desk.runs) most_runs) _ (le-leb (length t.desk.runs) most_runs (omega (arith, few, count)))
+      (and_from (list_all (is_good_run (around t) t.desk) t.desk.runs) _ (tests_of_in (is_good_run (around t) t.desk) t.desk.runs good_run) (tests_of_in (is_good_line t.desk) t.desk.run_lines good_line)))
 
   -- ---- the day
 

@@ -10,9 +10,11 @@ use Rattle.office_core.specs.State.{End, Done, Cancelled, container_of}
 use Rattle.catalogue_core.specs.Members.{StandsIn}
 use Rattle.office_core.specs.Laws.{standing}
 use Rattle.office_core.specs.SoundDesk.{IsAscending, IsFiled, AreFiled, is_out_for}
-use Rattle.office_rows.specs.DeskRows.{OrderRow, order_row, order_rows, order_from, state_number, waiting_for, end_of, past_in, HoldingRow, place_from, place_in}
-use Rattle.office_rows.specs.Reading.{Rows, state_of}
-use Rattle.office_rows.specs.DeskCauses.{AreInOrder, MeetsDeskKeys, is_container_there, is_out_order, is_at_desk, is_out_well, is_good_holding, is_holding_of, has_its_holding, are_good_holdings}
+use Rattle.desk_core.specs.DeskRows.{OrderRow, waiting_for, HoldingRow}
+use Rattle.office_rows.specs.DeskShown.{order_row, order_rows, order_from, state_number, end_of, past_in, place_from, place_in}
+use Rattle.office_rows.specs.Reading.{OfficeRows, state_of}
+use Rattle.desk_core.specs.DeskCauses.{AreInOrder, MeetsDeskKeys, is_out_order, is_at_desk, is_out_well, is_good_holding, is_holding_of, has_its_holding, are_good_holdings}
+use Rattle.office_rows.specs.Causes.{around, is_container_there}
 use Rattle.office_core.proofs.Words.{same_number, other_number}
 use Rattle.office_core.proofs.Filed.{IsWaitingFor, IsOutWith, IsPast, filed_waiting, filed_out, filed_past}
 use Rattle.office_core.proofs.OrderLaws.{stands_waiting, stands_out, stands_past}
@@ -55,42 +57,42 @@ place_cases (x ∷ xs) c = at (nat_eq x.container c) refl (place_cases xs c)
 -- ---- rows of places that pass
 
 -- the row of an order that is out, for that container
-pub record OutRow (t : Rows) (o c : ℕ) : Type 0 where
+pub record OutRow (t : OfficeRows) (o c : ℕ) : Type 0 where
   pub row : OrderRow
-  pub is : numbered t.orders o ≡ Some row
+  pub is : numbered t.desk.orders o ≡ Some row
   pub for_it : row.container ≡ c
   pub out : row.state ≡ 2
 
-pub data HoldingKind (t : Rows) (row : HoldingRow) : Type 0 where
+pub data HoldingKind (t : OfficeRows) (row : HoldingRow) : Type 0 where
   AtDesk : row.place ≡ 1 → row.held_by ≡ None → HoldingKind t row
   OutWith : (o : ℕ) → row.place ≡ 2 → row.held_by ≡ Some o → OutRow t o row.container → HoldingKind t row
 
-pub record HoldingParts (t : Rows) : Type 0 where
-  pub there : (row : HoldingRow) → StandsIn row t.holdings → is_container_there t row.container ≡ true
-  pub kinds : (row : HoldingRow) → StandsIn row t.holdings → HoldingKind t row
-  pub held : (order : OrderRow) → StandsIn order t.orders → order.state ≡ 2 → (row : HoldingRow) × StandsIn row t.holdings × (row.container ≡ order.container) × (row.place ≡ 2) × (row.held_by ≡ Some order.id)
+pub record HoldingParts (t : OfficeRows) : Type 0 where
+  pub there : (row : HoldingRow) → StandsIn row t.desk.holdings → is_container_there t row.container ≡ true
+  pub kinds : (row : HoldingRow) → StandsIn row t.desk.holdings → HoldingKind t row
+  pub held : (order : OrderRow) → StandsIn order t.desk.orders → order.state ≡ 2 → (row : HoldingRow) × StandsIn row t.desk.holdings × (row.container ≡ order.container) × (row.place ≡ 2) × (row.held_by ≡ Some order.id)
 
 is_nothing : (r : Option ℕ) → is_none r ≡ true → r ≡ None
 is_nothing None e = refl
 is_nothing (Some o) e = absurd (false≢true e)
 
-module _ (t : Rows) (k : MeetsDeskKeys t) (p : OrdersParts t) where
-  out_row_at : (o c : ℕ) (r : Option OrderRow) → numbered t.orders o ≡ r → some_and (λ (row : OrderRow). nat_eq row.container c && nat_eq row.state 2) r ≡ true → OutRow t o c
+module _ (t : OfficeRows) (k : MeetsDeskKeys t.desk) (p : OrdersParts t) where
+  out_row_at : (o c : ℕ) (r : Option OrderRow) → numbered t.desk.orders o ≡ r → some_and (λ (row : OrderRow). nat_eq row.container c && nat_eq row.state 2) r ≡ true → OutRow t o c
   out_row_at o c None e h = absurd (false≢true h)
   out_row_at o c (Some row) e h =
       let b = and_parts (nat_eq row.container c) (nat_eq row.state 2) h in
       record { row = row; is = e; for_it = eqb-true row.container c b.0; out = eqb-true row.state 2 b.1 }
 
-  out_kind : (row : HoldingRow) (h : Option ℕ) → row.held_by ≡ h → row.place ≡ 2 → some_and (λ o. list_any (is_out_order o row.container) t.orders) h ≡ true → HoldingKind t row
+  out_kind : (row : HoldingRow) (h : Option ℕ) → row.held_by ≡ h → row.place ≡ 2 → some_and (λ o. list_any (is_out_order o row.container) t.desk.orders) h ≡ true → HoldingKind t row
   out_kind row None e q h = absurd (false≢true h)
-  out_kind row (Some o) e q h = OutWith o q e (out_row_at o row.container (numbered t.orders o) refl (sym (any_numbered (λ (row : OrderRow). row.id) (λ (order : OrderRow). nat_eq order.container row.container && nat_eq order.state 2) t.orders o p.numbered) ∙ h))
+  out_kind row (Some o) e q h = OutWith o q e (out_row_at o row.container (numbered t.desk.orders o) refl (sym (any_numbered (λ (row : OrderRow). row.id) (λ (order : OrderRow). nat_eq order.container row.container && nat_eq order.state 2) t.desk.orders o p.numbered) ∙ h))
 
-  kind_of : (row : HoldingRow) → (is_at_desk row || is_out_well t row) ≡ true → HoldingKind t row
+  kind_of : (row : HoldingRow) → (is_at_desk row || is_out_well t.desk row) ≡ true → HoldingKind t row
   kind_of row h =
-      elim (or_cases (is_at_desk row) (is_out_well t row) h) [
+      elim (or_cases (is_at_desk row) (is_out_well t.desk row) h) [
         | inl e ↦ (let b = and_parts (nat_eq row.place 1) (is_none row.held_by) e in AtDesk (eqb-true row.place 1 b.0) (is_nothing row.held_by b.1))
         | inr e ↦ (
-            let b = and_parts (nat_eq row.place 2) (some_and (λ o. list_any (is_out_order o row.container) t.orders) row.held_by) e in
+            let b = and_parts (nat_eq row.place 2) (some_and (λ o. list_any (is_out_order o row.container) t.desk.orders) row.held_by) e in
             out_kind row row.held_by refl (eqb-true row.place 2 b.0) b.1)
       ]
 
@@ -98,16 +100,16 @@ module _ (t : Rows) (k : MeetsDeskKeys t) (p : OrdersParts t) where
   held_by_it order None e = absurd (false≢true e)
   held_by_it order (Some o) e = ap Some (sym (eqb-true order.id o e))
 
-  pub holding_parts : are_good_holdings t ≡ true → HoldingParts t
+  pub holding_parts : are_good_holdings (around t) t.desk ≡ true → HoldingParts t
   holding_parts h =
-      let a = and_parts (list_all (is_good_holding t) t.holdings) (list_all (has_its_holding t) t.orders) h in
+      let a = and_parts (list_all (is_good_holding (around t) t.desk) t.desk.holdings) (list_all (has_its_holding t.desk) t.desk.orders) h in
       record {
-        there = λ row l. (and_parts (is_container_there t row.container) (is_at_desk row || is_out_well t row) (test_in (is_good_holding t) t.holdings row a.0 l)).0;
-        kinds = λ row l. kind_of row (and_parts (is_container_there t row.container) (is_at_desk row || is_out_well t row) (test_in (is_good_holding t) t.holdings row a.0 l)).1;
-        held = λ order l two. elim (or_cases (not (nat_eq order.state 2)) (list_any (is_holding_of order) t.holdings) (test_in (has_its_holding t) t.orders order a.1 l)) [
+        there = λ row l. (and_parts (is_container_there t row.container) (is_at_desk row || is_out_well t.desk row) (test_in (is_good_holding (around t) t.desk) t.desk.holdings row a.0 l)).0;
+        kinds = λ row l. kind_of row (and_parts (is_container_there t row.container) (is_at_desk row || is_out_well t.desk row) (test_in (is_good_holding (around t) t.desk) t.desk.holdings row a.0 l)).1;
+        held = λ order l two. elim (or_cases (not (nat_eq order.state 2)) (list_any (is_holding_of order) t.desk.holdings) (test_in (has_its_holding t.desk) t.desk.orders order a.1 l)) [
           | inl e ↦ absurd (false≢true (sym (ap (λ n. not (nat_eq n 2)) two) ∙ e))
           | inr e ↦ (
-              let i = some_in (is_holding_of order) t.holdings e in
+              let i = some_in (is_holding_of order) t.desk.holdings e in
               let row : HoldingRow = i.0 in
               let b = and_parts (nat_eq row.container order.container) (nat_eq row.place 2 && some_and (nat_eq order.id) row.held_by) i.2 in
               let c = and_parts (nat_eq row.place 2) (some_and (nat_eq order.id) row.held_by) b.1 in
@@ -123,20 +125,20 @@ place_is_out row o e h = ap (λ n. cond (nat_eq n 1) Desk (Out (unwrap_or row.he
 pub place_is_desk : (row : HoldingRow) → row.place ≡ 1 → place_from row ≡ Desk
 place_is_desk row e = ap (λ n. cond (nat_eq n 1) Desk (Out (unwrap_or row.held_by 0))) e
 
-module _ (t : Rows) (k : MeetsDeskKeys t) (p : OrdersParts t) (q : HoldingParts t) where
+module _ (t : OfficeRows) (k : MeetsDeskKeys t.desk) (p : OrdersParts t) (q : HoldingParts t) where
   -- who waits
 
-  pub waits_so : (o c : ℕ) → stands o ((state_of t).queue c) ≡ some_and (λ (row : OrderRow). nat_eq row.container c && nat_eq row.state 1) (numbered t.orders o)
+  pub waits_so : (o c : ℕ) → stands o ((state_of t).queue c) ≡ some_and (λ (row : OrderRow). nat_eq row.container c && nat_eq row.state 1) (numbered t.desk.orders o)
   waits_so o c =
       let w : OrderRow → Bool = λ row. nat_eq row.container c && nat_eq row.state 1 in
-      list_any-map (nat_eq o) (λ (row : OrderRow). row.id) (filter w t.orders)
-      ∙ (any_filter (λ (row : OrderRow). nat_eq o row.id) w t.orders
-      ∙ (any_same (λ row. nat_eq o row.id && w row) (λ row. nat_eq row.id o && w row) t.orders (λ row. ap (λ b. b && w row) (flipped o row.id))
-      ∙ any_numbered (λ (row : OrderRow). row.id) w t.orders o p.numbered))
+      list_any-map (nat_eq o) (λ (row : OrderRow). row.id) (filter w t.desk.orders)
+      ∙ (any_filter (λ (row : OrderRow). nat_eq o row.id) w t.desk.orders
+      ∙ (any_same (λ row. nat_eq o row.id && w row) (λ row. nat_eq row.id o && w row) t.desk.orders (λ row. ap (λ b. b && w row) (flipped o row.id))
+      ∙ any_numbered (λ (row : OrderRow). row.id) w t.desk.orders o p.numbered))
 
   queue_order : (c : ℕ) → IsAscending ((state_of t).queue c)
   queue_order c =
-      ascending (waiting_for c t.orders) (order-map (λ (a b : OrderRow). a.id < b.id) (λ (m n : ℕ). m < n) (λ (row : OrderRow). row.id) (filter (λ (row : OrderRow). nat_eq row.container c && nat_eq row.state 1) t.orders) (λ a b l m h. h) (order-filter (λ (a b : OrderRow). a.id < b.id) (λ (row : OrderRow). nat_eq row.container c && nat_eq row.state 1) t.orders k.orders))
+      ascending (waiting_for c t.desk.orders) (order-map (λ (a b : OrderRow). a.id < b.id) (λ (m n : ℕ). m < n) (λ (row : OrderRow). row.id) (filter (λ (row : OrderRow). nat_eq row.container c && nat_eq row.state 1) t.desk.orders) (λ a b l m h. h) (order-filter (λ (a b : OrderRow). a.id < b.id) (λ (row : OrderRow). nat_eq row.container c && nat_eq row.state 1) t.desk.orders k.orders))
     where
       ascending : (ns : List ℕ) → AreInOrder (λ (m n : ℕ). m < n) ns → IsAscending ns
       ascending [] h = tt
@@ -146,31 +148,31 @@ module _ (t : Rows) (k : MeetsDeskKeys t) (p : OrdersParts t) (q : HoldingParts 
 
   pub out_at_place : (o c : ℕ) → is_out_for o ((state_of t).place c) ≡ true → OutRow t o c
   out_at_place o c h =
-      elim (place_cases t.holdings c) [
+      elim (place_cases t.desk.holdings c) [
         | inl s ↦ absurd (false≢true (sym (ap (is_out_for o) s) ∙ h))
         | inr r ↦ of_kind r (q.kinds r.row r.stands)
       ]
     where
-      of_kind : (r : HoldingAt t.holdings c) → HoldingKind t r.row → OutRow t o c
+      of_kind : (r : HoldingAt t.desk.holdings c) → HoldingKind t r.row → OutRow t o c
       of_kind r (AtDesk e n) = absurd (false≢true (sym (ap (is_out_for o) (r.is ∙ place_is_desk r.row e)) ∙ h))
       of_kind r (OutWith other e n x) =
           let same : o ≡ other = eqb-true o other (sym (ap (is_out_for o) (r.is ∙ place_is_out r.row other e n)) ∙ h) in
-          record { row = x.row; is = ap (numbered t.orders) same ∙ x.is; for_it = x.for_it ∙ r.for_it; out = x.out }
+          record { row = x.row; is = ap (numbered t.desk.orders) same ∙ x.is; for_it = x.for_it ∙ r.for_it; out = x.out }
 
-  pub out_of_order : (o : ℕ) (row : OrderRow) → numbered t.orders o ≡ Some row → row.state ≡ 2 → (state_of t).place row.container ≡ Out o
+  pub out_of_order : (o : ℕ) (row : OrderRow) → numbered t.desk.orders o ≡ Some row → row.state ≡ 2 → (state_of t).place row.container ≡ Out o
   out_of_order o row e two =
-      let h = q.held row (numbered_in t.orders o row e) two in
-      ap (place_in t.holdings) (sym h.2)
-      ∙ (place_at_row t.holdings h.0 k.holdings h.1
-      ∙ (place_is_out h.0 row.id h.3 h.4 ∙ ap Out (has_number (λ (row : OrderRow). row.id) t.orders o row p.numbered e)))
+      let h = q.held row (numbered_in t.desk.orders o row e) two in
+      ap (place_in t.desk.holdings) (sym h.2)
+      ∙ (place_at_row t.desk.holdings h.0 k.holdings h.1
+      ∙ (place_is_out h.0 row.id h.3 h.4 ∙ ap Out (has_number (λ (row : OrderRow). row.id) t.desk.orders o row p.numbered e)))
 
   -- one order
 
-  module _ (o : ℕ) (row : OrderRow) (e : numbered t.orders o ≡ Some row) where
+  module _ (o : ℕ) (row : OrderRow) (e : numbered t.desk.orders o ≡ Some row) where
     pub for_its : container_of (state_of t) o ≡ Some row.container
-    for_its = ap (option_map (λ order. order.container)) (numbered-map order_from t.orders o ∙ ap (option_map order_from) e)
+    for_its = ap (option_map (λ order. order.container)) (numbered-map order_from t.desk.orders o ∙ ap (option_map order_from) e)
 
-    past_is : past_in t.orders o ≡ end_of row.state
+    past_is : past_in t.desk.orders o ≡ end_of row.state
     past_is = ap (option_and_then (λ (row : OrderRow). end_of row.state)) e
 
     waits_as : (c : ℕ) → stands o ((state_of t).queue c) ≡ (nat_eq row.container c && nat_eq row.state 1)
@@ -224,7 +226,7 @@ module _ (t : Rows) (k : MeetsDeskKeys t) (p : OrdersParts t) (q : HoldingParts 
         let w : ℕ → Bool = λ c. stands o ((state_of t).queue c) in
         let h : ℕ → Bool = λ c. is_out_for o ((state_of t).place c) in
         let past = (state_of t).past o in
-        let range = (p.orders row (numbered_in t.orders o row e)).state in
+        let range = (p.orders row (numbered_in t.desk.orders o row e)).state in
         let low = range.0 in
         let high = range.1 in
         elim (cases_eq row.state 1) [
@@ -244,7 +246,7 @@ module _ (t : Rows) (k : MeetsDeskKeys t) (p : OrdersParts t) (q : HoldingParts 
         let w : ℕ → Bool = λ c. stands o ((state_of t).queue c) in
         let h : ℕ → Bool = λ c. is_out_for o ((state_of t).place c) in
         let past = (state_of t).past o in
-        let range = (p.orders row (numbered_in t.orders o row e)).state in
+        let range = (p.orders row (numbered_in t.desk.orders o row e)).state in
         let low = range.0 in
         let high = range.1 in
         elim (cases_eq row.state 1) [
@@ -260,10 +262,10 @@ module _ (t : Rows) (k : MeetsDeskKeys t) (p : OrdersParts t) (q : HoldingParts 
 
   -- all of them
 
-  filed_at : (o : ℕ) (r : Option OrderRow) → numbered t.orders o ≡ r → IsFiled (container_of (state_of t) o) (λ c. stands o ((state_of t).queue c)) (λ c. is_out_for o ((state_of t).place c)) ((state_of t).past o)
+  filed_at : (o : ℕ) (r : Option OrderRow) → numbered t.desk.orders o ≡ r → IsFiled (container_of (state_of t) o) (λ c. stands o ((state_of t).queue c)) (λ c. is_out_for o ((state_of t).place c)) ((state_of t).past o)
   filed_at o (Some row) e = filed_row o row e
   filed_at o None e =
-      let none : container_of (state_of t) o ≡ None = ap (option_map (λ order. order.container)) (numbered-map order_from t.orders o ∙ ap (option_map order_from) e) in
+      let none : container_of (state_of t) o ≡ None = ap (option_map (λ order. order.container)) (numbered-map order_from t.desk.orders o ∙ ap (option_map order_from) e) in
       subst (λ k. IsFiled k (λ c. stands o ((state_of t).queue c)) (λ c. is_out_for o ((state_of t).place c)) ((state_of t).past o)) (sym none) (
         λ c. waits_so o c ∙ ap (some_and (λ (row : OrderRow). nat_eq row.container c && nat_eq row.state 1)) e,
         λ c. false_from_ne_true (is_out_for o ((state_of t).place c)) (λ h. (let x = out_at_place o c h in let is = x.is in absurd (cc))),
@@ -271,9 +273,9 @@ module _ (t : Rows) (k : MeetsDeskKeys t) (p : OrdersParts t) (q : HoldingParts 
       )
 
   pub said_filed : AreFiled (state_of t)
-  said_filed = record { each = λ o. filed_at o (numbered t.orders o) refl; queues = queue_order }
+  said_filed = record { each = λ o. filed_at o (numbered t.desk.orders o) refl; queues = queue_order }
 
-  pub orders_again : order_rows (state_of t) ≡ t.orders
+  pub orders_again : order_rows (state_of t) ≡ t.desk.orders
   orders_again =
-      rows_again (order_row (state_of t)) (λ (row : OrderRow). row.id) order_from 1 t.orders p.numbered (λ row l.
-      ap (λ n. record { id = row.id; ticket = row.ticket; container = row.container; day = row.day; state = n }) (standing_row row.id row (by_number (λ (row : OrderRow). row.id) t.orders row p.numbered l)))
+      rows_again (order_row (state_of t)) (λ (row : OrderRow). row.id) order_from 1 t.desk.orders p.numbered (λ row l.
+      ap (λ n. record { id = row.id; ticket = row.ticket; container = row.container; day = row.day; state = n }) (standing_row row.id row (by_number (λ (row : OrderRow). row.id) t.desk.orders row p.numbered l)))

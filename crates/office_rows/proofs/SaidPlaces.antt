@@ -15,9 +15,11 @@ use Rattle.office_core.specs.State.{Order, State, containers, is_container, orde
 use Rattle.catalogue_core.specs.Members.{StandsIn}
 use Rattle.office_core.specs.SoundDesk.{IsGoodOrder, AreGoodOrders, AreGoodPlaces}
 use Rattle.catalogue_core.specs.Sources.{is_between}
-use Rattle.office_rows.specs.DeskRows.{OrderRow, order_from, end_of, HoldingRow, holding_row, holding_rows, place_from, place_in}
-use Rattle.office_rows.specs.Reading.{Rows, state_of}
-use Rattle.office_rows.specs.DeskCauses.{MeetsDeskKeys, is_live, are_twice, holds_well, holder_of, is_held_against_rules, day_is_broken}
+use Rattle.desk_core.specs.DeskRows.{OrderRow, HoldingRow}
+use Rattle.office_rows.specs.DeskShown.{order_from, end_of, holding_row, holding_rows, place_from, place_in}
+use Rattle.office_rows.specs.Reading.{OfficeRows, state_of}
+use Rattle.desk_core.specs.DeskCauses.{MeetsDeskKeys, is_live, are_twice}
+use Rattle.office_rows.specs.Causes.{holds_well, holder_of, is_held_against_rules, day_is_broken}
 use Rattle.office_rows.specs.DeskJudged.{HasGoodCatalogue}
 use Rattle.office_core.proofs.Words.{numbered_within}
 use Rattle.office_core.proofs.Counts.{numbered_from_one}
@@ -53,53 +55,53 @@ live_still state low high e =
       ]
     ]
 
-module _ (t : Rows) (r : ReaderParts t) (p : OrdersParts t) (c : HasGoodCatalogue t) where
+module _ (t : OfficeRows) (r : ReaderParts t) (p : OrdersParts t) (c : HasGoodCatalogue t) where
   abbrev of_that_day : ℕ → ℤ → OrderRow → Bool
   of_that_day ticket day row = nat_eq row.ticket ticket && int_eq row.day day
 
-  few_that_day : (ticket : ℕ) (day : ℤ) (rows : List OrderRow) → filter (of_that_day ticket day) t.orders ≡ rows → length rows ≤ t.office.daily
+  few_that_day : (ticket : ℕ) (day : ℤ) (rows : List OrderRow) → filter (of_that_day ticket day) t.desk.orders ≡ rows → length rows ≤ t.office.daily
   few_that_day ticket day [] e = omega arith
   few_that_day ticket day (row ∷ rows) e =
-      let i = in_filter (of_that_day ticket day) t.orders row (subst (StandsIn row) (sym e) (inl refl)) in
+      let i = in_filter (of_that_day ticket day) t.desk.orders row (subst (StandsIn row) (sym e) (inl refl)) in
       let b = and_parts (nat_eq row.ticket ticket) (int_eq row.day day) i.1 in
       let few = (p.orders row i.0).daily in
-      let few2 = subst (λ n. count_by (λ (other : OrderRow). nat_eq other.ticket n && int_eq other.day row.day) t.orders ≤ t.office.daily) (eqb-true row.ticket ticket b.0) few in
-      let few3 = subst (λ d. count_by (λ (other : OrderRow). nat_eq other.ticket ticket && int_eq other.day d) t.orders ≤ t.office.daily) ((Decides-int_eq row.day day).0 b.1) few2 in
-      let count = length-filter (of_that_day ticket day) t.orders in
+      let few2 = subst (λ n. count_by (λ (other : OrderRow). nat_eq other.ticket n && int_eq other.day row.day) t.desk.orders ≤ t.office.daily) (eqb-true row.ticket ticket b.0) few in
+      let few3 = subst (λ d. count_by (λ (other : OrderRow). nat_eq other.ticket ticket && int_eq other.day d) t.desk.orders ≤ t.office.daily) ((Decides-int_eq row.day day).0 b.1) few2 in
+      let count = length-filter (of_that_day ticket day) t.desk.orders in
       let l = ap length e in
       omega (arith, few3, count, l)
 
-  is_live_row : (o : ℕ) (row : OrderRow) → numbered t.orders o ≡ Some row → (state_of t).past o ≡ None → is_live row ≡ true
+  is_live_row : (o : ℕ) (row : OrderRow) → numbered t.desk.orders o ≡ Some row → (state_of t).past o ≡ None → is_live row ≡ true
   is_live_row o row e past =
-      let range = (p.orders row (numbered_in t.orders o row e)).state in
+      let range = (p.orders row (numbered_in t.desk.orders o row e)).state in
       live_still row.state range.0 range.1 (sym (ap (option_and_then (λ (row : OrderRow). end_of row.state)) e) ∙ past)
 
   pub said_orders : AreGoodOrders (state_of t)
   said_orders =
-      let count = length-map t.orders order_from in
+      let count = length-map t.desk.orders order_from in
       let few = p.few in
       record {
         each = λ o order e. (
-            let i = said_by order_from t.orders o order e in
-            let parts = p.orders i.0 (numbered_in t.orders o i.0 i.1) in
+            let i = said_by order_from t.desk.orders o order e in
+            let parts = p.orders i.0 (numbered_in t.desk.orders o i.0 i.1) in
             subst (IsGoodOrder (state_of t)) (sym i.2) (record { ticket = said_ticket t i.0.ticket r.numbered ∙ parts.ticket; container = said_container t i.0.container c.containers ∙ parts.container; day = parts.day }));
         daily = λ ticket day. (
-            let all = count_map (λ (order : Order). nat_eq order.ticket ticket && int_eq order.day day) order_from t.orders in
-            let mine = length-filter (of_that_day ticket day) t.orders in
-            let few = few_that_day ticket day (filter (of_that_day ticket day) t.orders) refl in
+            let all = count_map (λ (order : Order). nat_eq order.ticket ticket && int_eq order.day day) order_from t.desk.orders in
+            let mine = length-filter (of_that_day ticket day) t.desk.orders in
+            let few = few_that_day ticket day (filter (of_that_day ticket day) t.desk.orders) refl in
             omega (arith, all, mine, few));
         once = λ o n order other e q past gone ticket container. (
-            let i = said_by order_from t.orders o order e in
-            let j = said_by order_from t.orders n other q in
+            let i = said_by order_from t.desk.orders o order e in
+            let j = said_by order_from t.desk.orders n other q in
             let a : OrderRow = i.0 in
             let b : OrderRow = j.0 in
             let x = is_live_row o a i.1 past in
             let y = is_live_row n b j.1 gone in
             let same_ticket : a.ticket ≡ b.ticket = sym (ap (λ (order : Order). order.ticket) i.2) ∙ (ticket ∙ ap (λ (order : Order). order.ticket) j.2) in
             let same_container : a.container ≡ b.container = sym (ap (λ (order : Order). order.container) i.2) ∙ (container ∙ ap (λ (order : Order). order.container) j.2) in
-            let none = none_in (are_twice a) t.orders b (p.orders a (numbered_in t.orders o a i.1)).once (numbered_in t.orders n b j.1) in
-            let first = has_number (λ (row : OrderRow). row.id) t.orders o a p.numbered i.1 in
-            let second = has_number (λ (row : OrderRow). row.id) t.orders n b p.numbered j.1 in
+            let none = none_in (are_twice a) t.desk.orders b (p.orders a (numbered_in t.desk.orders o a i.1)).once (numbered_in t.desk.orders n b j.1) in
+            let first = has_number (λ (row : OrderRow). row.id) t.desk.orders o a p.numbered i.1 in
+            let second = has_number (λ (row : OrderRow). row.id) t.desk.orders n b p.numbered j.1 in
             elim (cases_Bool (nat_eq a.id b.id)) [
               | inl same ↦ sym first ∙ (eqb-true a.id b.id same ∙ second)
               | inr apart ↦ absurd (false≢true (sym none
@@ -114,7 +116,7 @@ module _ (t : Rows) (r : ReaderParts t) (p : OrdersParts t) (c : HasGoodCatalogu
   pub order_days : AllByRecursion (λ order. IsDayNumber order.day) (state_of t).orders
   order_days =
       all_of_in (λ (order : Order). IsDayNumber order.day) (state_of t).orders (λ order l.
-      let i = in_map order_from t.orders order l in
+      let i = in_map order_from t.desk.orders order l in
       subst (λ (o : Order). IsDayNumber o.day) (sym i.2) (p.orders i.0 i.1).is_day)
 
 -- ---- places
@@ -127,20 +129,20 @@ place_found (x ∷ xs) c = at (nat_eq x.container c) (place_found xs c)
     at true e = refl
     at false e = e
 
-module _ (t : Rows) (k : MeetsDeskKeys t) (q : HoldingParts t) (c : HasGoodCatalogue t) where
-  holding_known : (row : HoldingRow) → StandsIn row t.holdings → is_container (state_of t) row.container ≡ true
+module _ (t : OfficeRows) (k : MeetsDeskKeys t.desk) (q : HoldingParts t) (c : HasGoodCatalogue t) where
+  holding_known : (row : HoldingRow) → StandsIn row t.desk.holdings → is_container (state_of t) row.container ≡ true
   holding_known row l = said_container t row.container c.containers ∙ q.there row l
 
   pub said_places : day_is_broken t ≡ false → AreGoodPlaces (state_of t)
   said_places day =
       record {
-        known = λ n e. elim (place_cases t.holdings n) [
+        known = λ n e. elim (place_cases t.desk.holdings n) [
           | inl s ↦ s
           | inr h ↦ absurd (false≢true (sym e ∙ (ap (is_container (state_of t)) (sym h.for_it) ∙ holding_known h.row h.stands)))
         ];
         holders = λ n o order e is. (
             let s : State = state_of t in
-            let there : is_container s n ≡ true = elim (place_cases t.holdings n) [
+            let there : is_container s n ≡ true = elim (place_cases t.desk.holdings n) [
               | inl shelf ↦ absurd (let x = ap order_out shelf in cc)
               | inr h ↦ ap (is_container s) (sym h.for_it) ∙ holding_known h.row h.stands
             ] in
@@ -164,21 +166,21 @@ module _ (t : Rows) (k : MeetsDeskKeys t) (q : HoldingParts t) (c : HasGoodCatal
       ∙ (ap (λ m. Some (record { container = row.container; place = m; held_by = Some o })) (sym two)
       ∙ ap (λ h. Some (record { container = row.container; place = row.place; held_by = h })) (sym some)))
 
-  shown_at : (n : ℕ) (r : Option HoldingRow) → find (λ (row : HoldingRow). nat_eq row.container n) t.holdings ≡ r → holding_row n (unwrap_or (option_map place_from r) Shelf) ≡ r
+  shown_at : (n : ℕ) (r : Option HoldingRow) → find (λ (row : HoldingRow). nat_eq row.container n) t.desk.holdings ≡ r → holding_row n (unwrap_or (option_map place_from r) Shelf) ≡ r
   shown_at n None e = refl
   shown_at n (Some row) e =
-      let f = found (λ (row : HoldingRow). nat_eq row.container n) t.holdings row e in
+      let f = found (λ (row : HoldingRow). nat_eq row.container n) t.desk.holdings row e in
       shown_again n row (eqb-true row.container n f.1) (q.kinds row f.0)
 
-  shown : (n : ℕ) → holding_row n (place_in t.holdings n) ≡ find (λ (row : HoldingRow). nat_eq row.container n) t.holdings
-  shown n = ap (holding_row n) (place_found t.holdings n) ∙ shown_at n (find (λ (row : HoldingRow). nat_eq row.container n) t.holdings) refl
+  shown : (n : ℕ) → holding_row n (place_in t.desk.holdings n) ≡ find (λ (row : HoldingRow). nat_eq row.container n) t.desk.holdings
+  shown n = ap (holding_row n) (place_found t.desk.holdings n) ∙ shown_at n (find (λ (row : HoldingRow). nat_eq row.container n) t.desk.holdings) refl
 
-  pub holdings_again : holding_rows (state_of t) ≡ t.holdings
+  pub holdings_again : holding_rows (state_of t) ≡ t.desk.holdings
   holdings_again =
       let n = length (state_of t).catalogue.containers in
       ap (λ f. filter_map f (numbers_to n)) (fun_ext shown)
-      ∙ (ap (filter_map (λ m. find (λ (row : HoldingRow). nat_eq row.container m) t.holdings)) (to_from n)
-      ∙ found_all (λ (row : HoldingRow). row.container) 1 n t.holdings k.holdings (λ row l.
+      ∙ (ap (filter_map (λ m. find (λ (row : HoldingRow). nat_eq row.container m) t.desk.holdings)) (to_from n)
+      ∙ found_all (λ (row : HoldingRow). row.container) 1 n t.desk.holdings k.holdings (λ row l.
       let known = holding_known row l in
       let low = numbered_from_one (state_of t).catalogue.containers row.container known in
       let high = numbered_within (state_of t).catalogue.containers row.container known in

@@ -16,9 +16,11 @@ use Rattle.office_core.specs.SoundDesk.{SitOnce, AreGoodSeats, AreGoodReaders, B
 use Rattle.office_core.specs.Soundness.{ArePermitsOfUnits}
 use Rattle.office_core.specs.Rules.{is_name}
 use Rattle.isad_core.specs.Limits.{most_permits}
-use Rattle.office_rows.specs.DeskRows.{ReaderRow, reader_row, reader_rows, reader_from, SeatRow, seat_rows_from, seat_rows, PermitRow, permit_row, permit_rows}
-use Rattle.office_rows.specs.Reading.{Rows, state_of, seats_said, permits_said}
-use Rattle.office_rows.specs.DeskCauses.{AreInOrder, MeetsDeskKeys, is_registered, is_unit_there}
+use Rattle.desk_core.specs.DeskRows.{ReaderRow, SeatRow, PermitRow}
+use Rattle.office_rows.specs.DeskShown.{reader_row, reader_rows, reader_from, seat_rows_from, seat_rows, permit_row, permit_rows}
+use Rattle.office_rows.specs.Reading.{OfficeRows, state_of, seats_said, permits_said}
+use Rattle.desk_core.specs.DeskCauses.{AreInOrder, MeetsDeskKeys, is_registered}
+use Rattle.office_rows.specs.Causes.{is_unit_there}
 use Rattle.office_core.proofs.Words.{numbered_within}
 use Rattle.office_core.proofs.Counts.{numbered_from_one}
 use Rattle.office_rows.proofs.Members.{all_of_in, some_in, in_map, in_filter, to_from}
@@ -104,13 +106,13 @@ by_unit : (permits : List Permit) → AreInOrder (λ (a b : Permit). a.unit < b.
 by_unit [] h = tt
 by_unit (p ∷ ps) h = (h.0, by_unit ps h.1)
 
-module _ (t : Rows) (k : MeetsDeskKeys t) (p : ReaderParts t) where
+module _ (t : OfficeRows) (k : MeetsDeskKeys t.desk) (p : ReaderParts t) where
   abbrev mine : ℕ → List PermitRow
-  mine ticket = filter (λ (row : PermitRow). nat_eq row.ticket ticket) t.permits
+  mine ticket = filter (λ (row : PermitRow). nat_eq row.ticket ticket) t.desk.permits
 
-  is_mine : (ticket : ℕ) (row : PermitRow) → StandsIn row (mine ticket) → StandsIn row t.permits × (row.ticket ≡ ticket)
+  is_mine : (ticket : ℕ) (row : PermitRow) → StandsIn row (mine ticket) → StandsIn row t.desk.permits × (row.ticket ≡ ticket)
   is_mine ticket row l =
-      let i = in_filter (λ (row : PermitRow). nat_eq row.ticket ticket) t.permits row l in
+      let i = in_filter (λ (row : PermitRow). nat_eq row.ticket ticket) t.desk.permits row l in
       (i.0, eqb-true row.ticket ticket i.1)
 
   -- ---- readers
@@ -118,39 +120,39 @@ module _ (t : Rows) (k : MeetsDeskKeys t) (p : ReaderParts t) where
   pub said_readers : AreGoodReaders (state_of t)
   said_readers =
       let few = p.few in
-      let count = length-map t.readers reader_from in
+      let count = length-map t.desk.readers reader_from in
       record {
         names = λ n reader e. (
-            let i = said_by reader_from t.readers n reader e in
-            ap (λ (r : Reader). is_name r.name) i.2 ∙ (p.readers i.0 (numbered_in t.readers n i.0 i.1)).0);
+            let i = said_by reader_from t.desk.readers n reader e in
+            ap (λ (r : Reader). is_name r.name) i.2 ∙ (p.readers i.0 (numbered_in t.desk.readers n i.0 i.1)).0);
         few = omega (arith, few, count);
       }
 
   pub reader_days : AllByRecursion (λ reader. IsDayNumber reader.until) (state_of t).readers
   reader_days =
       all_of_in (λ (reader : Reader). IsDayNumber reader.until) (state_of t).readers (λ reader l.
-      let i = in_map reader_from t.readers reader l in
+      let i = in_map reader_from t.desk.readers reader l in
       subst (λ (r : Reader). IsDayNumber r.until) (sym i.2) (p.readers i.0 i.1).1)
 
-  pub readers_again : reader_rows (state_of t) ≡ t.readers
-  readers_again = rows_again reader_row (λ (row : ReaderRow). row.ticket) reader_from 1 t.readers p.numbered (λ r l. refl)
+  pub readers_again : reader_rows (state_of t) ≡ t.desk.readers
+  readers_again = rows_again reader_row (λ (row : ReaderRow). row.ticket) reader_from 1 t.desk.readers p.numbered (λ r l. refl)
 
   -- ---- seats
 
   pub said_seats : AreGoodSeats (state_of t)
   said_seats =
       record {
-        count = length-seats t.office.seats 1 t.seats;
+        count = length-seats t.office.seats 1 t.desk.seats;
         known = λ u h. (
-            let i = seated_row t.office.seats 1 u t.seats h in
-            said_ticket t u p.numbered ∙ (ap (is_registered t) (sym i.3) ∙ (p.seats i.0 i.1).2));
-        once = sit_once t.office.seats 1 t.seats k.sitters;
+            let i = seated_row t.office.seats 1 u t.desk.seats h in
+            said_ticket t u p.numbered ∙ (ap (is_registered t.desk) (sym i.3) ∙ (p.seats i.0 i.1).2));
+        once = sit_once t.office.seats 1 t.desk.seats k.sitters;
       }
 
-  pub seats_again : seat_rows (state_of t) ≡ t.seats
+  pub seats_again : seat_rows (state_of t) ≡ t.desk.seats
   seats_again =
-      seats_found t.office.seats 1 t.seats
-      ∙ found_all (λ (row : SeatRow). row.seat) 1 t.office.seats t.seats k.seats (λ row l.
+      seats_found t.office.seats 1 t.desk.seats
+      ∙ found_all (λ (row : SeatRow). row.seat) 1 t.office.seats t.desk.seats k.seats (λ row l.
       let i = p.seats row l in
       let low = i.0 in
       let high = i.1 in
@@ -162,30 +164,30 @@ module _ (t : Rows) (k : MeetsDeskKeys t) (p : ReaderParts t) where
   few_permits ticket [] e = omega arith
   few_permits ticket (row ∷ rows) e =
       let i = is_mine ticket row (subst (StandsIn row) (sym e) (inl refl)) in
-      let few = subst (λ n. count_by (λ (other : PermitRow). nat_eq other.ticket n) t.permits ≤ most_permits) i.1 (p.permits row i.0).few in
-      let count = length-filter (λ (other : PermitRow). nat_eq other.ticket ticket) t.permits in
+      let few = subst (λ n. count_by (λ (other : PermitRow). nat_eq other.ticket n) t.desk.permits ≤ most_permits) i.1 (p.permits row i.0).few in
+      let count = length-filter (λ (other : PermitRow). nat_eq other.ticket ticket) t.desk.permits in
       let l = ap length e in
       omega (arith, few, count, l)
 
   pub said_permits : AreGoodPermits (state_of t)
   said_permits =
       record {
-        known = λ n e. ap (map (λ (row : PermitRow). (let permit : Permit = record { unit = row.unit; until = row.until } in permit))) (filter_none (λ (row : PermitRow). nat_eq row.ticket n) t.permits (λ row l.
+        known = λ n e. ap (map (λ (row : PermitRow). (let permit : Permit = record { unit = row.unit; until = row.until } in permit))) (filter_none (λ (row : PermitRow). nat_eq row.ticket n) t.desk.permits (λ row l.
             false_from_ne_true (nat_eq row.ticket n) (λ q.
-            false≢true (sym e ∙ (said_ticket t n p.numbered ∙ (ap (is_registered t) (sym (eqb-true row.ticket n q)) ∙ (p.permits row l).ticket))))));
-        by_unit = λ n. by_unit (permits_said t.permits n) (order-map PermitBefore (λ (a b : Permit). a.unit < b.unit) (λ (row : PermitRow). record { unit = row.unit; until = row.until }) (mine n) (λ a b l m h. elim h [
+            false≢true (sym e ∙ (said_ticket t n p.numbered ∙ (ap (is_registered t.desk) (sym (eqb-true row.ticket n q)) ∙ (p.permits row l).ticket))))));
+        by_unit = λ n. by_unit (permits_said t.desk.permits n) (order-map PermitBefore (λ (a b : Permit). a.unit < b.unit) (λ (row : PermitRow). record { unit = row.unit; until = row.until }) (mine n) (λ a b l m h. elim h [
           | inl less ↦ (let x = (is_mine n a l).1 in let y = (is_mine n b m).1 in absurd (omega (arith, x, y, less)))
           | inr same ↦ same.1
-        ]) (order-filter PermitBefore (λ (row : PermitRow). nat_eq row.ticket n) t.permits k.permits));
+        ]) (order-filter PermitBefore (λ (row : PermitRow). nat_eq row.ticket n) t.desk.permits k.permits));
         few = λ n. (
             let few = few_permits n (mine n) refl in
             let count = length-map (mine n) (λ (row : PermitRow). (let permit : Permit = record { unit = row.unit; until = row.until } in permit)) in
             omega (arith, few, count));
       }
 
-  each_permit : (P : Permit → Type 0) → ((row : PermitRow) → StandsIn row t.permits → P (record { unit = row.unit; until = row.until })) → (ticket : ℕ) → AllByRecursion P (permits_said t.permits ticket)
+  each_permit : (P : Permit → Type 0) → ((row : PermitRow) → StandsIn row t.desk.permits → P (record { unit = row.unit; until = row.until })) → (ticket : ℕ) → AllByRecursion P (permits_said t.desk.permits ticket)
   each_permit P f ticket =
-      all_of_in P (permits_said t.permits ticket) (λ permit l.
+      all_of_in P (permits_said t.desk.permits ticket) (λ permit l.
       let i = in_map (λ (row : PermitRow). (let permit : Permit = record { unit = row.unit; until = row.until } in permit)) (mine ticket) permit l in
       subst P (sym i.2) (f i.0 (is_mine ticket i.0 i.1).0))
 
@@ -195,12 +197,12 @@ module _ (t : Rows) (k : MeetsDeskKeys t) (p : ReaderParts t) where
   pub permits_placed : ((u : ℕ) → is_unit_there t u ≡ true → has_unit (state_of t).catalogue.forest u ≡ true) → ArePermitsOfUnits (state_of t)
   permits_placed placed = each_permit (λ permit. has_unit (state_of t).catalogue.forest permit.unit ≡ true) (λ row l. placed row.unit (p.permits row l).unit)
 
-  pub permits_again : permit_rows (state_of t) ≡ t.permits
+  pub permits_again : permit_rows (state_of t) ≡ t.desk.permits
   permits_again =
       let n = length (state_of t).readers in
       ap (λ f. flat_map f (numbers_to n)) (fun_ext (λ ticket. own_rows_again ticket (mine ticket) (λ row l. (is_mine ticket row l).1)))
       ∙ (ap (flat_map mine) (to_from n)
-      ∙ grouped_all (λ (row : PermitRow). row.ticket) 1 n t.permits (order_weaker PermitBefore (λ (a b : PermitRow). a.ticket ≤ b.ticket) t.permits (λ a b h. elim h [
+      ∙ grouped_all (λ (row : PermitRow). row.ticket) 1 n t.desk.permits (order_weaker PermitBefore (λ (a b : PermitRow). a.ticket ≤ b.ticket) t.desk.permits (λ a b h. elim h [
         | inl less ↦ omega (arith, less)
         | inr same ↦ (let e = same.0 in omega (arith, e))
       ]) k.permits) (λ row l.

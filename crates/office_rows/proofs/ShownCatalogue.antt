@@ -4,8 +4,9 @@ use Rattle.std.specs.List.{list_all}
 use Rattle.std.proofs.lemmas.Bool.{and_from, not_from_true}
 use Rattle.tree_core.specs.Versions.{Version}
 use Rattle.office_core.specs.State.{State}
-use Rattle.office_rows.specs.Reading.{Rows, tables}
-use Rattle.office_rows.specs.CatalogueCauses.{is_good_office, are_good_places, are_good_units, unit_numbers, is_good_element, are_good_container_rows, is_good_housing, office_is_bad, places_are_bad, units_are_bad, elements_are_bad, containers_are_bad}
+use Rattle.office_rows.specs.Reading.{OfficeRows, tables}
+use Rattle.office_rows.specs.Causes.{is_good_office, office_is_bad}
+use Rattle.catalogue_core.specs.CatalogueCauses.{are_good_places, are_good_units, unit_numbers, is_good_element, are_good_container_rows, is_good_housing, places_are_bad, units_are_bad, elements_are_bad, containers_are_bad}
 use Rattle.office_rows.specs.Judged.{HasNoCatalogueCause}
 use Rattle.office_rows.proofs.Judging.{hold_none}
 use Rattle.office_rows.proofs.ShownUnits.{office_shown, AreShownUnits, units_shown}
@@ -13,7 +14,7 @@ use Rattle.office_rows.proofs.ShownElements.{elements_shown, AreShownContainers,
 
 pub catalogue_is_shown : (version : Version) (s : State) → HasNoCatalogueCause version s
 catalogue_is_shown version s g =
-    let t : Rows = tables version s in
+    let t : OfficeRows = tables version s in
     let u : AreShownUnits version s = units_shown version s g in
     let e = elements_shown version s g u.told in
     let c : AreShownContainers version s = containers_shown version s g in
@@ -28,9 +29,9 @@ catalogue_is_shown version s g =
         housings = h.places;
         housed_once = h.once;
       },
-      hold_none (office_is_bad version t) (places_are_bad version t ∷ units_are_bad t ∷ elements_are_bad t ∷ containers_are_bad t ∷ []) (not_from_true (is_good_office version t.office) (office_shown version s g))
-          (hold_none (places_are_bad version t) (units_are_bad t ∷ elements_are_bad t ∷ containers_are_bad t ∷ []) (not_from_true (are_good_places version t.places) u.places)
-          (hold_none (units_are_bad t) (elements_are_bad t ∷ containers_are_bad t ∷ []) (not_from_true (are_good_units t) u.units)
-          (hold_none (elements_are_bad t) (containers_are_bad t ∷ []) (not_from_true (list_all (is_good_element (unit_numbers t)) t.elements) e.0)
-          (hold_none (containers_are_bad t) [] (not_from_true _ (and_from (are_good_container_rows t.containers) (list_all (is_good_housing t) t.housings) c.good h.good)) refl)))),
+      hold_none (office_is_bad version t) (places_are_bad version t.catalogue ∷ units_are_bad t.office.next_unit t.catalogue ∷ elements_are_bad t.catalogue ∷ containers_are_bad t.catalogue ∷ []) (not_from_true (is_good_office version t.office) (office_shown version s g))
+          (hold_none (places_are_bad version t.catalogue) (units_are_bad t.office.next_unit t.catalogue ∷ elements_are_bad t.catalogue ∷ containers_are_bad t.catalogue ∷ []) (not_from_true (are_good_places version t.catalogue.places) u.places)
+          (hold_none (units_are_bad t.office.next_unit t.catalogue) (elements_are_bad t.catalogue ∷ containers_are_bad t.catalogue ∷ []) (not_from_true (are_good_units t.office.next_unit t.catalogue) u.units)
+          (hold_none (elements_are_bad t.catalogue) (containers_are_bad t.catalogue ∷ []) (not_from_true (list_all (is_good_element (unit_numbers t.catalogue)) t.catalogue.elements) e.0)
+          (hold_none (containers_are_bad t.catalogue) [] (not_from_true _ (and_from (are_good_container_rows t.catalogue.containers) (list_all (is_good_housing t.catalogue) t.catalogue.housings) c.good h.good)) refl)))),
     )

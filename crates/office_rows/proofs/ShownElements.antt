@@ -15,12 +15,13 @@ use Rattle.isad_core.specs.Limits.{most_containers}
 use Rattle.office_core.specs.Laws.{numbers_from}
 use Rattle.office_core.specs.State.{State}
 use Rattle.office_core.specs.Words.{numbered, stands}
-use Rattle.office_rows.specs.DeskRows.{rows_from}
+use Rattle.office_rows.specs.DeskShown.{rows_from}
 use Rattle.catalogue_core.specs.Sources.{is_between}
 use Rattle.catalogue_core.specs.GoodCatalogues.{is_good_text, IsGoodUnit}
-use Rattle.office_rows.specs.Reading.{ElementRow, after_level, element_rows_from, ContainerRow, container_row, HousingRow, housing_row, housings_of, Rows, tables, number_of}
-use Rattle.office_rows.specs.DeskCauses.{are_numbered_from}
-use Rattle.office_rows.specs.CatalogueCauses.{unit_numbers, is_good_element, is_good_housing, are_good_container_rows, is_same_element, is_same_container, is_same_place, is_housed_alike}
+use Rattle.catalogue_core.specs.CatalogueRows.{ElementRow, after_level, element_rows_from, ContainerRow, container_row, HousingRow, housing_row, housings_of}
+use Rattle.office_rows.specs.Reading.{OfficeRows, tables, number_of}
+use Rattle.isad_core.specs.Words.{are_numbered_from}
+use Rattle.catalogue_core.specs.CatalogueCauses.{unit_numbers, is_good_element, is_good_housing, are_good_container_rows, is_same_element, is_same_container, is_same_place, is_housed_alike}
 use Rattle.office_rows.specs.Judged.{IsSoundCatalogue}
 use Rattle.office_core.proofs.Words.{same_number, other_number}
 use Rattle.office_rows.proofs.UnitRows.{HasRows, all_rows, number_there, number_back, after_less, elements_own, housings_own, box_itself}
@@ -81,12 +82,12 @@ numbers_differ u j (Some text ∷ texts) h =
       numbers_differ u (suc j) texts rest,
     )
 
-pub elements_shown : (version : Version) (s : State) → IsSoundCatalogue s → unit_numbers (tables version s) ≡ map number_of (nodes s.catalogue.forest)
-    → (list_all (is_good_element (unit_numbers (tables version s))) (tables version s).elements ≡ true) × IsDistinct is_same_element (tables version s).elements
+pub elements_shown : (version : Version) (s : State) → IsSoundCatalogue s → unit_numbers (tables version s).catalogue ≡ map number_of (nodes s.catalogue.forest)
+    → (list_all (is_good_element (unit_numbers (tables version s).catalogue)) (tables version s).catalogue.elements ≡ true) × IsDistinct is_same_element (tables version s).catalogue.elements
 elements_shown version s g told =
     let us = nodes s.catalogue.forest in
     let rows : Unit → List ElementRow = λ unit. element_rows_from unit.id 1 unit.values.texts in (
-      in_all (is_good_element (unit_numbers (tables version s))) (tables version s).elements (λ row i.
+      in_all (is_good_element (unit_numbers (tables version s).catalogue)) (tables version s).catalogue.elements (λ row i.
           let o = in_flat_map rows us row i in
           let k = each_in (IsGoodUnit s.catalogue.containers) us o.unit g.units.each o.there in
           let r = text_row o.unit.id 1 o.unit.values.texts k.texts row o.own in
@@ -95,8 +96,8 @@ elements_shown version s g told =
           let w = ranged r.place r.behind (omega (arith, last, count)) in
           and_from (is_between 1 26 row.k) _ (ap (is_between 1 26) r.number ∙ w.0)
           (and_from (not (nat_eq row.k 4)) _ (ap (λ n. not (nat_eq n 4)) r.number ∙ w.1)
-          (and_from (not (is_blank_text row.value)) (stands row.unit (unit_numbers (tables version s))) (not_from_false (is_blank_text row.value) r.filled)
-          (ap (λ n. stands n (unit_numbers (tables version s))) r.unit ∙ (ap (stands o.unit.id) told ∙ any_from_In (map number_of us) o.unit.id (In-map number_of us o.unit o.there)))))),
+          (and_from (not (is_blank_text row.value)) (stands row.unit (unit_numbers (tables version s).catalogue)) (not_from_false (is_blank_text row.value) r.filled)
+          (ap (λ n. stands n (unit_numbers (tables version s).catalogue)) r.unit ∙ (ap (stands o.unit.id) told ∙ any_from_In (map number_of us) o.unit.id (In-map number_of us o.unit o.there)))))),
       pairs_apart (λ (row : ElementRow). row.unit) (λ (row : ElementRow). row.k) rows (λ u. elements_own u.id 1 u.values.texts) us g.units.ids
           (λ u i. numbers_differ u.id 1 u.values.texts (each_in (IsGoodUnit s.catalogue.containers) us u g.units.each i).texts),
     )
@@ -129,9 +130,9 @@ rows_differ n (b ∷ boxes) d = (others (suc n) boxes d.0, rows_differ (suc n) b
     others m (x ∷ xs) h = (h.0, others (suc m) xs h.1)
 
 pub record AreShownContainers (version : Version) (s : State) : Type 0 where
-  pub good : are_good_container_rows (tables version s).containers ≡ true
-  pub numbers : IsDistinct nat_eq (map (λ (row : ContainerRow). row.id) (tables version s).containers)
-  pub boxes : IsDistinct is_same_container (tables version s).containers
+  pub good : are_good_container_rows (tables version s).catalogue.containers ≡ true
+  pub numbers : IsDistinct nat_eq (map (λ (row : ContainerRow). row.id) (tables version s).catalogue.containers)
+  pub boxes : IsDistinct is_same_container (tables version s).catalogue.containers
 
 pub containers_shown : (version : Version) (s : State) → IsSoundCatalogue s → AreShownContainers version s
 containers_shown version s g =
@@ -207,29 +208,29 @@ number_each boxes (b ∷ bs) h d =
         )
 
 pub record AreShownHousings (version : Version) (s : State) : Type 0 where
-  pub good : list_all (is_good_housing (tables version s)) (tables version s).housings ≡ true
-  pub places : IsDistinct is_same_place (tables version s).housings
-  pub once : IsDistinct is_housed_alike (tables version s).housings
+  pub good : list_all (is_good_housing (tables version s).catalogue) (tables version s).catalogue.housings ≡ true
+  pub places : IsDistinct is_same_place (tables version s).catalogue.housings
+  pub once : IsDistinct is_housed_alike (tables version s).catalogue.housings
 
-pub housings_shown : (version : Version) (s : State) → IsSoundCatalogue s → unit_numbers (tables version s) ≡ map number_of (nodes s.catalogue.forest) → AreShownHousings version s
+pub housings_shown : (version : Version) (s : State) → IsSoundCatalogue s → unit_numbers (tables version s).catalogue ≡ map number_of (nodes s.catalogue.forest) → AreShownHousings version s
 housings_shown version s g told =
-    let t : Rows = tables version s in
+    let t : OfficeRows = tables version s in
     let us = nodes s.catalogue.forest in
     let rows : Unit → List HousingRow = λ unit. rows_from (housing_row s.catalogue.containers unit.id) 1 unit.values.boxes in
     record {
-      good = in_all (is_good_housing t) t.housings (λ row i.
+      good = in_all (is_good_housing t.catalogue) t.catalogue.housings (λ row i.
           let o = in_flat_map rows us row i in
           let u : Unit = o.unit in
           let k = each_in (IsGoodUnit s.catalogue.containers) us u g.units.each o.there in
           let r = box_row s.catalogue.containers u.id 1 u.values.boxes row o.own in
-          let mine : length (housings_of row.unit t.housings) ≡ length u.values.boxes =
-          ap (λ n. length (housings_of n t.housings)) r.unit
+          let mine : length (housings_of row.unit t.catalogue.housings) ≡ length u.values.boxes =
+          ap (λ n. length (housings_of n t.catalogue.housings)) r.unit
           ∙ (ap length (each_in (HasRows t s.catalogue.containers) us u (all_rows version s g.units.ids) o.there).housings ∙ count_rows (housing_row s.catalogue.containers u.id) 1 u.values.boxes) in
           let last = r.before in
-          and_from (stands row.unit (unit_numbers t)) _ (ap (λ n. stands n (unit_numbers t)) r.unit ∙ (ap (stands u.id) told ∙ any_from_In (map number_of us) u.id (In-map number_of us u o.there)))
-          (and_from (is_between 1 (length t.containers) row.container) (is_between 1 (length (housings_of row.unit t.housings)) row.ord)
+          and_from (stands row.unit (unit_numbers t.catalogue)) _ (ap (λ n. stands n (unit_numbers t.catalogue)) r.unit ∙ (ap (stands u.id) told ∙ any_from_In (map number_of us) u.id (In-map number_of us u o.there)))
+          (and_from (is_between 1 (length t.catalogue.containers) row.container) (is_between 1 (length (housings_of row.unit t.catalogue.housings)) row.ord)
           (ap (λ n. is_between 1 n row.container) (count_rows container_row 1 s.catalogue.containers) ∙ (ap (is_between 1 (length s.catalogue.containers)) r.container ∙ number_ranged s.catalogue.containers r.box (all_in (λ box. list_any (is_same_box box) s.catalogue.containers) u.values.boxes r.box k.known r.there)))
-          (and_from (nat_le 1 row.ord) (nat_le row.ord (length (housings_of row.unit t.housings))) (le-leb 1 row.ord r.behind) (le-leb row.ord (length (housings_of row.unit t.housings)) (omega (arith, mine, last))))));
+          (and_from (nat_le 1 row.ord) (nat_le row.ord (length (housings_of row.unit t.catalogue.housings))) (le-leb 1 row.ord r.behind) (le-leb row.ord (length (housings_of row.unit t.catalogue.housings)) (omega (arith, mine, last))))));
       places = pairs_apart (λ (row : HousingRow). row.unit) (λ (row : HousingRow). row.ord) rows (λ u. housings_own s.catalogue.containers u.id 1 u.values.boxes) us g.units.ids
           (λ u i. subst (IsDistinct nat_eq) (sym (ords_count s.catalogue.containers u.id 1 u.values.boxes)) (numbers_apart 1 (length u.values.boxes)));
       once = pairs_apart (λ (row : HousingRow). row.unit) (λ (row : HousingRow). row.container) rows (λ u. housings_own s.catalogue.containers u.id 1 u.values.boxes) us g.units.ids

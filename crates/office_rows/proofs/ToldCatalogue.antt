@@ -24,17 +24,19 @@ use Rattle.isad_core.specs.Limits.{most_units, most_unit_numbers, most_container
 use Rattle.office_core.specs.Words.{stands}
 use Rattle.catalogue_core.specs.Sources.{is_source, is_between}
 use Rattle.catalogue_core.specs.Moves.{height}
+use Rattle.catalogue_core.proofs.Heights.{height-each}
 use Rattle.office_core.specs.Soundness.{is_country, is_repository, AreGoodSettings}
 use Rattle.catalogue_core.specs.GoodCatalogues.{IsSomeDay, IsGoodUnit, AreGoodUnits, is_same_unit}
 use Rattle.office_core.specs.Laws.{numbers_from}
-use Rattle.office_rows.specs.Reading.{OfficeRow, UnitRow, unit_row, number_of, ElementRow, ContainerRow, HousingRow, Rows, place_rows, state_of, box_from, text_said, boxes_said, places_said, unit_said, unit_from, housings_of}
-use Rattle.office_rows.specs.DeskCauses.{are_numbered_from}
-use Rattle.office_rows.specs.CatalogueCauses.{is_good_office, are_good_places, is_some_day, is_good_unit_row, unit_numbers, place_numbers, all_stand_in, are_good_units, is_good_element, is_good_housing, are_good_container_rows, office_is_bad, places_are_bad, units_are_bad, elements_are_bad, containers_are_bad, is_named_alike, MeetsCatalogueKeys, ArePlacesOf, IsCatalogueOf}
-use Rattle.office_rows.specs.Causes.{catalogue_cause}
-use Rattle.office_rows.specs.Judged.{IsSoundCatalogue, SaysTheCatalogue}
+use Rattle.catalogue_core.specs.CatalogueRows.{OfficeRow, UnitRow, unit_row, ElementRow, ContainerRow, HousingRow, place_rows, box_from, text_said, places_said, housings_of}
+use Rattle.office_rows.specs.Reading.{number_of, OfficeRows, state_of, boxes_said, unit_said, unit_from}
+use Rattle.isad_core.specs.Words.{are_numbered_from}
+use Rattle.office_rows.specs.Causes.{is_good_office, office_is_bad, catalogue_cause}
+use Rattle.catalogue_core.specs.CatalogueCauses.{is_unit_number, are_good_places, is_some_day, is_good_unit_row, unit_numbers, place_numbers, all_stand_in, are_good_units, is_good_element, is_good_housing, are_good_container_rows, places_are_bad, units_are_bad, elements_are_bad, containers_are_bad, is_named_alike, MeetsCatalogueKeys, ArePlacesOf}
+use Rattle.office_rows.specs.Judged.{IsCatalogueOf, IsSoundCatalogue, SaysTheCatalogue}
 use Rattle.office_rows.proofs.Judging.{none_held}
 use Rattle.office_rows.proofs.RowsByNumber.{in_map, all_in, stands_in}
-use Rattle.office_rows.proofs.ToldPlaces.{ArePlaced, good_places}
+use Rattle.office_rows.proofs.ToldPlaces.{ArePlaced, good_places, numbers_given}
 use Rattle.office_rows.proofs.ToldUnits.{AreUnitsOf, each_said, units_are_said, said_id}
 use Rattle.office_rows.proofs.ToldElements.{IsGoodElement, good_element, elements_are_said, texts_are_good}
 use Rattle.office_rows.proofs.ToldContainers.{containers_are_said, boxes_apart, stay_distinct}
@@ -42,27 +44,27 @@ use Rattle.office_rows.proofs.ToldHousings.{IsGoodHousing, said_apart, said_know
 
 -- ---- no test holds
 
-pub record HasNoCause (version : Version) (t : Rows) : Type 0 where
+pub record HasNoCause (version : Version) (t : OfficeRows) : Type 0 where
   pub office : is_good_office version t.office ≡ true
-  pub places : are_good_places version t.places ≡ true
-  pub units : are_good_units t ≡ true
-  pub elements : list_all (is_good_element (unit_numbers t)) t.elements ≡ true
-  pub containers : are_good_container_rows t.containers ≡ true
-  pub housings : list_all (is_good_housing t) t.housings ≡ true
+  pub places : are_good_places version t.catalogue.places ≡ true
+  pub units : are_good_units t.office.next_unit t.catalogue ≡ true
+  pub elements : list_all (is_good_element (unit_numbers t.catalogue)) t.catalogue.elements ≡ true
+  pub containers : are_good_container_rows t.catalogue.containers ≡ true
+  pub housings : list_all (is_good_housing t.catalogue) t.catalogue.housings ≡ true
 
-pub no_cause : (version : Version) (t : Rows) → catalogue_cause version t ≡ None → HasNoCause version t
+pub no_cause : (version : Version) (t : OfficeRows) → catalogue_cause version t ≡ None → HasNoCause version t
 no_cause version t h =
-    let a = none_held (office_is_bad version t) (places_are_bad version t ∷ units_are_bad t ∷ elements_are_bad t ∷ containers_are_bad t ∷ []) h in
-    let b = none_held (places_are_bad version t) (units_are_bad t ∷ elements_are_bad t ∷ containers_are_bad t ∷ []) a.1 in
-    let c = none_held (units_are_bad t) (elements_are_bad t ∷ containers_are_bad t ∷ []) b.1 in
-    let d = none_held (elements_are_bad t) (containers_are_bad t ∷ []) c.1 in
-    let e = none_held (containers_are_bad t) [] d.1 in
-    let f = and_parts (are_good_container_rows t.containers) (list_all (is_good_housing t) t.housings) (not-false _ e.0) in
+    let a = none_held (office_is_bad version t) (places_are_bad version t.catalogue ∷ units_are_bad t.office.next_unit t.catalogue ∷ elements_are_bad t.catalogue ∷ containers_are_bad t.catalogue ∷ []) h in
+    let b = none_held (places_are_bad version t.catalogue) (units_are_bad t.office.next_unit t.catalogue ∷ elements_are_bad t.catalogue ∷ containers_are_bad t.catalogue ∷ []) a.1 in
+    let c = none_held (units_are_bad t.office.next_unit t.catalogue) (elements_are_bad t.catalogue ∷ containers_are_bad t.catalogue ∷ []) b.1 in
+    let d = none_held (elements_are_bad t.catalogue) (containers_are_bad t.catalogue ∷ []) c.1 in
+    let e = none_held (containers_are_bad t.catalogue) [] d.1 in
+    let f = and_parts (are_good_container_rows t.catalogue.containers) (list_all (is_good_housing t.catalogue) t.catalogue.housings) (not-false _ e.0) in
     record {
       office = not-false (is_good_office version t.office) a.0;
-      places = not-false (are_good_places version t.places) b.0;
-      units = not-false (are_good_units t) c.0;
-      elements = not-false (list_all (is_good_element (unit_numbers t)) t.elements) d.0;
+      places = not-false (are_good_places version t.catalogue.places) b.0;
+      units = not-false (are_good_units t.office.next_unit t.catalogue) c.0;
+      elements = not-false (list_all (is_good_element (unit_numbers t.catalogue)) t.catalogue.elements) d.0;
       containers = f.0;
       housings = f.1;
     }
@@ -113,16 +115,15 @@ record IsGoodRow (next : ℕ) (row : UnitRow) : Type 0 where
   level_short : length row.level ≤ most_bytes
   until : IsSomeDay row.until
 
-good_row : (next : ℕ) (row : UnitRow) → is_good_unit_row next row ≡ true → IsGoodRow next row
-good_row next row h =
-    let a = and_parts (nat_le 1 row.id) _ h in
-    let b = and_parts (nat_lt row.id next) _ a.1 in
+good_row : (next : ℕ) (row : UnitRow) → is_unit_number row.id ≡ true → is_good_unit_row next row ≡ true → IsGoodRow next row
+good_row next row n h =
+    let b = and_parts (nat_lt row.id next) _ h in
     let c = and_parts (is_source row.source) _ b.1 in
     let d = and_parts (not (is_blank_text row.legacy)) _ c.1 in
     let e = and_parts (nat_le (length row.legacy) most_bytes) _ d.1 in
     let f = and_parts (nat_le (length row.level) most_bytes) (is_some_day row.until) e.1 in
     record {
-      given = (leb-true 1 row.id a.0, ltb-true row.id next b.0);
+      given = ((within 1 most_unit_numbers row.id n).0, ltb-true row.id next b.0);
       source = c.0;
       legacy = not-true (is_blank_text row.legacy) d.0;
       legacy_short = leb-true (length row.legacy) most_bytes e.0;
@@ -130,33 +131,35 @@ good_row next row h =
       until = some_day row.until f.1;
     }
 
-record AreGoodRows (t : Rows) : Type 0 where
-  each : (row : UnitRow) → In row t.units → IsGoodRow t.office.next_unit row
-  placed : all_stand_in (place_numbers t.places) (unit_numbers t) ≡ true
-  told : all_stand_in (unit_numbers t) (place_numbers t.places) ≡ true
-  few : length t.units ≤ most_units
+record AreGoodRows (t : OfficeRows) : Type 0 where
+  each : (row : UnitRow) → In row t.catalogue.units → IsGoodRow t.office.next_unit row
+  placed : all_stand_in (place_numbers t.catalogue.places) (unit_numbers t.catalogue) ≡ true
+  told : all_stand_in (unit_numbers t.catalogue) (place_numbers t.catalogue.places) ≡ true
+  few : length t.catalogue.units ≤ most_units
   depth : height (state_of t).catalogue.forest ≤ most_deep
 
-good_rows : (t : Rows) → are_good_units t ≡ true → AreGoodRows t
-good_rows t h =
-    let a = and_parts (list_all (is_good_unit_row t.office.next_unit) t.units) _ h in
-    let b = and_parts (all_stand_in (place_numbers t.places) (unit_numbers t)) _ a.1 in
-    let c = and_parts (all_stand_in (unit_numbers t) (place_numbers t.places)) _ b.1 in
-    let d = and_parts (nat_le (length t.units) most_units) (nat_le (height (state_of t).catalogue.forest) most_deep) c.1 in
+good_rows : (version : Version) (t : OfficeRows) → are_good_places version t.catalogue.places ≡ true → are_good_units t.office.next_unit t.catalogue ≡ true → AreGoodRows t
+good_rows version t p h =
+    let a = and_parts (list_all (is_good_unit_row t.office.next_unit) t.catalogue.units) _ h in
+    let b = and_parts (all_stand_in (place_numbers t.catalogue.places) (unit_numbers t.catalogue)) _ a.1 in
+    let c = and_parts (all_stand_in (unit_numbers t.catalogue) (place_numbers t.catalogue.places)) _ b.1 in
+    let d = and_parts (nat_le (length t.catalogue.units) most_units) (nat_le (height (places_said t.catalogue.places)) most_deep) c.1 in
+    let number : (row : UnitRow) → In row t.catalogue.units → is_unit_number row.id ≡ true = λ row i.
+    numbers_given version t.catalogue.places row.id p (stands_in row.id (place_numbers t.catalogue.places) (all_in (λ n. stands n (place_numbers t.catalogue.places)) (unit_numbers t.catalogue) row.id b.0 (In-map (λ (row : UnitRow). row.id) t.catalogue.units row i))) in
     record {
-      each = λ row i. good_row t.office.next_unit row (all_in (is_good_unit_row t.office.next_unit) t.units row a.0 i);
+      each = λ row i. good_row t.office.next_unit row (number row i) (all_in (is_good_unit_row t.office.next_unit) t.catalogue.units row a.0 i);
       placed = b.0;
       told = c.0;
-      few = leb-true (length t.units) most_units d.0;
-      depth = leb-true (height (state_of t).catalogue.forest) most_deep d.1;
+      few = leb-true (length t.catalogue.units) most_units d.0;
+      depth = subst (λ n. n ≤ most_deep) (sym (height-each (unit_said t) (places_said t.catalogue.places))) (leb-true (height (places_said t.catalogue.places)) most_deep d.1);
     }
 
-units_of : (version : Version) (t : Rows) → ArePlaced version t.places (places_said t.places) → AreGoodRows t → AreUnitsOf t (places_said t.places)
+units_of : (version : Version) (t : OfficeRows) → ArePlaced version t.catalogue.places (places_said t.catalogue.places) → AreGoodRows t → AreUnitsOf t (places_said t.catalogue.places)
 units_of version t p g =
     record {
       apart = p.apart;
-      told = λ u i. in_map (λ (row : UnitRow). row.id) t.units u (stands_in u (unit_numbers t) (all_in (λ n. stands n (unit_numbers t)) (place_numbers t.places) u g.told (p.numbered u i)));
-      placed = λ row i. p.placed row.id (stands_in row.id (place_numbers t.places) (all_in (λ n. stands n (place_numbers t.places)) (unit_numbers t) row.id g.placed (In-map (λ (row : UnitRow). row.id) t.units row i)));
+      told = λ u i. in_map (λ (row : UnitRow). row.id) t.catalogue.units u (stands_in u (unit_numbers t.catalogue) (all_in (λ n. stands n (unit_numbers t.catalogue)) (place_numbers t.catalogue.places) u g.told (p.numbered u i)));
+      placed = λ row i. p.placed row.id (stands_in row.id (place_numbers t.catalogue.places) (all_in (λ n. stands n (place_numbers t.catalogue.places)) (unit_numbers t.catalogue) row.id g.placed (In-map (λ (row : UnitRow). row.id) t.catalogue.units row i)));
     }
 
 -- no two units have one number in one source
@@ -175,7 +178,7 @@ names_apart (u ∷ us) d = (others us d.0, names_apart us d.1)
 alike_flips : (a b : UnitRow) → is_named_alike a b ≡ is_named_alike b a
 alike_flips a b = grind (arith, bytes_eq-Decides a.source b.source, bytes_eq-Decides b.source a.source, bytes_eq-Decides a.legacy b.legacy, bytes_eq-Decides b.legacy a.legacy)
 
-good_unit : (t : Rows) (row : UnitRow) → IsGoodRow t.office.next_unit row → ((e : ElementRow) → In e t.elements → is_blank_text e.value ≡ false) → distinct (boxes_said (map box_from t.containers) t.housings row.id) ≡ boxes_said (map box_from t.containers) t.housings row.id → IsGoodUnit (map box_from t.containers) (unit_from t row)
+good_unit : (t : OfficeRows) (row : UnitRow) → IsGoodRow t.office.next_unit row → ((e : ElementRow) → In e t.catalogue.elements → is_blank_text e.value ≡ false) → distinct (boxes_said (map box_from t.catalogue.containers) t.catalogue.housings row.id) ≡ boxes_said (map box_from t.catalogue.containers) t.catalogue.housings row.id → IsGoodUnit (map box_from t.catalogue.containers) (unit_from t row)
 good_unit t row g e d =
     record {
       source = g.source;
@@ -183,8 +186,8 @@ good_unit t row g e d =
       legacy_short = g.legacy_short;
       level_short = g.level_short;
       texts = texts_are_good t row.id (numbers_from 1 25) e;
-      texts_count = length-map (numbers_from 1 25) (text_said t.elements row.id);
-      known = said_known (map box_from t.containers) (housings_of row.id t.housings) 1 (length (housings_of row.id t.housings));
+      texts_count = length-map (numbers_from 1 25) (text_said t.catalogue.elements row.id);
+      known = said_known (map box_from t.catalogue.containers) (housings_of row.id t.catalogue.housings) 1 (length (housings_of row.id t.catalogue.housings));
       apart = d;
     }
 
@@ -192,22 +195,22 @@ all_mapped : (P : Unit → Type 0) (g : ℕ → Unit) (us : List ℕ) → ((u : 
 all_mapped P g [] h = tt
 all_mapped P g (u ∷ us) h = (h u (inl refl), all_mapped P g us (λ v i. h v (inr i)))
 
-ids_said : (t : Rows) (us : List ℕ) → map (λ (unit : Unit). unit.id) (map (unit_said t) us) ≡ us
+ids_said : (t : OfficeRows) (us : List ℕ) → map (λ (unit : Unit). unit.id) (map (unit_said t) us) ≡ us
 ids_said t [] = refl
 ids_said t (u ∷ us) = ap (λ v. v ∷ map (λ (unit : Unit). unit.id) (map (unit_said t) us)) (said_id t u) ∙ ap (λ l. u ∷ l) (ids_said t us)
 
 -- ---- the containers
 
-good_housing : (t : Rows) (units : List ℕ) → ((u : ℕ) → In u (unit_numbers t) → In u units) → (row : HousingRow) → is_good_housing t row ≡ true → IsGoodHousing (map box_from t.containers) units t.housings row
+good_housing : (t : OfficeRows) (units : List ℕ) → ((u : ℕ) → In u (unit_numbers t.catalogue) → In u units) → (row : HousingRow) → is_good_housing t.catalogue row ≡ true → IsGoodHousing (map box_from t.catalogue.containers) units t.catalogue.housings row
 good_housing t units f row h =
-    let a = and_parts (stands row.unit (unit_numbers t)) _ h in
-    let b = and_parts (is_between 1 (length t.containers) row.container) (is_between 1 (length (housings_of row.unit t.housings)) row.ord) a.1 in
-    let n : length (map box_from t.containers) ≡ length t.containers = length-map t.containers box_from in
-    let c = within 1 (length t.containers) row.container b.0 in
+    let a = and_parts (stands row.unit (unit_numbers t.catalogue)) _ h in
+    let b = and_parts (is_between 1 (length t.catalogue.containers) row.container) (is_between 1 (length (housings_of row.unit t.catalogue.housings)) row.ord) a.1 in
+    let n : length (map box_from t.catalogue.containers) ≡ length t.catalogue.containers = length-map t.catalogue.containers box_from in
+    let c = within 1 (length t.catalogue.containers) row.container b.0 in
     record {
-      unit = f row.unit (stands_in row.unit (unit_numbers t) a.0);
+      unit = f row.unit (stands_in row.unit (unit_numbers t.catalogue) a.0);
       container = (c.0, (let l = c.1 in omega (arith, l, n)));
-      ord = within 1 (length (housings_of row.unit t.housings)) row.ord b.1;
+      ord = within 1 (length (housings_of row.unit t.catalogue.housings)) row.ord b.1;
     }
 
 names_there : (rows : List ContainerRow) → list_all (λ (row : ContainerRow). not (is_blank_text row.name)) rows ≡ true → list_all (λ (box : BoxKey). not (is_blank_text box.name)) (map box_from rows) ≡ true
@@ -215,52 +218,52 @@ names_there rows h = list_all-map (λ (box : BoxKey). not (is_blank_text box.nam
 
 -- ---- all of it
 
-module _ (version : Version) (t : Rows) (k : MeetsCatalogueKeys t) (n : HasNoCause version t) where
+module _ (version : Version) (t : OfficeRows) (k : MeetsCatalogueKeys t.catalogue) (n : HasNoCause version t) where
   boxes : List BoxKey
-  boxes = map box_from t.containers
+  boxes = map box_from t.catalogue.containers
 
-  placed : ArePlaced version t.places (places_said t.places)
-  placed = good_places version t.places n.places
+  placed : ArePlaced version t.catalogue.places (places_said t.catalogue.places)
+  placed = good_places version t.catalogue.places n.places
 
   rows : AreGoodRows t
-  rows = good_rows t n.units
+  rows = good_rows version t n.places n.units
 
-  units : AreUnitsOf t (places_said t.places)
+  units : AreUnitsOf t (places_said t.catalogue.places)
   units = units_of version t placed rows
 
-  reordered : IsPermutation (map unit_row (nodes (state_of t).catalogue.forest)) t.units
-  reordered = units_are_said t (places_said t.places) k.units units
+  reordered : IsPermutation (map unit_row (nodes (state_of t).catalogue.forest)) t.catalogue.units
+  reordered = units_are_said t (places_said t.catalogue.places) k.units units
 
-  boxes_differ : IsDistinct is_same_box (map box_from t.containers)
-  boxes_differ = boxes_apart t.containers k.boxes
+  boxes_differ : IsDistinct is_same_box (map box_from t.catalogue.containers)
+  boxes_differ = boxes_apart t.catalogue.containers k.boxes
 
-  there : (u : ℕ) → In u (unit_numbers t) → In u (nodes (places_said t.places))
-  there u i = let r = in_map (λ (row : UnitRow). row.id) t.units u i in subst (λ v. In v (nodes (places_said t.places))) r.is (units.placed r.it r.there)
+  there : (u : ℕ) → In u (unit_numbers t.catalogue) → In u (nodes (places_said t.catalogue.places))
+  there u i = let r = in_map (λ (row : UnitRow). row.id) t.catalogue.units u i in subst (λ v. In v (nodes (places_said t.catalogue.places))) r.is (units.placed r.it r.there)
 
-  element : (row : ElementRow) → In row t.elements → IsGoodElement (unit_numbers t) row
-  element row i = good_element (unit_numbers t) row (all_in (is_good_element (unit_numbers t)) t.elements row n.elements i)
+  element : (row : ElementRow) → In row t.catalogue.elements → IsGoodElement (unit_numbers t.catalogue) row
+  element row i = good_element (unit_numbers t.catalogue) row (all_in (is_good_element (unit_numbers t.catalogue)) t.catalogue.elements row n.elements i)
 
-  housing : (row : HousingRow) → In row t.housings → IsGoodHousing (map box_from t.containers) (nodes (places_said t.places)) t.housings row
-  housing row i = good_housing t (nodes (places_said t.places)) there row (all_in (is_good_housing t) t.housings row n.housings i)
+  housing : (row : HousingRow) → In row t.catalogue.housings → IsGoodHousing (map box_from t.catalogue.containers) (nodes (places_said t.catalogue.places)) t.catalogue.housings row
+  housing row i = good_housing t (nodes (places_said t.catalogue.places)) there row (all_in (is_good_housing t.catalogue) t.catalogue.housings row n.housings i)
 
   office : IsGoodOffice version t.office
   office = good_office version t.office n.office
 
   -- what is so of each unit of a row is so of each unit
-  of_units : (P : Unit → Type 0) → ((row : UnitRow) → In row t.units → P (unit_from t row)) → AllByRecursion P (nodes (state_of t).catalogue.forest)
-  of_units P h = subst (AllByRecursion P) (sym (nodes-each (unit_said t) (places_said t.places))) (all_mapped P (unit_said t) (nodes (places_said t.places)) (each_said t (places_said t.places) P k.units units h))
+  of_units : (P : Unit → Type 0) → ((row : UnitRow) → In row t.catalogue.units → P (unit_from t row)) → AllByRecursion P (nodes (state_of t).catalogue.forest)
+  of_units P h = subst (AllByRecursion P) (sym (nodes-each (unit_said t) (places_said t.catalogue.places))) (all_mapped P (unit_said t) (nodes (places_said t.catalogue.places)) (each_said t (places_said t.catalogue.places) P k.units units h))
 
   sound_units : AreGoodUnits (state_of t).catalogue
   sound_units =
       let f = (state_of t).catalogue.forest in
       let count : length (map unit_row (nodes f)) ≡ length (nodes f) = length-map (nodes f) unit_row in
-      let all : length t.units ≡ length (map unit_row (nodes f)) = length_permutation (map unit_row (nodes f)) t.units reordered in
+      let all : length t.catalogue.units ≡ length (map unit_row (nodes f)) = length_permutation (map unit_row (nodes f)) t.catalogue.units reordered in
       let sized : length (nodes f) ≡ size f = length-nodes f in
       record {
-        each = of_units (IsGoodUnit (map box_from t.containers)) (λ row i. good_unit t row (rows.each row i) (λ e j. (element e j).filled)
-            (said_apart (map box_from t.containers) t.housings (nodes (places_said t.places)) boxes_differ k.housings housing k.housed_once row.id));
-        ids = subst (IsDistinct nat_eq) (sym (ap (map (λ (unit : Unit). unit.id)) (nodes-each (unit_said t) (places_said t.places)) ∙ ids_said t (nodes (places_said t.places)))) placed.apart;
-        pairs = names_apart (nodes f) (IsDistinct-IsPermutation is_named_alike alike_flips t.units (map unit_row (nodes f)) (IsPermutation-sym (map unit_row (nodes f)) t.units reordered) k.names);
+        each = of_units (IsGoodUnit (map box_from t.catalogue.containers)) (λ row i. good_unit t row (rows.each row i) (λ e j. (element e j).filled)
+            (said_apart (map box_from t.catalogue.containers) t.catalogue.housings (nodes (places_said t.catalogue.places)) boxes_differ k.housings housing k.housed_once row.id));
+        ids = subst (IsDistinct nat_eq) (sym (ap (map (λ (unit : Unit). unit.id)) (nodes-each (unit_said t) (places_said t.catalogue.places)) ∙ ids_said t (nodes (places_said t.catalogue.places)))) placed.apart;
+        pairs = names_apart (nodes f) (IsDistinct-IsPermutation is_named_alike alike_flips t.catalogue.units (map unit_row (nodes f)) (IsPermutation-sym (map unit_row (nodes f)) t.catalogue.units reordered) k.names);
         given = of_units (λ (unit : Unit). (1 ≤ unit.id) × (unit.id < t.office.next_unit)) (λ row i. (rows.each row i).given);
         next = office.next;
         few = (let l = rows.few in omega (arith, l, count, all, sized));
@@ -269,29 +272,29 @@ module _ (version : Version) (t : Rows) (k : MeetsCatalogueKeys t) (n : HasNoCau
 
   sound : IsSoundCatalogue (state_of t)
   sound =
-      let c = and_parts (are_numbered_from (λ (row : ContainerRow). row.id) 1 t.containers) _ n.containers in
-      let d = and_parts (list_all (λ (row : ContainerRow). not (is_blank_text row.name)) t.containers) (nat_le (length t.containers) most_containers) c.1 in
-      let l = leb-true (length t.containers) most_containers d.1 in
-      let same : length (map box_from t.containers) ≡ length t.containers = length-map t.containers box_from in
+      let c = and_parts (are_numbered_from (λ (row : ContainerRow). row.id) 1 t.catalogue.containers) _ n.containers in
+      let d = and_parts (list_all (λ (row : ContainerRow). not (is_blank_text row.name)) t.catalogue.containers) (nat_le (length t.catalogue.containers) most_containers) c.1 in
+      let l = leb-true (length t.catalogue.containers) most_containers d.1 in
+      let same : length (map box_from t.catalogue.containers) ≡ length t.catalogue.containers = length-map t.catalogue.containers box_from in
       record {
         settings = office.settings;
         today = office.day;
         closures = of_units (λ (unit : Unit). IsSomeDay unit.until) (λ row i. (rows.each row i).until);
         units = sound_units;
-        containers = record { named = names_there t.containers d.0; few = omega (arith, l, same) };
-        boxes = stay_distinct (map box_from t.containers) boxes_differ;
+        containers = record { named = names_there t.catalogue.containers d.0; few = omega (arith, l, same) };
+        boxes = stay_distinct (map box_from t.catalogue.containers) boxes_differ;
       }
 
   shown : IsCatalogueOf version t (state_of t)
   shown =
-      let f = places_said t.places in
-      let c = and_parts (are_numbered_from (λ (row : ContainerRow). row.id) 1 t.containers) _ n.containers in
+      let f = places_said t.catalogue.places in
+      let c = and_parts (are_numbered_from (λ (row : ContainerRow). row.id) 1 t.catalogue.containers) _ n.containers in
       record {
         office = ap (λ v. record t.office { version = v }) office.of_version;
         units = reordered;
-        places = subst (λ g. ArePlacesOf (place_rows version g) t.places) (sym (numbers_back f)) placed.rows;
-        elements = elements_are_said t f placed.apart k.elements (λ row i. let e = element row i in (e.number, there row.unit (stands_in row.unit (unit_numbers t) e.unit)));
-        containers = subst (λ l. IsPermutation l t.containers) (sym (containers_are_said 1 t.containers c.0)) (IsPermutation-refl t.containers);
+        places = subst (λ g. ArePlacesOf (place_rows version g) t.catalogue.places) (sym (numbers_back f)) placed.rows;
+        elements = elements_are_said t f placed.apart k.elements (λ row i. let e = element row i in (e.number, there row.unit (stands_in row.unit (unit_numbers t.catalogue) e.unit)));
+        containers = subst (λ l. IsPermutation l t.catalogue.containers) (sym (containers_are_said 1 t.catalogue.containers c.0)) (IsPermutation-refl t.catalogue.containers);
         housings = housings_are_said t f placed.apart boxes_differ k.housings housing;
       }
     where
@@ -301,5 +304,5 @@ module _ (version : Version) (t : Rows) (k : MeetsCatalogueKeys t) (n : HasNoCau
           ap (λ v. Node v (each number_of (each (unit_said t) c)) (each number_of (each (unit_said t) o))) (said_id t u)
           ∙ (ap (λ x. Node u x (each number_of (each (unit_said t) o))) (numbers_back c) ∙ ap (λ x. Node u c x) (numbers_back o))
 
-pub catalogue_is_said : (version : Version) (t : Rows) → SaysTheCatalogue version t
+pub catalogue_is_said : (version : Version) (t : OfficeRows) → SaysTheCatalogue version t
 catalogue_is_said version t k h = let n = no_cause version t h in (sound version t k n, shown version t k n)

@@ -8,10 +8,10 @@ use Rattle.isad_core.specs.Boxes.{distinct, is_same as is_same_box}
 use Rattle.catalogue_core.specs.Merging.{box_number, number_in}
 use Rattle.tree_core.proofs.Lists.{In}
 use Rattle.office_core.specs.Words.{numbered}
-use Rattle.office_rows.specs.DeskRows.{rows_from}
-use Rattle.office_rows.specs.Reading.{ContainerRow, container_row, box_from}
-use Rattle.office_rows.specs.DeskCauses.{are_numbered_from}
-use Rattle.office_rows.specs.CatalogueCauses.{is_same_container}
+use Rattle.office_rows.specs.DeskShown.{rows_from}
+use Rattle.catalogue_core.specs.CatalogueRows.{ContainerRow, container_row, box_from}
+use Rattle.isad_core.specs.Words.{are_numbered_from}
+use Rattle.catalogue_core.specs.CatalogueCauses.{is_same_container}
 use Rattle.catalogue_core.proofs.Imported.{same_box}
 use Rattle.office_rows.proofs.UnitRows.{box_itself}
 use Rattle.office_rows.proofs.RowsByNumber.{each_in}

@@ -18,8 +18,9 @@ use Rattle.office_core.specs.Laws.{numbers_from}
 use Rattle.office_core.specs.Words.{stands}
 use Rattle.catalogue_core.specs.Sources.{is_between}
 use Rattle.catalogue_core.specs.GoodCatalogues.{is_good_text}
-use Rattle.office_rows.specs.Reading.{ElementRow, after_level, element_rows_from, Rows, text_said, unit_said}
-use Rattle.office_rows.specs.CatalogueCauses.{is_same_element, is_good_element}
+use Rattle.catalogue_core.specs.CatalogueRows.{ElementRow, after_level, element_rows_from, text_said}
+use Rattle.office_rows.specs.Reading.{OfficeRows, unit_said}
+use Rattle.catalogue_core.specs.CatalogueCauses.{is_same_element, is_good_element}
 use Rattle.office_rows.proofs.UnitRows.{found_kept}
 use Rattle.office_rows.proofs.RowsByNumber.{in_filter, flat_map_same, flat_map_reordered, grouped, one_kept, in_numbers, own_apart}
 use Rattle.office_rows.proofs.ToldUnits.{said_id, said_texts}
@@ -104,29 +105,29 @@ good_element units row h =
       unit = c.1;
     }
 
-pub elements_are_said : (t : Rows) (f : Forest ℕ) → IsDistinct nat_eq (nodes f) → IsDistinct is_same_element t.elements → ((row : ElementRow) → In row t.elements → (In row.k numbers) × (In row.unit (nodes f)))
-    → IsPermutation (flat_map (λ (unit : Unit). element_rows_from unit.id 1 unit.values.texts) (nodes (each (unit_said t) f))) t.elements
+pub elements_are_said : (t : OfficeRows) (f : Forest ℕ) → IsDistinct nat_eq (nodes f) → IsDistinct is_same_element t.catalogue.elements → ((row : ElementRow) → In row t.catalogue.elements → (In row.k numbers) × (In row.unit (nodes f)))
+    → IsPermutation (flat_map (λ (unit : Unit). element_rows_from unit.id 1 unit.values.texts) (nodes (each (unit_said t) f))) t.catalogue.elements
 elements_are_said t f a d h =
     let key : ElementRow → ℕ = λ row. row.unit in
     let shown : Unit → List ElementRow = λ unit. element_rows_from unit.id 1 unit.values.texts in
-    let of : ℕ → List ElementRow = λ u. element_rows_from u 1 (map (text_said t.elements u) (numbers_from 1 25)) in
+    let of : ℕ → List ElementRow = λ u. element_rows_from u 1 (map (text_said t.catalogue.elements u) (numbers_from 1 25)) in
     let same : flat_map shown (nodes (each (unit_said t) f)) ≡ flat_map of (nodes f) =
     ap (flat_map shown) (nodes-each (unit_said t) f)
     ∙ (flat_map-map shown (unit_said t) (nodes f)
     ∙ flat_map_same (λ u. shown (unit_said t u)) of (nodes f) (λ u i. ap (λ n. element_rows_from n 1 (unit_said t u).values.texts) (said_id t u) ∙ ap (element_rows_from u 1) (said_texts t u))) in
-    subst (λ l. IsPermutation l t.elements) (sym same)
-    (IsPermutation-trans (flat_map of (nodes f)) (flat_map (λ u. mine u t.elements) (nodes f)) t.elements
-    (flat_map_reordered of (λ u. mine u t.elements) (nodes f) (λ u i.
-    subst (λ l. IsPermutation l (mine u t.elements)) (sym (all_shown u 1 25 t.elements d))
-    (grouped (λ (row : ElementRow). row.k) numbers (mine u t.elements) numbers_apart (λ row j. (h row (in_filter (λ (row : ElementRow). nat_eq row.unit u) t.elements row j).0).0))))
-    (grouped key (nodes f) t.elements a (λ row i. (h row i).1)))
+    subst (λ l. IsPermutation l t.catalogue.elements) (sym same)
+    (IsPermutation-trans (flat_map of (nodes f)) (flat_map (λ u. mine u t.catalogue.elements) (nodes f)) t.catalogue.elements
+    (flat_map_reordered of (λ u. mine u t.catalogue.elements) (nodes f) (λ u i.
+    subst (λ l. IsPermutation l (mine u t.catalogue.elements)) (sym (all_shown u 1 25 t.catalogue.elements d))
+    (grouped (λ (row : ElementRow). row.k) numbers (mine u t.catalogue.elements) numbers_apart (λ row j. (h row (in_filter (λ (row : ElementRow). nat_eq row.unit u) t.catalogue.elements row j).0).0))))
+    (grouped key (nodes f) t.catalogue.elements a (λ row i. (h row i).1)))
 
 -- each text that is said is one of a row
-pub texts_are_good : (t : Rows) (u : ℕ) (ns : List ℕ) → ((row : ElementRow) → In row t.elements → is_blank_text row.value ≡ false) → list_all is_good_text (map (text_said t.elements u) ns) ≡ true
+pub texts_are_good : (t : OfficeRows) (u : ℕ) (ns : List ℕ) → ((row : ElementRow) → In row t.catalogue.elements → is_blank_text row.value ≡ false) → list_all is_good_text (map (text_said t.catalogue.elements u) ns) ≡ true
 texts_are_good t u [] h = refl
 texts_are_good t u (k ∷ ns) h =
-    and_from (is_good_text (text_said t.elements u k)) (list_all is_good_text (map (text_said t.elements u) ns)) (at (find (λ (row : ElementRow). nat_eq row.unit u && nat_eq row.k (after_level k)) t.elements) refl) (texts_are_good t u ns h)
+    and_from (is_good_text (text_said t.catalogue.elements u k)) (list_all is_good_text (map (text_said t.catalogue.elements u) ns)) (at (find (λ (row : ElementRow). nat_eq row.unit u && nat_eq row.k (after_level k)) t.catalogue.elements) refl) (texts_are_good t u ns h)
   where
-    at : (r : Option ElementRow) → find (λ (row : ElementRow). nat_eq row.unit u && nat_eq row.k (after_level k)) t.elements ≡ r → is_good_text (option_map (λ (row : ElementRow). row.value) r) ≡ true
+    at : (r : Option ElementRow) → find (λ (row : ElementRow). nat_eq row.unit u && nat_eq row.k (after_level k)) t.catalogue.elements ≡ r → is_good_text (option_map (λ (row : ElementRow). row.value) r) ≡ true
     at None e = refl
-    at (Some row) e = ap not (h row (find_some (λ (row : ElementRow). nat_eq row.unit u && nat_eq row.k (after_level k)) t.elements row e).0)
+    at (Some row) e = ap not (h row (find_some (λ (row : ElementRow). nat_eq row.unit u && nat_eq row.k (after_level k)) t.catalogue.elements row e).0)

@@ -20,9 +20,10 @@ use Rattle.catalogue_core.specs.Units.{Unit}
 use Rattle.catalogue_core.specs.Merging.{box_number}
 use Rattle.office_core.specs.Laws.{numbers_from}
 use Rattle.office_core.specs.Words.{numbered}
-use Rattle.office_rows.specs.DeskRows.{rows_from}
-use Rattle.office_rows.specs.Reading.{HousingRow, housing_row, Rows, box_from, box_at, boxes_from, boxes_said, housings_of, unit_said}
-use Rattle.office_rows.specs.CatalogueCauses.{is_same_place, is_housed_alike}
+use Rattle.office_rows.specs.DeskShown.{rows_from}
+use Rattle.catalogue_core.specs.CatalogueRows.{HousingRow, housing_row, box_from, housings_of}
+use Rattle.office_rows.specs.Reading.{OfficeRows, box_at, boxes_from, boxes_said, unit_said}
+use Rattle.catalogue_core.specs.CatalogueCauses.{is_same_place, is_housed_alike}
 use Rattle.office_rows.proofs.RowsByNumber.{in_map, in_filter, flat_map_same, flat_map_reordered, grouped, found_by, one_kept, in_numbers, numbers_length, numbers_apart, own_apart}
 use Rattle.office_rows.proofs.ToldUnits.{said_id, said_boxes}
 use Rattle.office_rows.proofs.ToldContainers.{back_to_number, one_numbered, is_there, numbered_in, stay_distinct, numbers_tell}
@@ -141,18 +142,18 @@ said_known boxes mine n (suc more) = at (at_place n mine) (said_known boxes mine
 
 -- ---- of all units
 
-pub housings_are_said : (t : Rows) (f : Forest ℕ) → IsDistinct nat_eq (nodes f) → IsDistinct is_same_box (map box_from t.containers) → IsDistinct is_same_place t.housings
-    → ((row : HousingRow) → In row t.housings → IsGoodHousing (map box_from t.containers) (nodes f) t.housings row)
-    → IsPermutation (flat_map (λ (unit : Unit). rows_from (housing_row (map box_from t.containers) unit.id) 1 unit.values.boxes) (nodes (each (unit_said t) f))) t.housings
+pub housings_are_said : (t : OfficeRows) (f : Forest ℕ) → IsDistinct nat_eq (nodes f) → IsDistinct is_same_box (map box_from t.catalogue.containers) → IsDistinct is_same_place t.catalogue.housings
+    → ((row : HousingRow) → In row t.catalogue.housings → IsGoodHousing (map box_from t.catalogue.containers) (nodes f) t.catalogue.housings row)
+    → IsPermutation (flat_map (λ (unit : Unit). rows_from (housing_row (map box_from t.catalogue.containers) unit.id) 1 unit.values.boxes) (nodes (each (unit_said t) f))) t.catalogue.housings
 housings_are_said t f a b p h =
-    let boxes : List BoxKey = map box_from t.containers in
+    let boxes : List BoxKey = map box_from t.catalogue.containers in
     let shown : Unit → List HousingRow = λ unit. rows_from (housing_row boxes unit.id) 1 unit.values.boxes in
-    let of : ℕ → List HousingRow = λ u. rows_from (housing_row boxes u) 1 (boxes_said boxes t.housings u) in
+    let of : ℕ → List HousingRow = λ u. rows_from (housing_row boxes u) 1 (boxes_said boxes t.catalogue.housings u) in
     let same : flat_map shown (nodes (each (unit_said t) f)) ≡ flat_map of (nodes f) =
     ap (flat_map shown) (nodes-each (unit_said t) f)
     ∙ (flat_map-map shown (unit_said t) (nodes f)
     ∙ flat_map_same (λ u. shown (unit_said t u)) of (nodes f) (λ u i. ap (λ n. rows_from (housing_row boxes n) 1 (unit_said t u).values.boxes) (said_id t u) ∙ ap (rows_from (housing_row boxes u) 1) (said_boxes t u))) in
-    subst (λ l. IsPermutation l t.housings) (sym same)
-    (IsPermutation-trans (flat_map of (nodes f)) (flat_map (λ u. housings_of u t.housings) (nodes f)) t.housings
-    (flat_map_reordered of (λ u. housings_of u t.housings) (nodes f) (λ u i. own_housings boxes t.housings (nodes f) b p h u))
-    (grouped (λ (row : HousingRow). row.unit) (nodes f) t.housings a (λ row i. (h row i).unit)))
+    subst (λ l. IsPermutation l t.catalogue.housings) (sym same)
+    (IsPermutation-trans (flat_map of (nodes f)) (flat_map (λ u. housings_of u t.catalogue.housings) (nodes f)) t.catalogue.housings
+    (flat_map_reordered of (λ u. housings_of u t.catalogue.housings) (nodes f) (λ u i. own_housings boxes t.catalogue.housings (nodes f) b p h u))
+    (grouped (λ (row : HousingRow). row.unit) (nodes f) t.catalogue.housings a (λ row i. (h row i).unit)))

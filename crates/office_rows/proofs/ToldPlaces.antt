@@ -1,8 +1,8 @@
 -- Places without a fault are those of the forest that they say.
 use Rattle.std.proofs.Common.{◌≡◌, ℕ, true, List, None, sym, ap, ◌∙◌, subst, nat_eq, map}
-use Rattle.std.specs.List.{IsDistinct}
+use Rattle.std.specs.List.{IsDistinct, list_all}
 use Rattle.std.specs.List.Sorted.{IsPermutation}
-use Rattle.std.proofs.lemmas.Bool.{false≢true}
+use Rattle.std.proofs.lemmas.Bool.{false≢true, and_parts}
 use Rattle.std.proofs.lemmas.List.Sorted.{IsPermutation-refl, IsPermutation-sym, IsPermutation-map}
 use Rattle.tree_core.specs.declared.rows.Link.{Link}
 use Rattle.tree_core.specs.declared.rows.Span.{Span}
@@ -17,9 +17,10 @@ use Rattle.tree_core.proofs.NumberingWalk.{ids-number}
 use Rattle.tree_core.proofs.Linking.{held_without_fault}
 use Rattle.tree_core.proofs.Reading.{shown_without_fault}
 use Rattle.tree_core.specs.Versions.{Version, Links, Spans}
-use Rattle.office_rows.specs.Reading.{PlaceRows, LinkRows, SpanRows, place_rows, places_said}
-use Rattle.office_rows.specs.CatalogueCauses.{are_good_places, place_numbers, ArePlacesOf}
+use Rattle.catalogue_core.specs.CatalogueRows.{PlaceRows, LinkRows, SpanRows, place_rows, places_said}
+use Rattle.catalogue_core.specs.CatalogueCauses.{is_unit_number, is_good_link, is_good_span, are_good_places, place_numbers, ArePlacesOf}
 use Rattle.office_rows.proofs.Judging.{nothing_there}
+use Rattle.office_rows.proofs.RowsByNumber.{in_map, all_in}
 use Rattle.office_rows.proofs.Nested.{spans_say}
 use Rattle.office_rows.proofs.Linked.{links_say}
 
@@ -60,7 +61,22 @@ spans_placed spans e =
 
 -- places of the version without a fault
 pub good_places : (version : Version) (places : PlaceRows) → are_good_places version places ≡ true → ArePlaced version places (places_said places)
-good_places Links (LinkRows links) h = links_placed links (nothing_there (link_fault links) h)
-good_places Spans (SpanRows spans) h = spans_placed spans (nothing_there (span_fault spans) h)
+good_places Links (LinkRows links) h =
+    links_placed links (nothing_there (link_fault links) (and_parts (list_all is_good_link links) _ h).1)
+good_places Spans (SpanRows spans) h =
+    spans_placed spans (nothing_there (span_fault spans) (and_parts (list_all is_good_span spans) _ h).1)
 good_places Links (SpanRows spans) h = absurd (false≢true h)
 good_places Spans (LinkRows links) h = absurd (false≢true h)
+
+-- a place has a number that a unit may have
+pub numbers_given : (version : Version) (places : PlaceRows) (u : ℕ) → are_good_places version places ≡ true → In u (place_numbers places) → is_unit_number u ≡ true
+numbers_given Links (LinkRows links) u h i =
+    let at = in_map (λ (link : Link). link.id) links u i in
+    let good = all_in is_good_link links at.it (and_parts (list_all is_good_link links) _ h).0 at.there in
+    subst (λ n. is_unit_number n ≡ true) at.is (and_parts (is_unit_number at.it.id) _ good).0
+numbers_given Spans (SpanRows spans) u h i =
+    let at = in_map (λ (span : Span). span.id) spans u i in
+    let good = all_in is_good_span spans at.it (and_parts (list_all is_good_span spans) _ h).0 at.there in
+    subst (λ n. is_unit_number n ≡ true) at.is (and_parts (is_unit_number at.it.id) _ good).0
+numbers_given Links (SpanRows spans) u h i = absurd (false≢true h)
+numbers_given Spans (LinkRows links) u h i = absurd (false≢true h)

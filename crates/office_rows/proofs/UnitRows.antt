@@ -6,7 +6,7 @@ use Rattle.std.specs.Str.{bytes_eq}
 use Rattle.std.proofs.lemmas.Slice.Eq.{bytes_eq-Decides}
 use Rattle.std.proofs.lemmas.List.Sorted.{IsPermutation-refl}
 use Rattle.std.specs.List.{list_all, flat_map, list_any, AllByRecursion, IsDistinct, cons_option}
-use Rattle.std.proofs.lemmas.Bool.{cases_Bool, cases_lt, lt-ltb, le-ltb, false≢true, or_cases, and_parts}
+use Rattle.std.proofs.lemmas.Bool.{false≢true, or_cases, and_parts}
 use Rattle.std.proofs.lemmas.List.Concat.{flat_map-cons}
 use Rattle.isad_core.specs.Texts.{Bytes}
 use Rattle.isad_core.specs.declared.values.BoxKey.{BoxKey}
@@ -20,9 +20,10 @@ use Rattle.office_core.specs.State.{State}
 use Rattle.catalogue_core.specs.GoodCatalogues.{IsGoodUnit}
 use Rattle.office_core.specs.Words.{numbered}
 use Rattle.office_core.specs.Laws.{numbers_from}
-use Rattle.office_rows.specs.DeskRows.{rows_from}
+use Rattle.office_rows.specs.DeskShown.{rows_from}
 use Rattle.tree_core.specs.Versions.{Version, Links, Spans}
-use Rattle.office_rows.specs.Reading.{UnitRow, unit_row, number_of, ElementRow, after_level, element_rows_from, HousingRow, housing_row, box_at, boxes_from, boxes_said, text_said, Rows, tables, container_row, box_from, values_said, unit_from, unit_said, places_said, place_rows, SaysUnits}
+use Rattle.catalogue_core.specs.CatalogueRows.{UnitRow, unit_row, ElementRow, after_level, element_rows_from, HousingRow, housing_row, text_said, container_row, box_from, places_said, place_rows}
+use Rattle.office_rows.specs.Reading.{number_of, box_at, boxes_from, boxes_said, OfficeRows, tables, values_said, unit_from, unit_said, SaysUnits}
 use Rattle.office_rows.proofs.TableLaws.{rows_back}
 use Rattle.office_rows.proofs.Nested.{spans_say}
 use Rattle.office_rows.proofs.Linked.{links_say}
@@ -211,23 +212,23 @@ pub housings_own : (boxes : List BoxKey) (u n : ℕ) (bs : List BoxKey) → AllB
 housings_own boxes u n [] = tt
 housings_own boxes u n (b ∷ bs) = (refl, housings_own boxes u (suc n) bs)
 
-pub record HasRows (t : Rows) (boxes : List BoxKey) (u : Unit) : Type 0 where
-  pub row : find (λ (row : UnitRow). nat_eq row.id u.id) t.units ≡ Some (unit_row u)
-  pub elements : filter (λ (r : ElementRow). nat_eq r.unit u.id) t.elements ≡ element_rows_from u.id 1 u.values.texts
-  pub housings : filter (λ (r : HousingRow). nat_eq r.unit u.id) t.housings ≡ rows_from (housing_row boxes u.id) 1 u.values.boxes
+pub record HasRows (t : OfficeRows) (boxes : List BoxKey) (u : Unit) : Type 0 where
+  pub row : find (λ (row : UnitRow). nat_eq row.id u.id) t.catalogue.units ≡ Some (unit_row u)
+  pub elements : filter (λ (r : ElementRow). nat_eq r.unit u.id) t.catalogue.elements ≡ element_rows_from u.id 1 u.values.texts
+  pub housings : filter (λ (r : HousingRow). nat_eq r.unit u.id) t.catalogue.housings ≡ rows_from (housing_row boxes u.id) 1 u.values.boxes
 
-pub unit_back : (t : Rows) (boxes : List BoxKey) (u : Unit) → map box_from t.containers ≡ boxes → HasRows t boxes u → IsGoodUnit boxes u → unit_said t u.id ≡ u
+pub unit_back : (t : OfficeRows) (boxes : List BoxKey) (u : Unit) → map box_from t.catalogue.containers ≡ boxes → HasRows t boxes u → IsGoodUnit boxes u → unit_said t u.id ≡ u
 unit_back t boxes u c h g =
-    let texts : map (text_said t.elements u.id) (numbers_from 1 25) ≡ u.values.texts =
-    ap (λ f. map f (numbers_from 1 25)) (fun_ext (λ k. ap (option_map (λ (row : ElementRow). row.value)) (found_kept (λ (row : ElementRow). nat_eq row.unit u.id) (λ (row : ElementRow). nat_eq row.k (after_level k)) t.elements) ∙ ap (value_at k) h.elements))
+    let texts : map (text_said t.catalogue.elements u.id) (numbers_from 1 25) ≡ u.values.texts =
+    ap (λ f. map f (numbers_from 1 25)) (fun_ext (λ k. ap (option_map (λ (row : ElementRow). row.value)) (found_kept (λ (row : ElementRow). nat_eq row.unit u.id) (λ (row : ElementRow). nat_eq row.k (after_level k)) t.catalogue.elements) ∙ ap (value_at k) h.elements))
     ∙ (ap (λ n. map (λ m. value_at m (element_rows_from u.id 1 u.values.texts)) (numbers_from 1 n)) (sym g.texts_count) ∙ texts_back u.id 1 u.values.texts) in
-    let bs : boxes_said (map box_from t.containers) t.housings u.id ≡ u.values.boxes =
-    ap (λ k. boxes_said k t.housings u.id) c
+    let bs : boxes_said (map box_from t.catalogue.containers) t.catalogue.housings u.id ≡ u.values.boxes =
+    ap (λ k. boxes_said k t.catalogue.housings u.id) c
     ∙ (ap (λ mine. boxes_from boxes mine 1 (length mine)) h.housings
     ∙ (ap (λ n. boxes_from boxes (rows_from (housing_row boxes u.id) 1 u.values.boxes) 1 n) (length-rows boxes u.id 1 u.values.boxes) ∙ boxes_back boxes u.id 1 u.values.boxes g.known)) in
     let none : Unit = record { id = u.id; source = []; legacy = []; values = values_said t u.id []; draft = false; until = None } in
     ap (λ r. unwrap_or (option_map (unit_from t) r) none) h.row
-    ∙ (ap (λ x. record u { values = record { level = u.values.level; texts = x; boxes = boxes_said (map box_from t.containers) t.housings u.id } }) texts
+    ∙ (ap (λ x. record u { values = record { level = u.values.level; texts = x; boxes = boxes_said (map box_from t.catalogue.containers) t.catalogue.housings u.id } }) texts
     ∙ ap (λ x. record u { values = record { level = u.values.level; texts = u.values.texts; boxes = x } }) bs)
 
 -- ---- all of them
@@ -236,13 +237,13 @@ all_three : (P Q R S : Unit → Type 0) → ((u : Unit) → P u → Q u → R u 
 all_three P Q R S f [] p q r = tt
 all_three P Q R S f (u ∷ us) p q r = (f u p.0 q.0 r.0, all_three P Q R S f us p.1 q.1 r.1)
 
-abbrev ElementsOf : Rows → Unit → Type 0
-ElementsOf t u = filter (λ (r : ElementRow). nat_eq r.unit u.id) t.elements ≡ element_rows_from u.id 1 u.values.texts
+abbrev ElementsOf : OfficeRows → Unit → Type 0
+ElementsOf t u = filter (λ (r : ElementRow). nat_eq r.unit u.id) t.catalogue.elements ≡ element_rows_from u.id 1 u.values.texts
 
 pub all_rows : (version : Version) (s : State) → IsDistinct nat_eq (map number_of (nodes s.catalogue.forest)) → AllByRecursion (HasRows (tables version s) s.catalogue.containers) (nodes s.catalogue.forest)
 all_rows version s d =
     let us = nodes s.catalogue.forest in
-    all_three (λ u. find (λ (row : UnitRow). nat_eq row.id u.id) (map unit_row us) ≡ Some (unit_row u)) (ElementsOf (tables version s)) (λ u. filter (λ (r : HousingRow). nat_eq r.unit u.id) (tables version s).housings ≡ rows_from (housing_row s.catalogue.containers u.id) 1 u.values.boxes) (HasRows (tables version s) s.catalogue.containers)
+    all_three (λ u. find (λ (row : UnitRow). nat_eq row.id u.id) (map unit_row us) ≡ Some (unit_row u)) (ElementsOf (tables version s)) (λ u. filter (λ (r : HousingRow). nat_eq r.unit u.id) (tables version s).catalogue.housings ≡ rows_from (housing_row s.catalogue.containers u.id) 1 u.values.boxes) (HasRows (tables version s) s.catalogue.containers)
     (λ u a b c. record { row = a; elements = b; housings = c }) us (rows_found us d)
     (own_rows (λ (r : ElementRow). r.unit) (λ (u : Unit). element_rows_from u.id 1 u.values.texts) (λ u. elements_own u.id 1 u.values.texts) us d)
     (own_rows (λ (r : HousingRow). r.unit) (λ (u : Unit). rows_from (housing_row s.catalogue.containers u.id) 1 u.values.boxes) (λ u. housings_own s.catalogue.containers u.id 1 u.values.boxes) us d)

@@ -1,10 +1,11 @@
 pub mod Causes
-pub mod DeskRows
+pub mod DeskShown
 pub mod Reading
-pub mod DeskCauses
-pub mod DeskCausesRows
+pub mod WorkedDeskCauses
 pub mod DeskJudged
-pub mod ReadingRows
-pub mod CatalogueCauses
-pub mod CatalogueCausesRows
+pub mod WorkedReading
+pub mod WorkedCatalogueCauses
 pub mod Judged
+pub mod CellCauses
+pub mod CellJudged
+pub mod WorkedCells

@@ -2,7 +2,7 @@
 
 ghost use Rattle.tree_core.specs.Versions.{Version};
 ghost use Rattle.office_rows.specs.DeskJudged.{PassingRowsAreSound, SoundTablesPass};
-ghost use Rattle.office_rows.specs.Reading.{Rows};
+ghost use Rattle.office_rows.specs.Reading.{OfficeRows};
 ghost use Rattle.office_core.specs.State.{State};
 
 /// The rows of a sound state have none of these causes, in either version, and meet the keys of the desk's tables.
@@ -13,5 +13,5 @@ pub fn sound_desks_pass()
 /// Where the catalogue is good, rows that meet the keys and have none of these causes say a sound desk, which
 /// shows just those rows of the desk.
 pub fn passing_desks_are_sound()
-    ensures { (version : Version) (t : Rows) → PassingRowsAreSound version t }
+    ensures { (version : Version) (t : OfficeRows) → PassingRowsAreSound version t }
 {}

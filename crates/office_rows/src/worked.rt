@@ -1,8 +1,9 @@
 //! Rows of small offices, worked by hand, and the causes against them.
 
-ghost use Rattle.office_rows.specs.CatalogueCausesRows as causes;
-ghost use Rattle.office_rows.specs.DeskCausesRows as desk_causes;
-ghost use Rattle.office_rows.specs.ReadingRows as tables;
+ghost use Rattle.office_rows.specs.WorkedCatalogueCauses as causes;
+ghost use Rattle.office_rows.specs.WorkedCells as cell_causes;
+ghost use Rattle.office_rows.specs.WorkedDeskCauses as desk_causes;
+ghost use Rattle.office_rows.specs.WorkedReading as tables;
 ghost use Rattle.office_core.specs.WorkedReplies as row;
 
 /// The rows of small offices say the states that they show, in both versions.
@@ -18,4 +19,9 @@ pub fn worked_catalogue_causes()
 /// Each of the causes 6 to 10 is told of a small office with a row or two changed, and of the office as it was none is.
 pub fn worked_desk_causes()
     ensures { desk_causes.Told }
+{}
+
+/// Rows with a cell that its column cannot have cannot be read, and make the cause of their table.
+pub fn worked_cell_causes()
+    ensures { cell_causes.Told }
 {}

@@ -34,3 +34,4 @@ pub mod UpdateOf
 pub mod DeleteOf
 pub mod SelectOf
 pub mod Fresh
+pub mod CellTexts

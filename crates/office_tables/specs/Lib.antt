@@ -13,3 +13,6 @@ pub mod Meaning
 pub mod Changing
 pub mod Asking
 pub mod Calls
+pub mod Cells
+pub mod CatalogueCells
+pub mod DeskCells

@@ -1,4 +1,4 @@
-use Rattle.office_rows.proofs.CatalogueCausesRows.{told}
+use Rattle.office_rows.proofs.WorkedCatalogueCauses.{told}
 use Rattle.office_rows.proofs.worked.worked_catalogue_causes.Goals as goal
 
 pub returns : goal.returns

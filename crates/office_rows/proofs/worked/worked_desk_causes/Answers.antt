@@ -1,4 +1,4 @@
-use Rattle.office_rows.proofs.DeskCausesRows.{told}
+use Rattle.office_rows.proofs.WorkedDeskCauses.{told}
 use Rattle.office_rows.proofs.worked.worked_desk_causes.Goals as goal
 
 pub returns : goal.returns

@@ -1,4 +1,4 @@
-use Rattle.office_rows.proofs.ReadingRows.{read_again}
+use Rattle.office_rows.proofs.WorkedReading.{read_again}
 use Rattle.office_rows.proofs.worked.worked_tables.Goals as goal
 
 pub returns : goal.returns

@@ -1,7 +1,7 @@
 -- What the causes 1 to 5 say of a small office, computed.
 use Rattle.std.proofs.Common.{refl}
 use Rattle.catalogue_core.specs.Housing.{is_open}
-use Rattle.office_rows.specs.CatalogueCausesRows.{Told}
+use Rattle.office_rows.specs.WorkedCatalogueCauses.{Told}
 
 pub told : Told
 unfolding is_open
@@ -19,10 +19,17 @@ told =
       no_parent = refl;
       gap = refl;
       places_of_the_other_version = refl;
+      place_number_0 = refl;
+      place_past_the_last_number = refl;
+      below_number_0 = refl;
+      ord_past_32_bits = refl;
+      span_number_0 = refl;
+      span_past_the_last_number = refl;
+      lft_past_32_bits = refl;
+      rgt_past_32_bits = refl;
       unit_without_a_place = refl;
       place_without_a_unit = refl;
       next_is_there = refl;
-      unit_without_a_number = refl;
       no_source = refl;
       blank_number = refl;
       number_too_long = refl;

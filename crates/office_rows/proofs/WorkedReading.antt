@@ -1,6 +1,6 @@
 -- What the rows of a small office say, computed.
 use Rattle.std.proofs.Common.{refl}
-use Rattle.office_rows.specs.ReadingRows.{ReadAgain}
+use Rattle.office_rows.specs.WorkedReading.{ReadAgain}
 
 pub read_again : ReadAgain
 read_again =

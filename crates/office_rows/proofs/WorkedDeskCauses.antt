@@ -1,7 +1,7 @@
 -- What the causes say of a small office, computed.
 use Rattle.std.proofs.Common.{refl}
 use Rattle.catalogue_core.specs.Housing.{is_open}
-use Rattle.office_rows.specs.DeskCausesRows.{Told}
+use Rattle.office_rows.specs.WorkedDeskCauses.{Told}
 
 pub told : Told
 unfolding is_open

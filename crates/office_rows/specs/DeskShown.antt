@@ -3,7 +3,7 @@ use Rattle.std.specs.Prelude.{◌≡◌, ℕ, suc, ◌++◌, Ok, cond, List, [],
 use Rattle.std.specs.List.{flat_map}
 use Rattle.desk_core.specs.declared.reader.Place.{Place}
 use Rattle.desk_core.specs.declared.reader.Place.TheVariants.{Shelf, Desk, Out}
-pub use Rattle.desk_core.specs.DeskRows.{ReaderRow, SeatRow, OrderRow, with_state, waiting_for, HoldingRow, RunRow, RunLineRow, PermitRow}
+use Rattle.desk_core.specs.DeskRows.{ReaderRow, SeatRow, OrderRow, with_state, waiting_for, HoldingRow, RunRow, RunLineRow, PermitRow}
 use Rattle.office_core.specs.declared.command.Command.TheVariants as command
 use Rattle.office_core.specs.declared.done.Done.TheVariants as done
 use Rattle.office_core.specs.Words.{numbered, numbers_to}

@@ -6,7 +6,8 @@ use Rattle.tree_core.specs.Worked.{link, span}
 use Rattle.catalogue_core.specs.Units.{Unit}
 use Rattle.office_core.specs.State.{State}
 use Rattle.tree_core.specs.Versions.{Version, Links, Spans}
-use Rattle.office_rows.specs.Reading.{LinkRows, SpanRows, tables, state_of}
+use Rattle.catalogue_core.specs.CatalogueRows.{LinkRows, SpanRows}
+use Rattle.office_rows.specs.Reading.{tables, state_of}
 use Rattle.office_core.specs.Worked.{office, march_1, march_2, year_end}
 
 abbrev pub box : ℕ → BoxKey
@@ -52,5 +53,5 @@ pub record ReadAgain : Type 0 where
   pub linked : SaysAgain Links
   pub nested : SaysAgain Spans
   -- places go by their order, not by numbers
-  pub links : (tables Links sample).places ≡ LinkRows (link 1 None 1 ∷ link 4 (Some 1) 1 ∷ link 2 (Some 1) 2 ∷ link 3 None 2 ∷ [])
-  pub spans : (tables Spans sample).places ≡ SpanRows (span 1 1 6 ∷ span 4 2 3 ∷ span 2 4 5 ∷ span 3 7 8 ∷ [])
+  pub links : (tables Links sample).catalogue.places ≡ LinkRows (link 1 None 1 ∷ link 4 (Some 1) 1 ∷ link 2 (Some 1) 2 ∷ link 3 None 2 ∷ [])
+  pub spans : (tables Spans sample).catalogue.places ≡ SpanRows (span 1 1 6 ∷ span 4 2 3 ∷ span 2 4 5 ∷ span 3 7 8 ∷ [])
