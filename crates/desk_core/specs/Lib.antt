@@ -2,6 +2,7 @@ pub mod Checks
 pub mod Decisions
 pub mod DeskCauses
 pub mod DeskRows
+pub mod LegibleDesks
 pub mod Names
 pub mod Orders
 pub mod Refusals

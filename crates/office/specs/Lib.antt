@@ -34,3 +34,11 @@ pub use Rattle.office_core.specs.WorkedShown
 pub use Rattle.office_core.specs.Secrecy
 pub use Rattle.office_core.specs.Soundness
 pub use Rattle.office_core.specs.Imported
+pub use Rattle.office_core.specs.SoundOffice
+pub use Rattle.office_core.specs.MixedRuns
+pub use Rattle.office_core.specs.SettingsFaults
+pub use Rattle.office_core.specs.ImportedByRow
+pub use Rattle.office_rows.specs.Versions
+pub use Rattle.catalogue_core.specs.LegibleCatalogues
+pub use Rattle.catalogue_core.specs.RowByRow
+pub use Rattle.desk_core.specs.LegibleDesks

@@ -7,8 +7,15 @@ pub use office_core::laws::{
     orders_go_on, out_apart, settings_stay, starts_sound, stays_sound, told_by_number,
     units_come_new,
 };
+pub use office_core::laws_of_runs::{
+    answers_are_of_their_time, imports_row_by_row, queries_change_nothing, settings_without_a_fault,
+};
+pub use office_core::laws_of_texts::{
+    new_offices_are_sound, offices_stay_sound, sound_offices_are_kept, texts_stay_texts,
+};
 pub use office_rows::laws::{
     catalogue_has_no_cause, cells_have_no_cause, cells_without_a_cause, links_say_the_forest,
     one_row_changes, rows_read_back, rows_say_the_catalogue, rows_without_a_cause,
     spans_say_the_forest, tables_have_no_cause, tables_say_the_state, texts_are_utf8,
 };
+pub use office_rows::laws_of_offices::{sound_desks_are_legible, versions_differ_in_places};

@@ -18,6 +18,7 @@ pub mod StaysNamed
 pub mod NumbersGiven
 pub mod SoundDesk
 pub mod WorkedAnswers
+pub mod MixedRuns
 pub mod NoLeak
 pub mod Published
 pub mod PublishedPart
@@ -25,10 +26,12 @@ pub mod Again
 pub mod Comes
 pub mod Days
 pub mod Starts
+pub mod SettingsFaults
 pub mod StaysSound
 pub mod Texts
 pub mod WorkedSound
 pub mod ImportedUnits
+pub mod ImportedByRow
 pub mod ImportedCounts
 pub mod KeptOffices
 pub mod LastNumberSound

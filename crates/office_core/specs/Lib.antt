@@ -17,3 +17,6 @@ pub mod Imported
 pub mod WorkedDesk
 pub mod WorkedCatalogue
 pub mod WorkedShown
+pub mod MixedRuns
+pub mod SettingsFaults
+pub mod ImportedByRow

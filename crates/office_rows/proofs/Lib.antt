@@ -6,6 +6,7 @@ pub mod Nested
 pub mod SaidTexts
 pub mod CellCauses
 pub mod PlaceNumbers
+pub mod LegibleRows
 pub mod Linked
 pub mod UnitRows
 pub mod Whole

@@ -9,3 +9,4 @@ pub mod Judged
 pub mod CellCauses
 pub mod CellJudged
 pub mod WorkedCells
+pub mod Versions

@@ -3,4 +3,5 @@
 
 pub mod desk_judged;
 pub mod laws;
+pub mod laws_of_offices;
 pub mod worked;

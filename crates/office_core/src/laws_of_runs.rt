@@ -1,0 +1,47 @@
+//! What holds of commands and queries that come one after another, of imports that go row by row, and of settings. Each
+//! function does nothing: its contract is the law.
+
+ghost use Rattle.std.specs.Prelude.{◌≡◌, ◌++◌, ◌∷◌, [], List, None, Some, codes};
+ghost use Rattle.office_core.specs.ImportedByRow.{FaultsRowByRow, TakesRowByRow};
+ghost use Rattle.office_core.specs.MixedRuns.{Answered, Asked, ToTell};
+ghost use Rattle.office_core.specs.MixedRuns.{all_told, commands_of, replies_of, state_after_all};
+ghost use Rattle.office_core.specs.Queries.{answer};
+ghost use Rattle.office_core.specs.Rules.{replies, state_after};
+ghost use Rattle.office_core.specs.SettingsFaults.{Country, Hands, wrong_setting};
+ghost use Rattle.office_core.specs.Soundness.{AreGoodSettings, IsSound};
+ghost use Rattle.office_core.specs.State.{Settings, State};
+ghost use Rattle.office_core.specs.declared.query.Query.{Query};
+
+/// Queries change nothing: the state after commands and queries is that after the commands alone, and so are the
+/// replies.
+pub fn queries_change_nothing()
+    ensures state { (s : State) (asked : List Asked) →
+        state_after_all s asked ≡ state_after s (commands_of asked) }
+    ensures replies { (s : State) (asked : List Asked) →
+        replies_of (all_told s asked) ≡ replies s (commands_of asked) }
+{}
+
+/// Each answer is of the state that the commands before it made.
+pub fn answers_are_of_their_time()
+    ensures { (s : State) (before later : List Asked) (query : Query) → all_told s (before ++ ToTell query ∷ later)
+        ≡ all_told s before ++ Answered (answer (state_after s (commands_of before)) query)
+        ∷ all_told (state_after s (commands_of before)) later }
+{}
+
+/// An import may go row by row, from the catalogue before: it gives what merging all rows gives, with the same counts
+/// and remarks, or the same first fault.
+pub fn imports_row_by_row()
+    ensures takes { (s : State) → IsSound s → TakesRowByRow s }
+    ensures faults { (s : State) → IsSound s → FaultsRowByRow s }
+{}
+
+/// No setting is named as wrong exactly where all are good, and otherwise the first that is.
+pub fn settings_without_a_fault()
+    ensures good { (settings : Settings) → wrong_setting settings ≡ None → AreGoodSettings settings }
+    ensures none { (settings : Settings) → AreGoodSettings settings → wrong_setting settings ≡ None }
+    ensures first { wrong_setting
+        (record { country = codes "gb"; repo = []; seats = 0; daily = 3; hands = 1; run_size = 2 }) ≡ Some Country }
+    ensures later { wrong_setting
+        (record { country = codes "GB"; repo = codes "0999"; seats = 2; daily = 3; hands = 11; run_size = 0 })
+        ≡ Some Hands }
+{}
