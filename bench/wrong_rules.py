@@ -148,6 +148,9 @@ E=[
 ('runs begin at 0',O+'Rules.antt','done.Run (suc (length s.runs))','done.Run (length s.runs)'),
 ('unit numbers begin at 0',C+'Merging.antt','containers = []; next = 1','containers = []; next = 0'),
 ('Remove gives a number back',C+'Moves.antt','record c { forest = cut (has_id id) c.forest }','record c { forest = cut (has_id id) c.forest; next = Rattle.std.specs.Prelude.cond (Rattle.std.specs.Prelude.nat_eq (Rattle.std.specs.Prelude.suc id) c.next) id c.next }'),
+('an import leaves a number out',C+'Merging.antt','next = s.next + length new;','next = s.next + length new + 1;'),
+('a permit opens only what its own unit closes',C+'Housing.antt','(λ (unit : Unit). permitted unit.id) false path','(λ (unit : Unit). permitted unit.id && is_closed day unit) false path'),
+('containers are counted from 0 on pages',C+'Merging.antt','if is_same c b then Some 1 else option_map suc (number_in rest b)','if is_same c b then Some 0 else option_map suc (number_in rest b)'),
 ('a ticket is renewed to another name',O+'Rules.antt','renewed until (r ∷ rs) (suc zero) = record r { until = until } ∷ rs','renewed until (r ∷ rs) (suc zero) = record { name = []; until = until } ∷ rs'),
 ('a known unit moves to another source',C+'Merging.antt','then record unit { values = unwrap_or','then record unit { legacy = unit.source; values = unwrap_or'),
 # what is shown

@@ -1,15 +1,20 @@
 -- What numbers name, and which are given.
-use Rattle.std.specs.Prelude.{◌≡◌, ℕ, ℤ, zero, suc, ◌-◌, ◌<◌, ◌≤◌, Bool, true, ◌&&◌, List, [], ◌∷◌, ◌++◌, length, Option, Some, None, Ok, option_map, option_to_list, ◌⊎◌}
+use Rattle.std.specs.Prelude.{◌≡◌, ℕ, ℤ, zero, suc, ◌-◌, ◌<◌, ◌≤◌, Bool, true, ◌&&◌, List, [], ◌∷◌, ◌++◌, length, Option, Some, None, Ok, option_map, option_to_list, filter, ◌⊎◌}
 use Rattle.std.specs.List.{AllByRecursion}
 use Rattle.isad_core.specs.Texts.{Bytes}
 use Rattle.isad_core.specs.declared.values.BoxKey.{BoxKey}
 use Rattle.tree_core.specs.Forest.{Forest, nodes, has}
 use Rattle.catalogue_core.specs.Units.{Unit, has_id, is_from}
 use Rattle.catalogue_core.specs.Finding.{has_unit}
+use Rattle.catalogue_core.specs.Intake.{is_new}
+use Rattle.atom_csv.specs.FileOf.{file_of}
+use Rattle.atom_csv.specs.declared.file.File.{File}
+use Rattle.atom_csv.specs.declared.file.Row.{Row}
 use Rattle.office_core.specs.Words.{numbered}
 use Rattle.office_core.specs.State.{Reader, Order, Run, State, Settings, start, next_run}
 use Rattle.office_core.specs.declared.command.Command.{Command}
 use Rattle.office_core.specs.declared.command.Command.TheVariants as command
+use Rattle.office_core.specs.declared.done.Done.{Done}
 use Rattle.office_core.specs.declared.done.Done.TheVariants as done
 use Rattle.office_core.specs.Rules.{Reply, step, state_after}
 use Rattle.office_core.specs.Laws.{numbers_from}
@@ -112,3 +117,17 @@ ComesNew s t =
 -- each unit number that a command gives is the number of a unit
 abbrev pub EachIsUnits : State → State → Type 0
 EachIsUnits s t = (u : ℕ) → s.catalogue.next ≤ u → u < t.catalogue.next → has_unit t.catalogue.forest u ≡ true
+
+-- the units of these rows are there, with the numbers from n on, in the order of the rows
+abbrev pub AreNumberedUnits : Forest Unit → Bytes → ℕ → List Row → Type 0
+AreNumberedUnits f source n [] = Prim.Unit {0}
+AreNumberedUnits f source n (row ∷ rows) =
+    (has (λ (unit : Unit). has_id n unit && is_from source row.legacy unit) f ≡ true) × AreNumberedUnits f source (suc n) rows
+
+-- An accepted import gives the next unit numbers to its new rows in the order of the file.
+abbrev pub NumbersRows : State → Type 0
+NumbersRows s =
+    (source file : Bytes) (read : File) (told : Done)
+    → (step s (command.Import source file)).1 ≡ Ok told
+    → file_of file ≡ Ok read
+    → AreNumberedUnits (step s (command.Import source file)).0.catalogue.forest source s.catalogue.next (filter (is_new s.catalogue.forest source) read.rows)
