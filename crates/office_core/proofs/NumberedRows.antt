@@ -1,6 +1,6 @@
 -- New rows get the next unit numbers in the order of the file.
-use Rattle.std.proofs.Common.{◌≡◌, ℕ, zero, suc, ◌+◌, ◌<◌, ◌≤◌, Bool, true, false, ◌&&◌, ◌||◌, not, List, [], ◌∷◌, ◌++◌, Option, Some, None, Ok, Err, refl, sym, ap, ◌∙◌, subst, arith, map}
-use Rattle.std.specs.Prelude.{nat_eq, option_and_then}
+use Rattle.std.proofs.Common.{◌≡◌, ℕ, suc, ◌+◌, ◌<◌, ◌≤◌, Bool, true, ◌&&◌, List, [], ◌∷◌, ◌++◌, None, Ok, Err, refl, sym, ◌∙◌, subst, arith, map}
+use Rattle.std.specs.Prelude.{option_and_then}
 use Rattle.std.specs.List.{list_any}
 use Rattle.std.proofs.lemmas.Bool.{eq-eqb, or_left, or_right}
 use Rattle.std.proofs.lemmas.List.Folds.{list_any-append}
@@ -18,10 +18,9 @@ use Rattle.catalogue_core.proofs.Imported.{new_rows, taken_is}
 use Rattle.catalogue_core.proofs.ImportedAgain.{same_text}
 use Rattle.catalogue_core.proofs.MergedNodes.{merged_nodes}
 use Rattle.office_core.specs.declared.command.Command.TheVariants as command
-use Rattle.office_core.specs.declared.done.Done.{Done}
 use Rattle.office_core.specs.ImportReply.{bad_file}
 use Rattle.office_core.specs.Numbers.{AreNumberedUnits, NumbersRows}
-use Rattle.office_core.specs.Rules.{step, imported, taken}
+use Rattle.office_core.specs.Rules.{imported, taken}
 use Rattle.office_core.specs.Soundness.{IsSound}
 use Rattle.office_core.specs.State.{State}
 use Rattle.office_core.proofs.Steps.{step_at}

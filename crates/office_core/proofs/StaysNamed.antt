@@ -6,7 +6,6 @@ use Rattle.std.specs.Str.{bytes_eq}
 use Rattle.std.proofs.lemmas.Bool.{false≢true, eqb-true, eq-eqb, or_cases, or_left, or_right, and_parts}
 use Rattle.std.proofs.lemmas.List.{map-append}
 use Rattle.isad_core.specs.Texts.{Bytes}
-use Rattle.isad_core.specs.declared.values.BoxKey.{BoxKey}
 use Rattle.isad_core.specs.Boxes.{distinct}
 use Rattle.atom_csv.specs.declared.file.Row.{Row}
 use Rattle.tree_core.specs.Forest.{Forest, nodes, each, has}
@@ -14,8 +13,8 @@ use Rattle.desk_core.specs.declared.reader.Place.{Place}
 use Rattle.desk_core.specs.declared.reader.Place.TheVariants.{Shelf, Desk, Out}
 use Rattle.catalogue_core.specs.Units.{Unit, has_id, is_from}
 use Rattle.catalogue_core.specs.Merging.{Catalogue, New, numbered_from, new_unit, revised, merged_forest, has_legacy}
-use Rattle.catalogue_core.specs.Statuses.{is_chosen, chosen}
-use Rattle.catalogue_core.specs.Intake.{Intake, Taken}
+use Rattle.catalogue_core.specs.Statuses.{chosen}
+use Rattle.catalogue_core.specs.Intake.{Taken}
 use Rattle.catalogue_core.proofs.ImportedAgain.{same_text, one_text, all_merged, all_each}
 use Rattle.catalogue_core.proofs.Imported.{new_rows, new_boxes, boxes_after, next_after, taken_is}
 use Rattle.catalogue_core.proofs.DistinctLists.{all_so}
