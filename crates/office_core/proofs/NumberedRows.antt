@@ -19,7 +19,7 @@ use Rattle.catalogue_core.proofs.ImportedAgain.{same_text}
 use Rattle.catalogue_core.proofs.MergedNodes.{merged_nodes}
 use Rattle.office_core.specs.declared.command.Command.TheVariants as command
 use Rattle.office_core.specs.ImportReply.{bad_file}
-use Rattle.office_core.specs.Numbers.{AreNumberedUnits, NumbersRows}
+use Rattle.office_core.specs.GivenNumbers.{AreNumberedUnits, NumbersRows}
 use Rattle.office_core.specs.Rules.{imported, taken}
 use Rattle.office_core.specs.Soundness.{IsSound}
 use Rattle.office_core.specs.State.{State}

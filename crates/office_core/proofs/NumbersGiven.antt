@@ -23,7 +23,7 @@ use Rattle.office_core.specs.declared.command.Command.TheVariants as command
 use Rattle.office_core.specs.State.{State, container_of}
 use Rattle.office_core.specs.Soundness.{IsSound}
 use Rattle.office_core.specs.Rules.{after, told, step, cancelled, issued, returned, imported, taken}
-use Rattle.office_core.specs.Numbers.{NamesWhatCame, EachIsUnits}
+use Rattle.office_core.specs.GivenNumbers.{NamesWhatCame, EachIsUnits}
 use Rattle.office_core.proofs.Steps.{step_at}
 use Rattle.office_core.proofs.Words.{numbered-push_last}
 

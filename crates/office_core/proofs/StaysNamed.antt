@@ -27,7 +27,7 @@ use Rattle.office_core.specs.declared.command.Command.TheVariants as command
 use Rattle.office_core.specs.Words.{numbered}
 use Rattle.office_core.specs.State.{State, Reader, container_of}
 use Rattle.office_core.specs.Rules.{after, step, state_after, renewed, cancelled, issued, returned, imported, taken}
-use Rattle.office_core.specs.Numbers.{NamesStay, names, is_there, IsThatUnit, StaysNamed}
+use Rattle.office_core.specs.GivenNumbers.{NamesStay, names, is_there, IsThatUnit, StaysNamed}
 use Rattle.office_core.proofs.Boxes.{step_apart}
 use Rattle.office_core.proofs.Steps.{step_at}
 

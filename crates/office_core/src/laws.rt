@@ -15,8 +15,8 @@ ghost use Rattle.office_core.specs.Secrecy.{SamePublic, AnswersAlike, published_
 ghost use Rattle.office_core.specs.Secrecy.{ShowsOnlyPublished, ShowsAllPublished};
 ghost use Rattle.office_core.specs.Laws.{OutApart, GoesOn, IssuesTheFirst, OpenToHolders};
 ghost use Rattle.office_core.specs.Laws.{ImportsAgain};
-ghost use Rattle.office_core.specs.Numbers.{StaysNamed, Kind, GivenInOrder, StartsAtOne, NamesWhatCame};
-ghost use Rattle.office_core.specs.Numbers.{ComesNew, EachIsUnits, NumbersRows};
+ghost use Rattle.office_core.specs.GivenNumbers.{StaysNamed, Kind, GivenInOrder, StartsAtOne, NamesWhatCame};
+ghost use Rattle.office_core.specs.GivenNumbers.{ComesNew, EachIsUnits, NumbersRows};
 
 /// The reading room of a new office is sound, and it stays sound.
 pub fn desk_stays_sound()
