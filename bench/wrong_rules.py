@@ -252,6 +252,12 @@ def tried(label,f,office):
     if spec: return f'DOES NOT READ | {label} | {spec[0][:200]}',False
     if 'logic=proved' in out: return f'LET THROUGH {dt:4.1f}s | {label}',True
     return f'refused {dt:4.1f}s | {label} | {", ".join(errors(out)) or out[-300:]}',False
+def readable(new,orig):
+    """The new text, with its truth values by their whole names where the file imports none."""
+    imports='\n'.join(l for l in orig.split('\n') if l.startswith('use '))
+    for word in ('true','false'):
+        if not re.search(rf'\b{word}\b',imports): new=re.sub(rf'(?<![\w.]){word}\b',f'Rattle.std.specs.Prelude.{word}',new)
+    return new
 def not_applied(only):
     """The rules whose text does not stand once in its file."""
     return [label for label,f,old,new in E if (not only or any(o in label for o in only)) and open(SRC+'/'+f,encoding='utf-8').read().count(old)!=1]
@@ -270,7 +276,7 @@ if __name__=='__main__':
         if only and not any(o in label for o in only): continue
         p=W+'/'+f; orig=open(p).read()
         if orig.count(old)!=1: print(f'NOT APPLIED | {label}',flush=True); continue
-        open(p,'w').write(orig.replace(old,new,1)); n+=1
+        open(p,'w').write(orig.replace(old,readable(new,orig),1)); n+=1
         line,through=tried(label,f,W+'/crates/office_rows')
         print(line,flush=True)
         if through: passed.append(label)
