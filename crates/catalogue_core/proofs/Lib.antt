@@ -36,3 +36,4 @@ pub mod OneRule
 pub mod PublicPaths
 pub mod PageUnits
 pub mod ShownUnits
+pub mod BoxPlaces

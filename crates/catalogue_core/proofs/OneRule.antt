@@ -1,5 +1,5 @@
 -- What the public is shown is what is not withheld from a reader without permits.
-use Rattle.std.proofs.Common.{◌≡◌, ℤ, Bool, true, false, cond, not, ◌&&◌, ◌||◌, List, [], ◌∷◌, ◌++◌, Option, Some, None, refl, sym, ap, ap₂, ◌∙◌, subst, inl, inr}
+use Rattle.std.proofs.Common.{◌≡◌, ℤ, Bool, true, false, cond, not, ◌&&◌, ◌||◌, List, [], ◌∷◌, ◌++◌, Option, Some, None, refl, sym, ap, ap₂, ◌∙◌, inl, inr}
 use Rattle.std.specs.Prelude.{filter, filter_map}
 use Rattle.std.specs.List.{list_any}
 use Rattle.std.proofs.lemmas.Bool.{cases_Bool, false≢true, or_parts}
@@ -10,8 +10,7 @@ use Rattle.tree_core.specs.Withheld.{public}
 use Rattle.catalogue_core.specs.Units.{Unit, is_closed}
 use Rattle.catalogue_core.specs.Housing.{paths_below}
 use Rattle.catalogue_core.specs.Pages.{before_last}
-use Rattle.catalogue_core.specs.Publishing.{PublicUnit, Told, Stub, public_unit, public_of, stub_of}
-use Rattle.catalogue_core.specs.Published.{last_of}
+use Rattle.catalogue_core.specs.Publishing.{PublicUnit, public_unit, public_of, stub_of}
 use Rattle.catalogue_core.specs.OneRule.{is_told, told_whole, told_as_stub, is_public, is_closed_alone, TellsWhatIsOpen, StubsWhatIsClosed}
 use Rattle.catalogue_core.proofs.PublishedUnits.{before_last-push, last_of-push}
 

@@ -20,7 +20,6 @@ use Rattle.tree_core.proofs.Sharing.{open_by_paths}
 use Rattle.catalogue_core.specs.Housing.{own_or, housed_below, housed, paths_below, is_withheld_from, is_some_there, is_open}
 use Rattle.catalogue_core.specs.Marking.{mark_of, unnumbered}
 use Rattle.std.proofs.lemmas.List.Folds.{list_any-append}
-use Rattle.catalogue_core.specs.Pages.{before_last}
 use Rattle.catalogue_core.proofs.PublishedUnits.{before_last-push}
 use Rattle.catalogue_core.specs.OpenMarks.{with_permit, mark_for, is_opened_above, is_clean, OpenByMarks, NumbersTellNothing, MarksSayClean}
 use Rattle.catalogue_core.specs.Units.{Unit, has_id, is_closed}

@@ -2,7 +2,7 @@
 use Rattle.std.proofs.Common.{◌≡◌, ℕ, ℤ, Bool, true, false, cond, ◌||◌, List, [], ◌∷◌, ◌++◌, map, Option, Some, None, refl, sym, ap, ap₂, ◌∙◌, subst, inl, inr}
 use Rattle.std.specs.Prelude.{nat_eq}
 use Rattle.std.specs.List.{list_any, AllByRecursion}
-use Rattle.std.proofs.lemmas.Bool.{cases_Bool, false≢true, or_cases, or_left, or_right}
+use Rattle.std.proofs.lemmas.Bool.{cases_Bool, false≢true, or_left, or_right}
 use Rattle.std.proofs.lemmas.List.Folds.{list_any-append}
 use Rattle.tree_core.specs.Forest.{Forest, Empty, Node, nodes, each, has, path, tree, HasDistinctIds}
 use Rattle.tree_core.specs.Withheld.{public}
@@ -10,7 +10,7 @@ use Rattle.tree_core.proofs.EachLemmas.{has-each}
 use Rattle.tree_core.proofs.LinkPaths.{parts, other_id}
 use Rattle.catalogue_core.specs.Units.{Unit, has_id, is_closed}
 use Rattle.catalogue_core.specs.Pages.{before_last, number_of, is_numbered}
-use Rattle.catalogue_core.specs.Publishing.{PublicUnit, Told, Stub, public_unit, public_of, stub_of}
+use Rattle.catalogue_core.specs.Publishing.{PublicUnit, public_unit, public_of, stub_of}
 use Rattle.catalogue_core.specs.OneRule.{is_told}
 use Rattle.catalogue_core.proofs.PublishedUnits.{before_last-push}
 
@@ -53,11 +53,11 @@ IsTold unit = is_told unit ≡ true
 abbrev pub known_of : ℤ → Unit → PublicUnit
 known_of day unit = public_unit (unit, is_closed day unit)
 
-abbrev drafts : Unit → Bool
+abbrev pub drafts : Unit → Bool
 drafts unit = unit.draft
 
 -- what the public may know of these trees, by whether the first unit is a draft and whether it is closed
-abbrev known_where : ℤ → Unit → Forest Unit → Forest Unit → Bool → Bool → Forest PublicUnit
+abbrev pub known_where : ℤ → Unit → Forest Unit → Forest Unit → Bool → Bool → Forest PublicUnit
 known_where day u c o draft closed =
     each public_unit (cond draft (public drafts (is_closed day) o) (Node (u, is_closed day u) (cond closed Empty (public drafts (is_closed day) c)) (public drafts (is_closed day) o)))
 

@@ -4,7 +4,6 @@ use Rattle.std.specs.List.{list_any, AllByRecursion}
 use Rattle.std.proofs.lemmas.Bool.{cases_Bool, false≢true}
 use Rattle.std.proofs.lemmas.List.Folds.{list_any-append}
 use Rattle.std.proofs.lemmas.List.{map-append}
-use Rattle.isad_core.specs.Texts.{Bytes}
 use Rattle.isad_core.specs.Values.{identifier}
 use Rattle.isad_core.specs.declared.shown.Shown.{Shown}
 use Rattle.isad_core.specs.declared.values.BoxKey.{BoxKey}
@@ -19,18 +18,11 @@ use Rattle.catalogue_core.specs.Publishing.{PublicUnit, public_unit, public_of, 
 use Rattle.catalogue_core.specs.Published.{identifiers, IsPublished}
 use Rattle.catalogue_core.proofs.DistinctLists.{all_so}
 use Rattle.catalogue_core.proofs.EachOf.{all_append}
-use Rattle.catalogue_core.proofs.PublicPaths.{known_of}
+use Rattle.catalogue_core.proofs.PublicPaths.{drafts, known_of, known_where}
 use Rattle.catalogue_core.proofs.PublishedUnits.{wider, here, stands_left, stands_right, none_pushed}
-
-abbrev pub drafts : Unit → Bool
-drafts unit = unit.draft
 
 abbrev pub low_of : ℤ → Forest Unit → Bool → Forest PublicUnit
 low_of day c closed = each public_unit (cond closed Empty (public drafts (is_closed day) c))
-
-abbrev pub known_where : ℤ → Unit → Forest Unit → Forest Unit → Bool → Bool → Forest PublicUnit
-known_where day u c o draft closed =
-    each public_unit (cond draft (public drafts (is_closed day) o) (Node (u, is_closed day u) (cond closed Empty (public drafts (is_closed day) c)) (public drafts (is_closed day) o)))
 
 identifier_known : (day : ℤ) (u : Unit) → identifier_of (known_of day u) ≡ identifier u.values
 identifier_known day u = at (is_closed day u)

@@ -1,9 +1,11 @@
--- What the public is shown, and what is withheld from a reader, are one rule; so are the containers on a page, and those that
--- decide whether a container is open.
-use Rattle.std.specs.Prelude.{◌≡◌, ℕ, ℤ, Bool, true, false, not, ◌&&◌, List, Option, Some, filter, filter_map, option_map, map}
+-- What the public is shown, and what is withheld from a reader, are one rule; so are the containers on a page, and
+-- those that decide whether a container is open.
+use Rattle.std.specs.Prelude.{◌≡◌, ℕ, ℤ, Bool, true, false, not, ◌&&◌, List, Option, Some, filter, filter_map, option_map, map, suc, slice_get}
 use Rattle.std.specs.List.{list_any}
 use Rattle.isad_core.specs.Texts.{Bytes}
+use Rattle.isad_core.specs.Boxes.{distinct}
 use Rattle.isad_core.specs.declared.shown.Page.{Page}
+use Rattle.isad_core.specs.declared.values.BoxKey.{BoxKey}
 use Rattle.tree_core.specs.Forest.{Forest, nodes, each, path, HasDistinctIds}
 use Rattle.catalogue_core.specs.Units.{Unit, has_id, is_closed}
 use Rattle.catalogue_core.specs.Housing.{paths, housed, is_withheld_from}
@@ -37,8 +39,8 @@ is_closed_alone day way =
     not (list_any (λ (unit : Unit). unit.draft) way)
     && (not (list_any (is_closed day) (before_last way)) && list_any (is_closed day) way)
 
--- The units that the public is told of are those that are not withheld from a reader without permits, all of them and in
--- walk order.
+-- The units that the public is told of are those that are not withheld from a reader without permits, all of them and
+-- in walk order.
 abbrev pub TellsWhatIsOpen : Type 0
 TellsWhatIsOpen = (day : ℤ) (f : Forest Unit) →
     filter is_told (nodes (public_of day f)) ≡ filter_map told_whole (filter (is_public day) (paths f))
@@ -46,7 +48,8 @@ TellsWhatIsOpen = (day : ℤ) (f : Forest Unit) →
 -- The stubs are of those units that nothing but their own closure withholds, all of them and in walk order.
 abbrev pub StubsWhatIsClosed : Type 0
 StubsWhatIsClosed = (day : ℤ) (f : Forest Unit) →
-    filter (λ unit. not (is_told unit)) (nodes (public_of day f)) ≡ filter_map told_as_stub (filter (is_closed_alone day) (paths f))
+    filter (λ unit. not (is_told unit)) (nodes (public_of day f))
+    ≡ filter_map told_as_stub (filter (is_closed_alone day) (paths f))
 
 -- ---- containers
 
@@ -56,6 +59,12 @@ number_and_name box = (box.0, box.1)
 
 -- The page of a unit that is not withheld has the containers that the unit lies in, all of them and in their order.
 abbrev pub PagesTellTheHousing : Type 0
-PagesTellTheHousing = (press : Press) (day : ℤ) (f : Forest Unit) (u : ℕ) (shown : Page) → HasDistinctIds (each (λ (unit : Unit). unit.id) f) →
+PagesTellTheHousing = (press : Press) (day : ℤ) (f : Forest Unit) (u : ℕ) (shown : Page) →
+    HasDistinctIds (each (λ (unit : Unit). unit.id) f) →
     page_of press u (public_of day f) ≡ Some shown → is_public day (path (has_id u) f) ≡ true →
     map number_and_name shown.boxes ≡ numbered_boxes (box_number press.containers) (housed (path (has_id u) f))
+
+-- The number of a container, as pages and finding aids tell it, is its place among the containers, counted from 1.
+abbrev pub NumbersArePlaces : Type 0
+NumbersArePlaces = (containers : List BoxKey) (i : ℕ) (box : BoxKey) → distinct containers ≡ containers →
+    slice_get containers i ≡ Some box → box_number containers box ≡ suc i

@@ -30,28 +30,36 @@ is_clean today path (Node unit below others) =
     not (withholds today false path)
     && list_all (λ way. not (withholds today (is_opened_above path) way)) (contents_paths unit below)
 
+-- the same of a unit of a forest, by its number, for a reader
+abbrev pub is_clean_for : (ℕ → Bool) → ℤ → Forest Unit → ℕ → Bool
+is_clean_for permitted today f id =
+    is_clean today (map (mark_for permitted) (path (has_id id) f)) (each (mark_for permitted) (tree (has_id id) f))
+
 -- the units that name a container among their own
 abbrev pub naming : BoxKey → Forest Unit → List Unit
 naming box f = filter (λ unit. list_any (is_same_box box) unit.values.boxes) (nodes f)
 
 -- A container is open to a reader exactly where some unit names it, and each that does is clean by its marks for him.
 abbrev pub OpenByMarks : Type 0
-OpenByMarks = (f : Forest Unit) (box : BoxKey) (permitted : ℕ → Bool) (today : ℤ) → HasDistinctIds (each (λ unit. unit.id) f) →
+OpenByMarks = (f : Forest Unit) (box : BoxKey) (permitted : ℕ → Bool) (today : ℤ) →
+    HasDistinctIds (each (λ unit. unit.id) f) →
     is_open f box permitted today
-    ≡ (is_some_there (naming box f)
-    && list_all (λ unit. is_clean today (map (mark_for permitted) (path (has_id unit.id) f)) (each (mark_for permitted) (tree (has_id unit.id) f))) (naming box f))
+    ≡ (is_some_there (naming box f) && list_all (λ unit. is_clean_for permitted today f unit.id) (naming box f))
 
 -- The numbers of marks do not matter there.
 abbrev pub NumbersTellNothing : Type 0
 NumbersTellNothing = (today : ℤ) (path : List Mark) (branch : Forest Mark) →
     is_clean today path branch ≡ is_clean today (map unnumbered path) (each unnumbered branch)
 
--- What `clean_path` and `clean_contents` answer on the marks that are read for a unit, once the reader's permits are put into
--- them: both say yes exactly where the unit is clean. The last two premises are what their contracts say.
+-- What `clean_path` and `clean_contents` answer on the marks that are read for a unit, once the reader's permits are put
+-- into them: both say yes exactly where the unit is clean. The last two premises are what their contracts say.
 abbrev pub MarksSayClean : Type 0
-MarksSayClean = (f : Forest Unit) (unit : ℕ) (permitted : ℕ → Bool) (today : ℤ) (marks branch : List Mark) (path_clean contents_clean : Bool) →
+MarksSayClean = (f : Forest Unit) (unit : ℕ) (permitted : ℕ → Bool) (today : ℤ) (marks branch : List Mark)
+    (path_clean contents_clean : Bool) →
     has (has_id unit) f ≡ true → AreMarks (path (has_id unit) f) marks → AreWalkMarks (tree (has_id unit) f) branch →
-    path_clean ≡ not (withholds today false (map (with_permit permitted) marks)) →
-    ((k : ℕ) (first : Mark) (below : Forest Mark) → IsNumbered k (Node first below Empty) → map (with_permit permitted) branch ≡ nodes (Node first below Empty)
-    → contents_clean ≡ list_all (λ way. not (withholds today (is_opened_above (map (with_permit permitted) marks)) way)) (contents_paths first below)) →
-    (path_clean && contents_clean) ≡ is_clean today (map (mark_for permitted) (path (has_id unit) f)) (each (mark_for permitted) (tree (has_id unit) f))
+    let read = map (with_permit permitted) marks in
+    path_clean ≡ not (withholds today false read) →
+    ((k : ℕ) (first : Mark) (below : Forest Mark) → IsNumbered k (Node first below Empty)
+    → map (with_permit permitted) branch ≡ nodes (Node first below Empty)
+    → contents_clean ≡ list_all (λ way. not (withholds today (is_opened_above read) way)) (contents_paths first below)) →
+    (path_clean && contents_clean) ≡ is_clean_for permitted today f unit

@@ -41,8 +41,8 @@ identifiers way = map (λ (unit : Unit). identifier unit.values) way
 
 -- ---- what stands on a page
 
--- What a page says of the unit that a value is from: nothing where it is the unit of the page itself, below which none of the
--- path stands, and otherwise its reference code.
+-- What a page says of the unit that a value is from: nothing where it is the unit of the page itself, below which none
+-- of the path stands, and otherwise its reference code.
 abbrev pub from_unit : Repository → List PublicUnit → PublicUnit → List PublicUnit → Option Bytes
 from_unit at above unit [] = None
 from_unit at above unit (next ∷ below) = Some (code_of at.country at.repo (map identifier_of (above ++ unit ∷ [])))

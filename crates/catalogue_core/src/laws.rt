@@ -1,7 +1,8 @@
 //! Laws of the definitions, each the contract of a function that does nothing.
 
 ghost use Rattle.catalogue_core.specs.OpenMarks.{OpenByMarks, MarksSayClean, NumbersTellNothing};
-ghost use Rattle.catalogue_core.specs.OneRule.{TellsWhatIsOpen, StubsWhatIsClosed, PagesTellTheHousing};
+ghost use Rattle.catalogue_core.specs.OneRule.{TellsWhatIsOpen, StubsWhatIsClosed};
+ghost use Rattle.catalogue_core.specs.OneRule.{PagesTellTheHousing, NumbersArePlaces};
 
 /// When a container is open to a reader with his permits, by the marks of the units that name it. The public has none.
 pub fn open_by_marks()
@@ -10,8 +11,8 @@ pub fn open_by_marks()
     ensures numbers { NumbersTellNothing }
 {}
 
-/// The public is told of just those units that are not withheld from a reader without permits, and has stubs of just those
-/// that nothing but their own closure withholds.
+/// The public is told of just those units that are not withheld from a reader without permits, and has stubs of just
+/// those that nothing but their own closure withholds.
 pub fn told_where_not_withheld()
     ensures told { TellsWhatIsOpen }
     ensures stubs { StubsWhatIsClosed }
@@ -20,4 +21,9 @@ pub fn told_where_not_withheld()
 /// The containers on a page are those that decide whether a container is open: what the unit lies in.
 pub fn pages_tell_the_housing()
     ensures { PagesTellTheHousing }
+{}
+
+/// The number that is printed of a container is the one by which it is ordered.
+pub fn numbers_are_places()
+    ensures { NumbersArePlaces }
 {}

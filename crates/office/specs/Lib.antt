@@ -1,4 +1,6 @@
 pub use Rattle.catalogue_core.specs.Aids
+pub use Rattle.catalogue_core.specs.OneRule
+pub use Rattle.catalogue_core.specs.OpenMarks
 pub use Rattle.finding_aids.specs.Numbers
 pub use Rattle.finding_aids.specs.Places
 pub use Rattle.finding_aids.specs.Planting
@@ -24,6 +26,7 @@ pub use Rattle.office_core.specs.Worked
 pub use Rattle.office_core.specs.WorkedReplies
 pub use Rattle.office_core.specs.SoundDesk
 pub use Rattle.office_core.specs.Laws
+pub use Rattle.office_core.specs.GivenNumbers
 pub use Rattle.office_core.specs.Json
 pub use Rattle.catalogue_core.specs.Pages
 pub use Rattle.office_core.specs.Queries

@@ -1,5 +1,8 @@
 //! Laws of the machine, and of what rows say.
 
+pub use catalogue_core::laws::{
+    numbers_are_places, open_by_marks, pages_tell_the_housing, told_where_not_withheld,
+};
 pub use office_core::laws::{
     all_that_is_published_is_shown, answered_from_the_published, days_stay_days, desk_stays_sound,
     given_in_order, imports_again, imports_bring_the_new, imports_keep_the_catalogue,

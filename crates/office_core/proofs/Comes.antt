@@ -13,7 +13,7 @@ use Rattle.office_core.specs.State.{State, container_of}
 use Rattle.catalogue_core.specs.Finding.{has_unit}
 use Rattle.catalogue_core.specs.Intake.{Taken}
 use Rattle.office_core.specs.Rules.{taken, imported, after, step, cancelled, issued, returned}
-use Rattle.office_core.specs.Numbers.{ComesNew}
+use Rattle.office_core.specs.GivenNumbers.{ComesNew}
 use Rattle.office_core.proofs.Steps.{step_at}
 use Rattle.catalogue_core.proofs.Imported.{new_rows, taken_is}
 use Rattle.catalogue_core.proofs.UnitsAfter.{of_number, OldOrNew, merged_units, each_units, status_id, closure_id, has_cut, has_moved}

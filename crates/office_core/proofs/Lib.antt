@@ -16,6 +16,7 @@ pub mod Boxes
 pub mod Numbers
 pub mod StaysNamed
 pub mod NumbersGiven
+pub mod NumberedRows
 pub mod SoundDesk
 pub mod WorkedAnswers
 pub mod MixedRuns

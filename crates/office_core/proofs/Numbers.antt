@@ -12,7 +12,7 @@ use Rattle.isad_core.specs.Boxes.{distinct}
 use Rattle.desk_core.specs.declared.refusal.Refusal.{Refusal}
 use Rattle.catalogue_core.specs.Intake.{Taken}
 use Rattle.office_core.specs.Laws.{numbers_from}
-use Rattle.office_core.specs.Numbers.{Kind, Tickets, Orders, Runs, Containers, Units, next_number, ticket_given, order_given, run_given, given, all_given, GivenInOrder, StartsAtOne}
+use Rattle.office_core.specs.GivenNumbers.{Kind, Tickets, Orders, Runs, Containers, Units, next_number, ticket_given, order_given, run_given, given, all_given, GivenInOrder, StartsAtOne}
 use Rattle.office_core.proofs.Steps.{step_at}
 use Rattle.catalogue_core.proofs.Imported.{new_boxes, boxes_after, next_after}
 use Rattle.office_core.proofs.Boxes.{step_apart}

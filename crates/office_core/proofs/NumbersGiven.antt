@@ -1,10 +1,10 @@
 -- What numbers are given to.
-use Rattle.std.proofs.Common.{◌≡◌, ℕ, zero, suc, ◌+◌, ◌<◌, ◌≤◌, Bool, true, false, ◌||◌, List, [], ◌∷◌, ◌++◌, length, Option, Some, None, Ok, Err, refl, sym, ap, ◌∙◌, subst, inl, inr, arith, map}
+use Rattle.std.proofs.Common.{◌≡◌, ℕ, ◌+◌, ◌<◌, ◌≤◌, true, List, [], ◌∷◌, ◌++◌, length, Option, Some, None, Ok, Err, refl, sym, ◌∙◌, subst, inl, inr, arith, map}
 use Rattle.std.specs.Prelude.{nat_eq}
 use Rattle.std.specs.List.{list_any}
 use Rattle.std.proofs.lemmas.Bool.{eq-eqb, or_left, or_right, cases_eq}
 use Rattle.std.proofs.lemmas.List.Folds.{list_any-append}
-use Rattle.std.proofs.lemmas.List.Sorted.{IsPermutation-sym, list_any-IsPermutation}
+use Rattle.std.proofs.lemmas.List.Sorted.{list_any-IsPermutation}
 use Rattle.isad_core.specs.Texts.{Bytes}
 use Rattle.atom_csv.specs.declared.file.Row.{Row}
 use Rattle.tree_core.specs.Forest.{nodes}
@@ -23,7 +23,7 @@ use Rattle.office_core.specs.declared.command.Command.TheVariants as command
 use Rattle.office_core.specs.State.{State, container_of}
 use Rattle.office_core.specs.Soundness.{IsSound}
 use Rattle.office_core.specs.Rules.{after, told, step, cancelled, issued, returned, imported, taken}
-use Rattle.office_core.specs.Numbers.{NamesWhatCame, EachIsUnits}
+use Rattle.office_core.specs.GivenNumbers.{NamesWhatCame, EachIsUnits}
 use Rattle.office_core.proofs.Steps.{step_at}
 use Rattle.office_core.proofs.Words.{numbered-push_last}
 

@@ -1,8 +1,8 @@
 -- What the public is shown is printed from published units alone.
-use Rattle.std.proofs.Common.{◌≡◌, ℕ, Bool, true, false, cond, List, [], ◌∷◌, ◌++◌, Option, Some, None, refl, sym, ap, ap₂, ◌∙◌, subst, inl, inr, ◌⊎◌}
-use Rattle.std.specs.Prelude.{map, nat_eq}
+use Rattle.std.proofs.Common.{◌≡◌, ℕ, Bool, true, false, cond, List, [], ◌∷◌, ◌++◌, Option, Some, None, refl, sym, ap, ◌∙◌, subst, inl, inr, ◌⊎◌}
+use Rattle.std.specs.Prelude.{map}
 use Rattle.std.specs.List.{AllByRecursion}
-use Rattle.std.proofs.lemmas.Bool.{cases_Bool, false≢true, eqb-true}
+use Rattle.std.proofs.lemmas.Bool.{cases_Bool, eqb-true}
 use Rattle.std.proofs.lemmas.List.{map-append}
 use Rattle.isad_core.specs.Texts.{Bytes}
 use Rattle.isad_core.specs.Printed.{aid as aid_text, page as page_text}
@@ -12,7 +12,7 @@ use Rattle.desk_core.specs.declared.refusal.Refusal.TheVariants.{UnknownUnit}
 use Rattle.tree_core.specs.Forest.{Forest, Empty, Node, has, path, tree}
 use Rattle.catalogue_core.specs.Aids.{identifier_of, shown_unit, shown_below}
 use Rattle.catalogue_core.specs.Housing.{paths}
-use Rattle.catalogue_core.specs.Pages.{Press, number_of, is_numbered, before_last, above_last, side_by_side, tops_text, aid_units, page_at, page_of}
+use Rattle.catalogue_core.specs.Pages.{Press, number_of, is_numbered, before_last, above_last, side_by_side, aid_units, page_at, page_of}
 use Rattle.catalogue_core.specs.Published.{IsPublished, identifiers}
 use Rattle.catalogue_core.specs.Publishing.{PublicUnit, Told, Stub}
 use Rattle.catalogue_core.specs.Units.{is_closed}
@@ -23,7 +23,6 @@ use Rattle.catalogue_core.proofs.PageUnits.{page_told, there_where_shown}
 use Rattle.catalogue_core.proofs.PublicPaths.{known_of, stand, nowhere}
 use Rattle.catalogue_core.proofs.PublishedUnits.{published_below, before_last-push}
 use Rattle.catalogue_core.proofs.ShownUnits.{ShowsIn, ShowsOne, low_of, all_beside, Place, place, shown_first, shown_lower, shown_beside}
-use Rattle.office_core.specs.declared.query.Answer.{Answer}
 use Rattle.office_core.specs.declared.query.Answer.TheVariants.{Text, Unknown}
 use Rattle.office_core.specs.declared.query.Query.TheVariants as query
 use Rattle.office_core.specs.State.{State}

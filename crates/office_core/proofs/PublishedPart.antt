@@ -1,24 +1,20 @@
 -- An office that keeps nothing but what is published answers the public alike.
-use Rattle.std.proofs.Common.{◌≡◌, ℤ, Bool, true, false, cond, List, Option, Some, None, refl, sym, ap, ap₂, ◌∙◌}
-use Rattle.std.specs.List.{flat_map, AllByRecursion}
+use Rattle.std.proofs.Common.{◌≡◌, ℤ, Bool, true, false, cond, Option, Some, None, refl, sym, ap, ap₂, ◌∙◌}
+use Rattle.std.specs.List.{flat_map}
 use Rattle.std.proofs.lemmas.Bool.{false≢true}
 use Rattle.isad_core.specs.declared.values.BoxKey.{BoxKey}
 use Rattle.tree_core.specs.Forest.{Forest, Empty, Node, nodes, each}
 use Rattle.tree_core.specs.Withheld.{public}
 use Rattle.catalogue_core.specs.Merging.{box_number}
-use Rattle.catalogue_core.specs.Publishing.{PublicUnit, public_unit, public_of, stub_of}
+use Rattle.catalogue_core.specs.Publishing.{public_unit, public_of, stub_of}
 use Rattle.catalogue_core.specs.Published.{boxes_told}
 use Rattle.catalogue_core.specs.Units.{Unit, is_later, is_closed}
 use Rattle.catalogue_core.proofs.EachOf.{all_true}
-use Rattle.catalogue_core.proofs.PublicPaths.{known_of}
-use Rattle.catalogue_core.proofs.ShownUnits.{known_where}
+use Rattle.catalogue_core.proofs.PublicPaths.{drafts, known_of, known_where}
 use Rattle.office_core.specs.State.{State}
 use Rattle.office_core.specs.Queries.{public_forest}
-use Rattle.office_core.specs.Secrecy.{SamePublic, AnswersAlike, published_unit, published_forest, published_part}
+use Rattle.office_core.specs.Secrecy.{AnswersAlike, published_unit, published_forest, published_part}
 use Rattle.office_core.proofs.NoLeak.{answers_alike}
-
-abbrev drafts : Unit → Bool
-drafts unit = unit.draft
 
 module _ (day : ℤ) where
   abbrev kept_of : Unit → Unit

@@ -1,11 +1,11 @@
 -- What a number names, it goes on to name.
 use Rattle.std.proofs.Common.{◌≡◌, ℕ, zero, suc, ◌+◌, ◌<◌, ◌≤◌, Bool, true, false, ◌&&◌, List, [], ◌∷◌, ◌++◌, Option, Some, None, Ok, Err, refl, sym, ap, ◌∙◌, subst, inl, inr, arith}
-use Rattle.std.specs.Prelude.{ℤ, cond, find, length, nat_eq, option_map, unwrap_or}
+use Rattle.std.specs.Prelude.{ℤ, cond, find, length, map, nat_eq, option_map, unwrap_or}
 use Rattle.std.specs.List.{list_any, AllByRecursion}
 use Rattle.std.specs.Str.{bytes_eq}
 use Rattle.std.proofs.lemmas.Bool.{false≢true, eqb-true, eq-eqb, or_cases, or_left, or_right, and_parts}
+use Rattle.std.proofs.lemmas.List.{map-append}
 use Rattle.isad_core.specs.Texts.{Bytes}
-use Rattle.isad_core.specs.declared.values.BoxKey.{BoxKey}
 use Rattle.isad_core.specs.Boxes.{distinct}
 use Rattle.atom_csv.specs.declared.file.Row.{Row}
 use Rattle.tree_core.specs.Forest.{Forest, nodes, each, has}
@@ -13,8 +13,8 @@ use Rattle.desk_core.specs.declared.reader.Place.{Place}
 use Rattle.desk_core.specs.declared.reader.Place.TheVariants.{Shelf, Desk, Out}
 use Rattle.catalogue_core.specs.Units.{Unit, has_id, is_from}
 use Rattle.catalogue_core.specs.Merging.{Catalogue, New, numbered_from, new_unit, revised, merged_forest, has_legacy}
-use Rattle.catalogue_core.specs.Statuses.{is_chosen, chosen}
-use Rattle.catalogue_core.specs.Intake.{Intake, Taken}
+use Rattle.catalogue_core.specs.Statuses.{chosen}
+use Rattle.catalogue_core.specs.Intake.{Taken}
 use Rattle.catalogue_core.proofs.ImportedAgain.{same_text, one_text, all_merged, all_each}
 use Rattle.catalogue_core.proofs.Imported.{new_rows, new_boxes, boxes_after, next_after, taken_is}
 use Rattle.catalogue_core.proofs.DistinctLists.{all_so}
@@ -27,9 +27,8 @@ use Rattle.office_core.specs.declared.command.Command.TheVariants as command
 use Rattle.office_core.specs.Words.{numbered}
 use Rattle.office_core.specs.State.{State, Reader, container_of}
 use Rattle.office_core.specs.Rules.{after, step, state_after, renewed, cancelled, issued, returned, imported, taken}
-use Rattle.office_core.specs.Numbers.{name_of, is_there, StaysNamed}
+use Rattle.office_core.specs.GivenNumbers.{NamesStay, names, is_there, IsThatUnit, StaysNamed}
 use Rattle.office_core.proofs.Boxes.{step_apart}
-use Rattle.office_core.proofs.Extends.{numbered_kept}
 use Rattle.office_core.proofs.Steps.{step_at}
 
 -- ---- lists
@@ -40,24 +39,17 @@ kept_behind [] ys (suc n) x e = absurd (cc)
 kept_behind (y ∷ xs) ys (suc zero) x e = e
 kept_behind (y ∷ xs) ys (suc (suc n)) x e = kept_behind xs ys (suc n) x e
 
-name_renewed : (until : ℤ) (rs : List Reader) (t n : ℕ) → option_map (λ (r : Reader). r.name) (numbered (renewed until rs t) n) ≡ option_map (λ (r : Reader). r.name) (numbered rs n)
-name_renewed until rs zero n = refl
-name_renewed until [] (suc t) n = refl
-name_renewed until (r ∷ rs) (suc zero) zero = refl
-name_renewed until (r ∷ rs) (suc zero) (suc zero) = refl
-name_renewed until (r ∷ rs) (suc zero) (suc (suc n)) = refl
-name_renewed until (r ∷ rs) (suc (suc t)) zero = refl
-name_renewed until (r ∷ rs) (suc (suc t)) (suc zero) = refl
-name_renewed until (r ∷ rs) (suc (suc t)) (suc (suc n)) = name_renewed until rs (suc t) (suc n)
+abbrev name : Reader → Bytes
+name reader = reader.name
 
-some_name : (o : Option Reader) (name : Bytes) → option_map (λ (r : Reader). r.name) o ≡ Some name → (reader : Reader) × (o ≡ Some reader) × (reader.name ≡ name)
-some_name None name e = absurd (cc)
-some_name (Some reader) name e = (reader, refl, cc)
+names_renewed : (until : ℤ) (rs : List Reader) (t : ℕ) → map name (renewed until rs t) ≡ map name rs
+names_renewed until rs zero = refl
+names_renewed until [] (suc t) = refl
+names_renewed until (r ∷ rs) (suc zero) = refl
+names_renewed until (r ∷ rs) (suc (suc t)) = ap (λ l. r.name ∷ l) (names_renewed until rs (suc t))
 
-name_kept : (rs : List Reader) (new : Reader) (n : ℕ) (name : Bytes) → option_map (λ (r : Reader). r.name) (numbered rs n) ≡ Some name → option_map (λ (r : Reader). r.name) (numbered (rs ++ new ∷ []) n) ≡ Some name
-name_kept rs new n name e =
-    let it = some_name (numbered rs n) name e in
-    ap (option_map (λ (r : Reader). r.name)) (numbered_kept rs new it.0 n it.1) ∙ ap Some it.2
+names_more : (rs : List Reader) (new : Reader) → NamesStay (map name rs) (map name (rs ++ new ∷ []))
+names_more rs new n x h = subst (λ l. numbered l n ≡ Some x) (sym (map-append name rs (new ∷ []))) (kept_behind (map name rs) (new.name ∷ []) n x h)
 
 -- ---- units
 
@@ -84,14 +76,11 @@ each_itself : (us all : List Unit) → ((p : Unit → Bool) → list_any p us �
 each_itself [] all f = tt
 each_itself (u ∷ us) all f = (f (is_unit u) (or_left (is_unit u u) (list_any (is_unit u) us) (itself u)), each_itself us all (λ p h. f p (or_right (p u) (list_any p us) h)))
 
-abbrev WasThere : State → Unit → Type 0
-WasThere s unit = unit.id < s.catalogue.next → is_there s.catalogue.forest unit ≡ true
-
 there_already : (s : State) → AllByRecursion (λ unit. is_there s.catalogue.forest unit ≡ true) (nodes s.catalogue.forest)
 there_already s = each_itself (nodes s.catalogue.forest) (nodes s.catalogue.forest) (λ p h. h)
 
-units_stay : (s : State) → AllByRecursion (WasThere s) (nodes s.catalogue.forest)
-units_stay s = all_so (λ unit. is_there s.catalogue.forest unit ≡ true) (WasThere s) (λ unit h l. h) (nodes s.catalogue.forest) (there_already s)
+units_stay : (s : State) → AllByRecursion (IsThatUnit s) (nodes s.catalogue.forest)
+units_stay s = all_so (λ unit. is_there s.catalogue.forest unit ≡ true) (IsThatUnit s) (λ unit h l. h) (nodes s.catalogue.forest) (there_already s)
 
 -- a unit that was there, of which number, source and number there are kept
 kept_there : (f : Forest Unit) (old new : Unit) → new.id ≡ old.id → new.source ≡ old.source → new.legacy ≡ old.legacy → is_there f old ≡ true → is_there f new ≡ true
@@ -100,10 +89,10 @@ kept_there f old new i s l h =
     (subst (λ t. has (λ (other : Unit). has_id old.id other && is_from t new.legacy other) f ≡ true) (sym s)
     (subst (λ t. has (λ (other : Unit). has_id old.id other && is_from old.source t other) f ≡ true) (sym l) h))
 
-each_stay : (s : State) (g : Unit → Unit) → KeepsUnits g → AllByRecursion (WasThere s) (nodes (each g s.catalogue.forest))
+each_stay : (s : State) (g : Unit → Unit) → KeepsUnits g → AllByRecursion (IsThatUnit s) (nodes (each g s.catalogue.forest))
 each_stay s g k =
-    all_each (WasThere s) g s.catalogue.forest
-    (all_so (λ unit. is_there s.catalogue.forest unit ≡ true) (λ unit. WasThere s (g unit)) (λ unit h l. kept_there s.catalogue.forest unit (g unit) (k.id unit) (k.source unit) (k.legacy unit) h) (nodes s.catalogue.forest) (there_already s))
+    all_each (IsThatUnit s) g s.catalogue.forest
+    (all_so (λ unit. is_there s.catalogue.forest unit ≡ true) (λ unit. IsThatUnit s (g unit)) (λ unit h l. kept_there s.catalogue.forest unit (g unit) (k.id unit) (k.source unit) (k.legacy unit) h) (nodes s.catalogue.forest) (there_already s))
 
 revised_keeps : (source : Bytes) (rows : List Row) (u : Unit) → ((revised source rows u).id ≡ u.id) × ((revised source rows u).source ≡ u.source) × ((revised source rows u).legacy ≡ u.legacy)
 revised_keeps source rows u = at (bytes_eq u.source source)
@@ -112,12 +101,12 @@ revised_keeps source rows u = at (bytes_eq u.source source)
     at true = (refl, refl, refl)
     at false = (refl, refl, refl)
 
-merged_stay : (s : State) (source : Bytes) (rows : List Row) → AllByRecursion (WasThere s) (nodes (merged_forest source rows (numbered_from s.catalogue.forest source s.catalogue.next [] (new_rows s.catalogue source rows)) s.catalogue.forest))
+merged_stay : (s : State) (source : Bytes) (rows : List Row) → AllByRecursion (IsThatUnit s) (nodes (merged_forest source rows (numbered_from s.catalogue.forest source s.catalogue.next [] (new_rows s.catalogue source rows)) s.catalogue.forest))
 merged_stay s source rows =
     let new : List New = numbered_from s.catalogue.forest source s.catalogue.next [] (new_rows s.catalogue source rows) in
-    all_merged (WasThere s) source rows new s.catalogue.forest
-    (all_so (λ x. (s.catalogue.next ≤ x.id) × (x.id < s.catalogue.next + length new)) (λ x. WasThere s (new_unit source x)) (λ x h l. absurd (let a = h.0 in omega (arith, a, l))) new (ids_between s.catalogue.forest source s.catalogue.next [] (new_rows s.catalogue source rows)))
-    (all_so (λ unit. is_there s.catalogue.forest unit ≡ true) (λ unit. WasThere s (revised source rows unit)) (λ unit h l. let k = revised_keeps source rows unit in kept_there s.catalogue.forest unit (revised source rows unit) k.0 k.1 k.2 h) (nodes s.catalogue.forest) (there_already s))
+    all_merged (IsThatUnit s) source rows new s.catalogue.forest
+    (all_so (λ x. (s.catalogue.next ≤ x.id) × (x.id < s.catalogue.next + length new)) (λ x. IsThatUnit s (new_unit source x)) (λ x h l. absurd (let a = h.0 in omega (arith, a, l))) new (ids_between s.catalogue.forest source s.catalogue.next [] (new_rows s.catalogue source rows)))
+    (all_so (λ unit. is_there s.catalogue.forest unit ≡ true) (λ unit. IsThatUnit s (revised source rows unit)) (λ unit h l. let k = revised_keeps source rows unit in kept_there s.catalogue.forest unit (revised source rows unit) k.0 k.1 k.2 h) (nodes s.catalogue.forest) (there_already s))
 
 -- ---- one command
 
@@ -127,15 +116,15 @@ same_named s t er eo en ec =
       containers = λ c box. subst (λ (k : Catalogue). numbered s.catalogue.containers c ≡ Some box → numbered k.containers c ≡ Some box) (sym ec) (λ h. h);
       orders = λ o order. subst (λ os. numbered s.orders o ≡ Some order → numbered os o ≡ Some order) (sym eo) (λ h. h);
       runs = λ n run. subst (λ rs. numbered s.runs n ≡ Some run → numbered rs n ≡ Some run) (sym en) (λ h. h);
-      readers = λ r name. subst (λ rs. name_of s r ≡ Some name → option_map (λ (reader : Reader). reader.name) (numbered rs r) ≡ Some name) (sym er) (λ h. h);
-      units = subst (λ (k : Catalogue). AllByRecursion (WasThere s) (nodes k.forest)) (sym ec) (units_stay s);
+      readers = λ r name. subst (λ rs. numbered (names s) r ≡ Some name → numbered (map (λ (reader : Reader). reader.name) rs) r ≡ Some name) (sym er) (λ h. h);
+      units = subst (λ (k : Catalogue). AllByRecursion (IsThatUnit s) (nodes k.forest)) (sym ec) (units_stay s);
       next = subst (λ (k : Catalogue). s.catalogue.next ≤ k.next) (sym ec) (omega arith);
     }
 
 pub itself_named : (s : State) → StaysNamed s s
 itself_named s = same_named s s refl refl refl refl
 
-forest_named : (s : State) (f : Forest Unit) → AllByRecursion (WasThere s) (nodes f) → StaysNamed s (record s { catalogue = record s.catalogue { forest = f } })
+forest_named : (s : State) (f : Forest Unit) → AllByRecursion (IsThatUnit s) (nodes f) → StaysNamed s (record s { catalogue = record s.catalogue { forest = f } })
 forest_named s f u = record { containers = λ c box h. h; orders = λ o order h. h; runs = λ n run h. h; readers = λ r name h. h; units = u; next = omega arith }
 
 cancelled_named : (s : State) (o : ℕ) (k : Option ℕ) → StaysNamed s (cancelled s o k)
@@ -160,7 +149,7 @@ imported_named s source file (Ok intake) e b =
       orders = λ o order h. h;
       runs = λ n run h. h;
       readers = λ r name h. h;
-      units = subst (λ (k : Catalogue). AllByRecursion (WasThere s) (nodes k.forest)) (sym (taken_is s.catalogue source file intake e).is) (merged_stay s source intake.file.rows);
+      units = subst (λ (k : Catalogue). AllByRecursion (IsThatUnit s) (nodes k.forest)) (sym (taken_is s.catalogue source file intake e).is) (merged_stay s source intake.file.rows);
       next = next_after s.catalogue source file intake e;
     }
 
@@ -168,14 +157,14 @@ named_after : (s : State) (asked : Command) → distinct s.catalogue.containers 
 named_after s (command.Import source file) b = imported_named s source file (taken s source file) refl b
 named_after s (command.SetStatus u draft whole) b = forest_named s _ (each_stay s _ (status_keeps (chosen whole u s.catalogue) draft))
 named_after s (command.SetClosure u until) b = forest_named s _ (each_stay s _ (closure_keeps until u))
-named_after s (command.Move u parent) b = forest_named s _ (all_moved (WasThere s) u parent s.catalogue.forest (units_stay s))
+named_after s (command.Move u parent) b = forest_named s _ (all_moved (IsThatUnit s) u parent s.catalogue.forest (units_stay s))
 named_after s (command.Remove u) b =
     record {
       containers = λ c box h. h;
       orders = λ o order h. h;
       runs = λ n run h. h;
       readers = λ r name h. h;
-      units = all_cut (WasThere s) (has_id u) s.catalogue.forest (units_stay s);
+      units = all_cut (IsThatUnit s) (has_id u) s.catalogue.forest (units_stay s);
       next = omega arith;
     }
 named_after s (command.Register name until) b =
@@ -183,7 +172,7 @@ named_after s (command.Register name until) b =
       containers = λ c box h. h;
       orders = λ o order h. h;
       runs = λ n run h. h;
-      readers = λ r known h. name_kept s.readers (record { name = name; until = until }) r known h;
+      readers = names_more s.readers (record { name = name; until = until });
       units = units_stay s;
       next = omega arith;
     }
@@ -192,7 +181,7 @@ named_after s (command.Renew t until) b =
       containers = λ c box h. h;
       orders = λ o order h. h;
       runs = λ n run h. h;
-      readers = λ r name h. name_renewed until s.readers t r ∙ h;
+      readers = λ r name h. ap (λ l. numbered l r) (names_renewed until s.readers t) ∙ h;
       units = units_stay s;
       next = omega arith;
     }
@@ -230,7 +219,7 @@ step_named s asked b = step_at (λ t reply. StaysNamed s t) s asked (λ why. its
 -- ---- one command after another
 
 -- a unit of the last state is that of the first
-was_there : (s t : State) (unit : Unit) → s.catalogue.next ≤ t.catalogue.next → unit.id < s.catalogue.next → (us : List Unit) → AllByRecursion (WasThere s) us → list_any (is_unit unit) us ≡ true → is_there s.catalogue.forest unit ≡ true
+was_there : (s t : State) (unit : Unit) → s.catalogue.next ≤ t.catalogue.next → unit.id < s.catalogue.next → (us : List Unit) → AllByRecursion (IsThatUnit s) us → list_any (is_unit unit) us ≡ true → is_there s.catalogue.forest unit ≡ true
 was_there s t unit n l [] a h = absurd (false≢true h)
 was_there s t unit n l (u ∷ us) a h =
     elim (or_cases (is_unit unit u) (list_any (is_unit unit) us) h) [
@@ -251,7 +240,7 @@ named_further s t v x y =
       orders = λ o order h. y.orders o order (x.orders o order h);
       runs = λ k run h. y.runs k run (x.runs k run h);
       readers = λ r name h. y.readers r name (x.readers r name h);
-      units = all_so (WasThere t) (WasThere s) (λ unit h l. was_there s t unit n l (nodes t.catalogue.forest) x.units (h (omega (arith, n, l)))) (nodes v.catalogue.forest) y.units;
+      units = all_so (IsThatUnit t) (IsThatUnit s) (λ unit h l. was_there s t unit n l (nodes t.catalogue.forest) x.units (h (omega (arith, n, l)))) (nodes v.catalogue.forest) y.units;
       next = omega (arith, n, m);
     }
 

@@ -1,17 +1,15 @@
 -- What the rules keep.
-use Rattle.std.specs.Prelude.{◌≡◌, ◌≢◌, ℕ, zero, suc, ◌-◌, ◌<◌, ◌≤◌, Bool, true, cond, List, [], ◌∷◌, ◌++◌, length, Option, Some, None, Ok, option_map, option_to_list, ◌⊎◌}
+use Rattle.std.specs.Prelude.{◌≡◌, ◌≢◌, ℕ, zero, suc, ◌-◌, ◌≤◌, Bool, true, cond, List, [], ◌∷◌, length, Option, Some, None, Ok, option_map, ◌⊎◌}
 use Rattle.office_core.specs.Words.{numbered, stands}
 use Rattle.office_core.specs.State.{Order, End, Done, Cancelled, State, container_of, order_out, is_by}
-use Rattle.catalogue_core.specs.Finding.{has_unit}
 use Rattle.office_core.specs.SoundDesk.{is_out_for, IsGoodHolder}
-use Rattle.office_core.specs.declared.command.Command.{Command}
 use Rattle.office_core.specs.declared.command.Command.TheVariants as command
 use Rattle.office_core.specs.declared.done.Done.TheVariants as done
 use Rattle.office_core.specs.declared.done.Remark.{Remark}
 use Rattle.isad_core.specs.Texts.{Bytes}
 use Rattle.atom_csv.specs.FileOf.{file_of}
 use Rattle.atom_csv.specs.declared.file.File.{File}
-use Rattle.office_core.specs.Rules.{Reply, step}
+use Rattle.office_core.specs.Rules.{step}
 
 -- ---- orders
 

@@ -6,7 +6,7 @@ pub mod ImportReply
 pub mod Rules
 pub mod SoundDesk
 pub mod Laws
-pub mod Numbers
+pub mod GivenNumbers
 pub mod Json
 pub mod Queries
 pub mod WorkedAnswers

@@ -20,7 +20,7 @@ use Rattle.catalogue_core.specs.Published.{boxes_told, identifiers, IsPublished,
 use Rattle.office_core.specs.declared.query.Query.TheVariants as query
 use Rattle.office_core.specs.declared.query.Answer.{Answer}
 use Rattle.office_core.specs.declared.query.Answer.TheVariants.{Text}
-use Rattle.office_core.specs.State.{State, start}
+use Rattle.office_core.specs.State.{State, Settings, start}
 use Rattle.office_core.specs.Queries.{answer, press, public_forest}
 
 -- the public parts of two offices are the same: whose archives they are, the day, what the public may know of the
@@ -63,8 +63,8 @@ ShowsBranch s u (head ∷ below) = ShowsNumbered s (u, head) × AllByRecursion (
 abbrev pub public_path : State → ℕ → List PublicUnit
 public_path s u = path (is_numbered u) (public_forest s)
 
--- The page of a unit shows published units alone: the unit and those right below it, and those of its path, of which its
--- lines and its containers are told.
+-- The page of a unit shows published units alone: the unit and those right below it, and those of its path, of which
+-- its lines and its containers are told.
 pub record PageShowsPublished (s : State) (u : ℕ) (shown : Page) : Type 0 where
   pub head : ShowsNumbered s (u, shown.head)
   pub way : AllByRecursion (IsPublished s.day (paths s.catalogue.forest)) (public_path s u)
@@ -109,11 +109,15 @@ published_unit (unit, closed) = record unit {
 abbrev pub published_forest : ℤ → Forest Unit → Forest Unit
 published_forest day f = each published_unit (public (λ unit. unit.draft) (is_closed day) f)
 
--- An office that keeps nothing but this: whose archives they are, the day, what is published of its units, and the numbers
--- of its containers. It has no readers, seats, orders, runs or permits.
+-- of the settings, whose archives they are
+abbrev pub published_settings : Settings → Settings
+published_settings settings = record settings { seats = 0; daily = 0; hands = 0; run_size = 0 }
+
+-- An office that keeps nothing but this: whose archives they are, the day, what is published of its units, and its
+-- containers with their numbers. It has no readers, seats, orders, runs or permits.
 abbrev pub published_part : State → State
 published_part s =
-    record (start (record { country = s.settings.country; repo = s.settings.repo; seats = 0; daily = 0; hands = 0; run_size = 0 }) s.day) {
+    record (start (published_settings s.settings) s.day) {
       catalogue = record {
         forest = published_forest s.day s.catalogue.forest;
         containers = s.catalogue.containers;

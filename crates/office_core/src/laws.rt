@@ -15,8 +15,8 @@ ghost use Rattle.office_core.specs.Secrecy.{SamePublic, AnswersAlike, published_
 ghost use Rattle.office_core.specs.Secrecy.{ShowsOnlyPublished, ShowsAllPublished};
 ghost use Rattle.office_core.specs.Laws.{OutApart, GoesOn, IssuesTheFirst, OpenToHolders};
 ghost use Rattle.office_core.specs.Laws.{ImportsAgain};
-ghost use Rattle.office_core.specs.Numbers.{StaysNamed, Kind, GivenInOrder, StartsAtOne, NamesWhatCame};
-ghost use Rattle.office_core.specs.Numbers.{ComesNew, EachIsUnits};
+ghost use Rattle.office_core.specs.GivenNumbers.{StaysNamed, Kind, GivenInOrder, StartsAtOne, NamesWhatCame};
+ghost use Rattle.office_core.specs.GivenNumbers.{ComesNew, EachIsUnits, NumbersRows};
 
 /// The reading room of a new office is sound, and it stays sound.
 pub fn desk_stays_sound()
@@ -88,9 +88,11 @@ pub fn imports_again()
 {}
 
 /// A unit that comes with a command has one of the unit numbers that the command gives, and each of these is a unit's.
+/// An import gives them to its new rows in the order of the file.
 pub fn units_come_new()
     ensures new { (s : State) (asked : Command) → ComesNew s (step s asked).0 }
     ensures each { (s : State) (asked : Command) → IsSound s → EachIsUnits s (step s asked).0 }
+    ensures rows { (s : State) → IsSound s → NumbersRows s }
 {}
 
 /// Every day that is kept stays a day of the calendar, where the commands name such days.

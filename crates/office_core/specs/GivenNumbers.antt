@@ -1,38 +1,50 @@
 -- What numbers name, and which are given.
-use Rattle.std.specs.Prelude.{◌≡◌, ℕ, ℤ, zero, suc, ◌-◌, ◌<◌, ◌≤◌, Bool, true, ◌&&◌, List, [], ◌∷◌, ◌++◌, length, Option, Some, None, Ok, option_map, option_to_list, ◌⊎◌}
+use Rattle.std.specs.Prelude.{◌≡◌, ℕ, ℤ, suc, ◌-◌, ◌<◌, ◌≤◌, Bool, true, ◌&&◌, List, [], ◌∷◌, ◌++◌, length, Option, Some, None, Ok, option_to_list, filter, map, ◌⊎◌}
 use Rattle.std.specs.List.{AllByRecursion}
 use Rattle.isad_core.specs.Texts.{Bytes}
-use Rattle.isad_core.specs.declared.values.BoxKey.{BoxKey}
 use Rattle.tree_core.specs.Forest.{Forest, nodes, has}
 use Rattle.catalogue_core.specs.Units.{Unit, has_id, is_from}
 use Rattle.catalogue_core.specs.Finding.{has_unit}
+use Rattle.catalogue_core.specs.Intake.{is_new}
+use Rattle.atom_csv.specs.FileOf.{file_of}
+use Rattle.atom_csv.specs.declared.file.File.{File}
+use Rattle.atom_csv.specs.declared.file.Row.{Row}
 use Rattle.office_core.specs.Words.{numbered}
-use Rattle.office_core.specs.State.{Reader, Order, Run, State, Settings, start, next_run}
+use Rattle.office_core.specs.State.{Reader, State, Settings, start, next_run}
 use Rattle.office_core.specs.declared.command.Command.{Command}
 use Rattle.office_core.specs.declared.command.Command.TheVariants as command
+use Rattle.office_core.specs.declared.done.Done.{Done}
 use Rattle.office_core.specs.declared.done.Done.TheVariants as done
 use Rattle.office_core.specs.Rules.{Reply, step, state_after}
 use Rattle.office_core.specs.Laws.{numbers_from}
 
 -- ---- what a number names
 
--- the name of the reader with this ticket
-abbrev pub name_of : State → ℕ → Option Bytes
-name_of s t = option_map (λ (reader : Reader). reader.name) (numbered s.readers t)
+-- the n-th of the one list is the n-th of the other
+abbrev pub NamesStay : {X : Type 0} → List X → List X → Type 0
+NamesStay {X} old new = (n : ℕ) (x : X) → numbered old n ≡ Some x → numbered new n ≡ Some x
+
+-- the names of the readers, by ticket
+abbrev pub names : State → List Bytes
+names s = map (λ (reader : Reader). reader.name) s.readers
 
 -- a unit with this one's number, source and number in the source is there
 abbrev pub is_there : Forest Unit → Unit → Bool
 is_there f unit = has (λ (other : Unit). has_id unit.id other && is_from unit.source unit.legacy other) f
 
--- What a number names in s, it names in t: a container with its name, location and kind, an order of that ticket for that
--- container from that day, a run of that day with its lines, and a reader with that name. A unit of t whose number was given in s
--- is that unit of s, from the same source, with the same number there.
+-- where this unit's number was given in s, it is the unit of s with that number
+abbrev pub IsThatUnit : State → Unit → Type 0
+IsThatUnit s unit = unit.id < s.catalogue.next → is_there s.catalogue.forest unit ≡ true
+
+-- What a number names in s, it names in t: a container with its name, location and kind, an order of that ticket for
+-- that container from that day, a run of that day with its lines, and a reader with that name. A unit of t whose number
+-- was given in s is that unit of s, from the same source, with the same number there.
 pub record StaysNamed (s t : State) : Type 0 where
-  pub containers : (c : ℕ) (box : BoxKey) → numbered s.catalogue.containers c ≡ Some box → numbered t.catalogue.containers c ≡ Some box
-  pub orders : (o : ℕ) (order : Order) → numbered s.orders o ≡ Some order → numbered t.orders o ≡ Some order
-  pub runs : (n : ℕ) (run : Run) → numbered s.runs n ≡ Some run → numbered t.runs n ≡ Some run
-  pub readers : (r : ℕ) (name : Bytes) → name_of s r ≡ Some name → name_of t r ≡ Some name
-  pub units : AllByRecursion (λ (unit : Unit). unit.id < s.catalogue.next → is_there s.catalogue.forest unit ≡ true) (nodes t.catalogue.forest)
+  pub containers : NamesStay s.catalogue.containers t.catalogue.containers
+  pub orders : NamesStay s.orders t.orders
+  pub runs : NamesStay s.runs t.runs
+  pub readers : NamesStay (names s) (names t)
+  pub units : AllByRecursion (IsThatUnit s) (nodes t.catalogue.forest)
   -- a unit's number that was given stays given
   pub next : s.catalogue.next ≤ t.catalogue.next
 
@@ -112,3 +124,19 @@ ComesNew s t =
 -- each unit number that a command gives is the number of a unit
 abbrev pub EachIsUnits : State → State → Type 0
 EachIsUnits s t = (u : ℕ) → s.catalogue.next ≤ u → u < t.catalogue.next → has_unit t.catalogue.forest u ≡ true
+
+-- the units of these rows are there, with the numbers from n on, in the order of the rows
+abbrev pub AreNumberedUnits : Forest Unit → Bytes → ℕ → List Row → Type 0
+AreNumberedUnits f source n [] = Prim.Unit {0}
+AreNumberedUnits f source n (row ∷ rows) =
+    (has (λ (unit : Unit). has_id n unit && is_from source row.legacy unit) f ≡ true)
+    × AreNumberedUnits f source (suc n) rows
+
+-- An accepted import gives the next unit numbers to its new rows in the order of the file.
+abbrev pub NumbersRows : State → Type 0
+NumbersRows s =
+    (source file : Bytes) (read : File) (told : Done)
+    → (step s (command.Import source file)).1 ≡ Ok told
+    → file_of file ≡ Ok read
+    → let new_rows = filter (is_new s.catalogue.forest source) read.rows in
+    AreNumberedUnits (step s (command.Import source file)).0.catalogue.forest source s.catalogue.next new_rows
