@@ -1,4 +1,4 @@
-//! The tests of the crates that have no tables: descriptions, forests, files, the desk and previews.
+//! The tests of the crates that have no tables: descriptions, forests, files, the desk, previews and sessions.
 #![tactic(auto)]
 
 #[cfg(test)]
@@ -11,5 +11,7 @@ mod files;
 mod forests;
 #[cfg(test)]
 mod previews;
+#[cfg(test)]
+mod sessions;
 #[cfg(test)]
 mod worked_aids;

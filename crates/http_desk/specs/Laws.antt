@@ -33,7 +33,7 @@ HasEnded ReadFault = ⊥
 HasEnded WriteFault = ⊥
 HasEnded Bound = ⊥
 
--- ---- without 503 and without a fault, the state and the input say what is written, how it ends and the state that is left
+-- ---- without 503 and without a fault, the state and the input say what is written, how it ends, and what state is left
 
 pub record IsSame (out out2 : Bytes) (end fin : Ended) (new new2 : State) : Type 0 where
   pub output : out ≡ out2

@@ -9,7 +9,10 @@ use Rattle.http_desk.specs.Session.{message_text}
 
 abbrev pub of : Bytes → Bytes → Option ℕ → Bool → Message
 of method target size closes =
-    record { request = record { method = method; target = target; length = size; waits = false; closes = closes }; body = [] }
+    record {
+      request = record { method = method; target = target; length = size; waits = false; closes = closes };
+      body = [];
+    }
 
 abbrev pub get : Bytes → Message
 get target = of (codes "GET") target None false
@@ -47,7 +50,7 @@ not_found = json_text (codes "404 Not Found") (codes "21") [] (codes "{\"error\"
 pub record Answered : Type 0 where
   pub fonds : Writes filled (get (codes "/public/fonds")) fonds_list
   pub nothing : Writes office (of (codes "GET") (codes "/public/fonds") None true)
-      (codes "HTTP/1.1 200 OK\r\nContent-Type: text/plain; charset=utf-8\r\nContent-Length: 0\r\nConnection: close\r\n\r\n")
+      (fine_text (codes "0\r\nConnection: close") [])
   pub head : Writes filled (of (codes "HEAD") (codes "/public/fonds") None false)
       (json_text (codes "405 Method Not Allowed") (codes "30") (codes "Allow: GET\r\n") [])
   pub draft : Writes with_draft (get (codes "/public/units/2")) not_found

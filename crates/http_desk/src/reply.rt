@@ -25,7 +25,8 @@ fn send_pieces<'a, W: Write>(
     requires { length (pieces_text status.now phrase.now kind.now size.now allow.now close.now body.now) + 16 < 2 ^ 64 }
     ensures failed { failed.new ≡ false → (failed.old ≡ false) × (result ≢ Sent.Failed) }
     ensures bound { interrupted.new ≡ false → (interrupted.old ≡ false) × (result ≢ Sent.Bound) }
-    ensures sends { Sends (W.contents writer.old) (W.contents writer.new) (pieces_text status.now phrase.now kind.now size.now allow.now close.now body.now) result }
+    ensures sends { Sends (W.contents writer.old) (W.contents writer.new)
+        (pieces_text status.now phrase.now kind.now size.now allow.now close.now body.now) result }
 {
     send(
         writer,
@@ -60,7 +61,8 @@ pub fn send_answer<W: Write>(
 ) -> Sent
     ensures failed { failed.new ≡ false → (failed.old ≡ false) × (result ≢ Sent.Failed) }
     ensures bound { interrupted.new ≡ false → (interrupted.old ≡ false) × (result ≢ Sent.Bound) }
-    ensures sends { Sends (W.contents writer.old) (W.contents writer.new) (answer_text bare closing (answer_in answer.now)) result }
+    ensures sends { Sends (W.contents writer.old) (W.contents writer.new)
+        (answer_text bare closing (answer_in answer.now)) result }
 {
     let status = answer.status();
     let mut digits = Buffer::new();

@@ -170,7 +170,8 @@ fn receive<R: Read, W: Write, M: Machine>(
     calls: &mut Calls,
 ) -> Next
     requires within { size ≤ length buffer.old.items }
-    requires turns { calls.old.interrupted ≡ false → size + unwrap_or head.length 0 < turns.old + length buffer.old.items }
+    requires turns { calls.old.interrupted ≡ false
+        → size + unwrap_or head.length 0 < turns.old + length buffer.old.items }
     requires method { IsWithin (length (take size buffer.old.items)) head.method }
     requires target { IsWithin (length (take size buffer.old.items)) head.target }
     requires accepted { HasHead buffer.old.items (take size buffer.old.items)

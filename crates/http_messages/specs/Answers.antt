@@ -63,7 +63,8 @@ abbrev pub error : Status → Answer
 error status = record { status = status; is_text = false; allow = None; body = error_text status }
 
 abbrev pub not_allowed : Bytes → Answer
-not_allowed method = record { status = MethodNotAllowed; is_text = false; allow = Some method; body = error_text MethodNotAllowed }
+not_allowed method =
+    record { status = MethodNotAllowed; is_text = false; allow = Some method; body = error_text MethodNotAllowed }
 
 -- ---- bytes
 

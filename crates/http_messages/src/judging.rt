@@ -373,7 +373,8 @@ fn weigh_said(block: &[u8], fields: &[HeaderSpan], line: Line) -> Judged
     ensures is { verdict_in block.now result
         ≡ weigh_length (span_bytes block.now line.method) (span_bytes block.now line.target) line.minor
         (map (header_bytes block.now) fields.now)
-        (option_map (λ h. span_bytes block.now h.value) (find (λ h. is_named (codes "content-length") (header_bytes block.now h)) fields.now)) }
+        (option_map (λ h. span_bytes block.now h.value)
+        (find (λ h. is_named (codes "content-length") (header_bytes block.now h)) fields.now)) }
 {
     match first_named(block, fields, b"content-length") {
         None => accepted(block, fields, line, None),

@@ -1,0 +1,374 @@
+//! Sessions over readers and writers that give and take in pieces, fail, or are interrupted.
+
+use http_desk::ended::{Calls, Ended};
+use http_desk::session::{talk, talk_watched};
+use isad_core::List;
+use office_core::{Answer, Busy, Command, Done, Machine, Query, Reply};
+use std::alloc::Global;
+use std::io::{self, ErrorKind, Read, Write};
+use std::process::Abort;
+use std::test::Fail;
+
+/// Tells one fonds, and gives tickets.
+#[derive(Drop)]
+struct Counter {
+    tickets: u64,
+}
+
+impl Machine for Counter {
+    ghost shows = { λ office s. ⊥ };
+
+    ghost is_intact = { λ office. Prim.Unit {0} };
+
+    fn apply(&mut self, alloc: Global, _command: Command) -> Result<Reply, Busy> {
+        let Ok(json) = Vec::from_slice(alloc, b"{\"ticket\":1}") else {
+            return Err(Busy::Memory);
+        };
+        self.tickets = self.tickets.wrapping_add(1);
+        Ok(Reply {
+            done: Ok(Done::Register {
+                ticket: self.tickets,
+            }),
+            json: List(json),
+        })
+    }
+
+    fn ask(&mut self, alloc: Global, _query: Query) -> Result<Answer, Busy> {
+        let Ok(text) = Vec::from_slice(alloc, b"1 GB 0999 HUL [Fonds] Hull Dock Company\n") else {
+            return Err(Busy::Memory);
+        };
+        Ok(Answer::Text(List(text)))
+    }
+}
+
+/// How reads or writes go on once all bytes are given, or no room is left.
+#[derive(Clone, Copy, PartialEq, Eq, Drop)]
+enum Then {
+    Ends,
+    Fails,
+    Waits,
+}
+
+/// Gives its bytes in pieces. A shy one is interrupted before each piece.
+#[derive(Drop)]
+struct Pieces<'a> {
+    bytes: &'a [u8],
+    piece: usize,
+    then: Then,
+    shy: bool,
+    ready: bool,
+    reads: u64,
+}
+
+impl<'a> Pieces<'a> {
+    fn new(bytes: &'a [u8], piece: usize, then: Then) -> Pieces<'a> {
+        Pieces {
+            bytes,
+            piece,
+            then,
+            shy: false,
+            ready: false,
+            reads: 0,
+        }
+    }
+}
+
+impl Read for Pieces<'_> {
+    fn read(&mut self, buf: &mut [u8]) -> io::Result<usize> {
+        self.reads = self.reads.wrapping_add(1);
+        self.ready = !self.ready;
+        if self.shy && self.ready {
+            return Err(io::Error::from(ErrorKind::Interrupted));
+        }
+        if self.bytes.is_empty() {
+            match self.then {
+                Then::Ends => return Ok(0),
+                Then::Fails => return Err(io::Error::from(ErrorKind::Other)),
+                Then::Waits => return Err(io::Error::from(ErrorKind::Interrupted)),
+            }
+        }
+        let n = self.piece.min(self.bytes.len()).min(buf.len());
+        for i in 0..n {
+            buf[i] = self.bytes[i];
+        }
+        self.bytes = &self.bytes[n..];
+        Ok(n)
+    }
+}
+
+/// Gives one request again and again.
+#[derive(Drop)]
+struct Again<'a> {
+    bytes: &'a [u8],
+}
+
+impl Read for Again<'_> {
+    fn read(&mut self, buf: &mut [u8]) -> io::Result<usize> {
+        let n = self.bytes.len().min(buf.len());
+        for i in 0..n {
+            buf[i] = self.bytes[i];
+        }
+        Ok(n)
+    }
+}
+
+/// Takes that many bytes, in pieces.
+#[derive(Drop)]
+struct Narrow {
+    held: Vec<u8>,
+    room: usize,
+    piece: usize,
+    then: Then,
+    calls: u64,
+    flushes: u64,
+}
+
+impl Narrow {
+    fn new(alloc: Global, room: usize, piece: usize, then: Then) -> Narrow {
+        Narrow {
+            held: Vec::new(alloc),
+            room,
+            piece,
+            then,
+            calls: 0,
+            flushes: 0,
+        }
+    }
+}
+
+impl Write for Narrow {
+    fn write(&mut self, buf: &[u8]) -> io::Result<usize> {
+        self.calls = self.calls.wrapping_add(1);
+        if self.room == 0 {
+            match self.then {
+                Then::Ends => return Ok(0),
+                Then::Fails => return Err(io::Error::from(ErrorKind::Other)),
+                Then::Waits => return Err(io::Error::from(ErrorKind::Interrupted)),
+            }
+        }
+        let n = buf.len().min(self.room).min(self.piece);
+        self.held.extend_from_slice(&buf[..n])?;
+        self.room -= n;
+        Ok(n)
+    }
+
+    fn flush(&mut self) -> io::Result<()> {
+        self.calls = self.calls.wrapping_add(1);
+        self.flushes = self.flushes.wrapping_add(1);
+        Ok(())
+    }
+}
+
+const ONE: &[u8] = b"GET /public/fonds HTTP/1.1\r\nHost: x\r\n\r\n";
+
+const TWO: &[u8] =
+    b"GET /public/fonds HTTP/1.1\r\nHost: x\r\n\r\nGET /public/fonds HTTP/1.1\r\nHost: x\r\n\r\n";
+
+const FONDS: &[u8] =
+    b"HTTP/1.1 200 OK\r\nContent-Type: text/plain; charset=utf-8\r\nContent-Length: 40\r\n\r\n1 GB 0999 HUL [Fonds] Hull Dock Company\n";
+
+const REGISTER: &[u8] =
+    b"POST /desk/register HTTP/1.1\r\nHost: x\r\nContent-Length: 35\r\n\r\n{\"name\":\"Ann\",\"until\":\"2024-12-31\"}";
+
+fn unseen() -> Calls {
+    Calls {
+        read_failed: false,
+        write_failed: false,
+        interrupted: false,
+    }
+}
+
+// However the input comes in pieces, also where each read is first interrupted.
+#[test]
+fn two_requests(rt: HostRuntime) -> Result<(), Fail> {
+    for piece in 1..40usize {
+        for shy in [false, true] {
+            let mut desk = Counter { tickets: 0 };
+            let mut reader = Pieces::new(TWO, piece, Then::Ends);
+            reader.shy = shy;
+            let mut writer = Narrow::new(rt.alloc(), 1000, 7, Then::Fails);
+            let mut calls = unseen();
+            let ended = talk_watched(rt.alloc(), &mut reader, &mut writer, &mut desk, &mut calls);
+            assert_eq!(rt; ended, Ended::End);
+            assert_eq!(rt; writer.held.len(), 240);
+            assert!(rt; writer.held.starts_with(FONDS));
+            assert!(rt; writer.held.ends_with(FONDS));
+            assert_eq!(rt; calls.interrupted, shy);
+            assert!(rt; !calls.read_failed);
+        }
+    }
+    Ok(())
+}
+
+// A reader that fails after some bytes: what came whole before is answered.
+#[test]
+fn a_reader_that_fails(rt: HostRuntime) -> Result<(), Fail> {
+    for n in 0..79usize {
+        if n <= TWO.len() {
+            let mut desk = Counter { tickets: 0 };
+            let mut reader = Pieces::new(&TWO[..n], 5, Then::Fails);
+            let mut writer = Narrow::new(rt.alloc(), 1000, 7, Then::Fails);
+            let mut calls = unseen();
+            let ended = talk_watched(rt.alloc(), &mut reader, &mut writer, &mut desk, &mut calls);
+            assert_eq!(rt; ended, Ended::ReadFault);
+            assert!(rt; calls.read_failed);
+            assert!(rt; !calls.write_failed);
+            let answers = if n < 39 {
+                0
+            } else if n < 78 {
+                120
+            } else {
+                240
+            };
+            assert_eq!(rt; writer.held.len(), answers);
+        }
+    }
+    Ok(())
+}
+
+// A writer that takes some bytes, and then fails or takes none.
+#[test]
+fn a_narrow_writer(rt: HostRuntime) -> Result<(), Fail> {
+    for room in 0..240usize {
+        for then in [Then::Ends, Then::Fails] {
+            let mut desk = Counter { tickets: 0 };
+            let mut reader = Pieces::new(TWO, 1000, Then::Ends);
+            let mut writer = Narrow::new(rt.alloc(), room, 7, then);
+            let mut calls = unseen();
+            let ended = talk_watched(rt.alloc(), &mut reader, &mut writer, &mut desk, &mut calls);
+            assert_eq!(rt; ended, Ended::WriteFault);
+            assert_eq!(rt; writer.held.len(), room);
+            assert!(rt; calls.write_failed);
+            assert!(rt; !calls.read_failed);
+        }
+    }
+    Ok(())
+}
+
+// After a write that failed no later message is acted on.
+#[test]
+fn a_message_after_a_fault(rt: HostRuntime) -> Result<(), Fail> {
+    let mut desk = Counter { tickets: 0 };
+    let mut reader = Again { bytes: REGISTER };
+    let mut writer = Narrow::new(rt.alloc(), 0, 7, Then::Fails);
+    let ended = talk(rt.alloc(), &mut reader, &mut writer, &mut desk);
+    assert_eq!(rt; ended, Ended::WriteFault);
+    assert_eq!(rt; desk.tickets, 1);
+    Ok(())
+}
+
+// The calls of a message are bounded: of a reader, and of a writer beside the answer's length.
+#[test]
+fn calls_without_end(rt: HostRuntime) -> Result<(), Fail> {
+    let mut desk = Counter { tickets: 0 };
+    let mut reader = Pieces::new(b"", 1, Then::Waits);
+    let mut writer = Narrow::new(rt.alloc(), 1000, 7, Then::Fails);
+    let ended = talk(rt.alloc(), &mut reader, &mut writer, &mut desk);
+    assert_eq!(rt; ended, Ended::Bound);
+    assert_eq!(rt; reader.reads, 8_404_993);
+    for room in [0usize, 100] {
+        let mut reader = Pieces::new(ONE, 1000, Then::Ends);
+        let mut writer = Narrow::new(rt.alloc(), room, 1, Then::Waits);
+        let ended = talk(rt.alloc(), &mut reader, &mut writer, &mut desk);
+        assert_eq!(rt; ended, Ended::Bound);
+        assert_eq!(rt; writer.calls, 136);
+        assert_eq!(rt; writer.held.len(), room);
+    }
+    Ok(())
+}
+
+// The 10,000th answer closes, and says so.
+#[test]
+fn the_last_answer(rt: HostRuntime) -> Result<(), Fail> {
+    let mut desk = Counter { tickets: 0 };
+    let mut reader = Again { bytes: ONE };
+    let mut writer = Narrow::new(rt.alloc(), 2_000_000, 1000, Then::Fails);
+    let ended = talk(rt.alloc(), &mut reader, &mut writer, &mut desk);
+    assert_eq!(rt; ended, Ended::Closed);
+    assert_eq!(rt; writer.flushes, 10_000);
+    assert_eq!(rt; writer.held.len(), 1_200_019);
+    Ok(())
+}
+
+/// What is answered to an input, how that ends, and how many tickets were given.
+struct Case {
+    input: &'static [u8],
+    output: &'static [u8],
+    end: Ended,
+    tickets: u64,
+}
+
+fn says(rt: &impl Abort, alloc: Global, case: &Case) {
+    let mut desk = Counter { tickets: 0 };
+    let mut reader = Pieces::new(case.input, 1000, Then::Ends);
+    let mut writer = Narrow::new(alloc, 100_000, 1000, Then::Fails);
+    let ended = talk(alloc, &mut reader, &mut writer, &mut desk);
+    assert_eq!(rt; ended, case.end);
+    assert!(rt; writer.held.as_slice() == case.output, "{}", desk.tickets);
+    assert_eq!(rt; desk.tickets, case.tickets);
+}
+
+const CASES: [Case; 9] = [
+    Case {
+        input: b"GET /public/fonds HTTP/1.0\r\n\r\nGET",
+        output: b"HTTP/1.1 200 OK\r\nContent-Type: text/plain; charset=utf-8\r\nContent-Length: 40\r\nConnection: close\r\n\r\n1 GB 0999 HUL [Fonds] Hull Dock Company\n",
+        end: Ended::Closed,
+        tickets: 0,
+    },
+    Case {
+        input: b"HEAD /public/fonds HTTP/1.1\r\nHost: x\r\n\r\n",
+        output: b"HTTP/1.1 405 Method Not Allowed\r\nContent-Type: application/json\r\nContent-Length: 30\r\nAllow: GET\r\n\r\n",
+        end: Ended::End,
+        tickets: 0,
+    },
+    Case {
+        input: b"POST /desk/register HTTP/1.1\r\nHost: x\r\nContent-Length: 35\r\n\r\n0123456789",
+        output: b"",
+        end: Ended::Cut,
+        tickets: 0,
+    },
+    Case {
+        input: b"POST /desk/register HTTP/1.1\r\nHost: x\r\nContent-Length: 35\r\n\r\n{\"name\":\"Ann\",\"until\":\"2024-12-31\"}\r\n",
+        output: b"HTTP/1.1 200 OK\r\nContent-Type: application/json\r\nContent-Length: 12\r\n\r\n{\"ticket\":1}",
+        end: Ended::End,
+        tickets: 1,
+    },
+    Case {
+        input: b"POST /public/orders HTTP/1.1\r\nHost: x\r\nContent-Length: 28\r\n\r\n{\"ticket\":1,\"container\":\"x\"}",
+        output: b"HTTP/1.1 400 Bad Request\r\nContent-Type: application/json\r\nContent-Length: 23\r\n\r\n{\"error\":\"bad request\"}",
+        end: Ended::End,
+        tickets: 0,
+    },
+    Case {
+        input: b"POST /public/fonds HTTP/1.1\r\nHost: x\r\nTransfer-Encoding: chunked\r\n\r\n",
+        output: b"HTTP/1.1 501 Not Implemented\r\nContent-Type: application/json\r\nContent-Length: 27\r\nConnection: close\r\n\r\n{\"error\":\"not implemented\"}",
+        end: Ended::Closed,
+        tickets: 0,
+    },
+    Case {
+        input: b"POST /desk/run HTTP/1.1\r\nHost: x\r\n\r\n",
+        output: b"HTTP/1.1 411 Length Required\r\nContent-Type: application/json\r\nContent-Length: 27\r\n\r\n{\"error\":\"length required\"}",
+        end: Ended::End,
+        tickets: 0,
+    },
+    Case {
+        input: b"OPTIONS * HTTP/1.1\r\nHost: x\r\n\r\n",
+        output: b"HTTP/1.1 404 Not Found\r\nContent-Type: application/json\r\nContent-Length: 21\r\n\r\n{\"error\":\"not found\"}",
+        end: Ended::End,
+        tickets: 0,
+    },
+    Case {
+        input: b"POST /desk/run HTTP/1.1\r\nHost: x\r\nContent-Length: 1\r\nExpect: 100-Continue\r\n\r\n",
+        output: b"HTTP/1.1 100 Continue\r\n\r\n",
+        end: Ended::Cut,
+        tickets: 0,
+    },
+];
+
+#[test]
+fn worked_sessions(rt: HostRuntime) -> Result<(), Fail> {
+    for case in &CASES {
+        says(&rt, rt.alloc(), case);
+    }
+    Ok(())
+}
