@@ -95,7 +95,6 @@ module _ (unit : ℕ) (values : Values) where
           elements = record {
             elements = made.elements;
             rows = made.texts.rows;
-            rise = made.texts.rise;
             are = elements_still f at.elements.elements made.elements made.texts_more at.elements.are;
             others = all_theirs (λ (e : ElementRow). e.unit) cell_of here unit (element_cells values) at.elements.elements made.elements own
                 (all_weaker (λ (e : ElementRow). has (has_id e.unit) f ≡ true) (λ (e : ElementRow). here e.unit) (λ e h. still_there valued same_id f e.unit ∙ h) at.elements.elements at.elements.others) made.texts_more;
@@ -104,7 +103,6 @@ module _ (unit : ℕ) (values : Values) where
           housings = record {
             housings = made.housings;
             rows = made.housed.rows;
-            rise = made.housed.rise;
             are = housings_still f c.containers boxes at.housings.housings made.housings (λ u known. same_cells c.containers values.boxes u.values.boxes 1 knows.apart known) made.housed_more knows.known at.housings.are;
             others = all_theirs (λ (h : HousingRow). h.unit) housing_cell here unit (housing_cells boxes values) at.housings.housings made.housings own
                 (all_weaker (λ (h : HousingRow). has (has_id h.unit) f ≡ true) (λ (h : HousingRow). here h.unit) (λ h k. still_there valued same_id f h.unit ∙ k) at.housings.housings at.housings.others) made.housed_more;

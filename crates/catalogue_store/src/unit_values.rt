@@ -19,6 +19,8 @@ ghost use Rattle.tree_core.specs.Versions.{Version};
 ghost use Rattle.catalogue_rows.specs.Shows.{ShowsCatalogue, ShowsContainers, element_cells};
 ghost use Rattle.catalogue_rows.specs.Shows.{element_number as number_of_place, elements_of as texts_among};
 ghost use Rattle.catalogue_rows.specs.Shows.{housing_cells, housings_of as containers_among};
+ghost use Rattle.office_tables.specs.Numbered.{HoldsNumbered};
+ghost use Rattle.office_tables.specs.Schema as tables;
 ghost use Rattle.office_tables.specs.Step.{InOffice, Looks, IsCut};
 ghost use Rattle.catalogue_rows.specs.declared.answer.Element.{Element};
 ghost use Rattle.catalogue_rows.specs.declared.answer.Housing.{Housing};
@@ -82,12 +84,12 @@ fn texts_of<S: Alter>(
     requires inside { InOffice (state S.Store conn.old) }
     requires small { unit < 2 ^ 63 }
     ensures answers { HasCleanDisk (state S.Store conn.new) → (xs : List ElementRow)
-        → (state S.Store conn.old).now.trees 16 ≡ map element_row xs → (values : Description)
+        → HoldsNumbered tables.element element_row (state S.Store conn.old) xs → (values : Description)
         → length values.texts ≡ 25 → IsPermutation (element_cells values) (texts_among unit xs)
         → IfOk result (λ texts. texts ≡ values.texts) }
     ensures looks { OnOk result (Looks (state S.Store conn.old) (state S.Store conn.new)) }
     ensures faults { HasCleanDisk (state S.Store conn.new) → IsUnlimited (state S.Store conn.old)
-        → (xs : List ElementRow) → (state S.Store conn.old).now.trees 16 ≡ map element_row xs
+        → (xs : List ElementRow) → HoldsNumbered tables.element element_row (state S.Store conn.old) xs
         → AllByRecursion (λ e. IsUtf8 e.value) xs → (values : Description) → length values.texts ≡ 25
         → IsPermutation (element_cells values) (texts_among unit xs)
         → IfErr result (HasCause (state S.Store conn.old) (state S.Store conn.new)) }
@@ -117,12 +119,13 @@ fn containers_of<S: Alter>(
     requires inside { InOffice (state S.Store conn.old) }
     requires small { unit < 2 ^ 63 }
     ensures answers { HasCleanDisk (state S.Store conn.new) → (xs : List HousingRow)
-        → (state S.Store conn.old).now.trees 20 ≡ map housing_row xs → (boxes : List BoxKey) (values : Description)
+        → HoldsNumbered tables.housing housing_row (state S.Store conn.old) xs
+        → (boxes : List BoxKey) (values : Description)
         → IsPermutation (housing_cells boxes values) (containers_among unit xs)
         → IfOk result (λ numbers. numbers ≡ map (box_number boxes) values.boxes) }
     ensures looks { OnOk result (Looks (state S.Store conn.old) (state S.Store conn.new)) }
     ensures faults { HasCleanDisk (state S.Store conn.new) → IsUnlimited (state S.Store conn.old)
-        → (xs : List HousingRow) → (state S.Store conn.old).now.trees 20 ≡ map housing_row xs
+        → (xs : List HousingRow) → HoldsNumbered tables.housing housing_row (state S.Store conn.old) xs
         → IfErr result (HasCause (state S.Store conn.old) (state S.Store conn.new)) }
     ensures cut { OnErr result (IsCut (state S.Store conn.old) (state S.Store conn.new)) }
 {

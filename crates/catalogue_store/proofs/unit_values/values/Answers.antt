@@ -19,6 +19,8 @@ use Rattle.office_tables.specs.Faults.{IsUnlimited}
 use Rattle.office_tables.proofs.Causes.{cause_then, still_unlimited}
 use Rattle.catalogue_store.proofs.MarkCauses.{legible_units}
 use Rattle.catalogue_store.proofs.ValueCauses.{legible_elements}
+use Rattle.office_tables.proofs.numbered.OwnNumbers.{still_numbered}
+use Rattle.catalogue_rows.specs.Rows.{element_row, housing_row}
 use Rattle.catalogue_store.proofs.unit_values.values.Goals as goal
 
 pub returns-in_default-clause-answers : goal.returns-in_default-clause-answers
@@ -72,8 +74,8 @@ returns-clause-answers g c clean version o k at places =
     let housed : IsPermutation (housing_cells k.containers u.values) (housings_of c.args.unit hs) =
     subst (λ n. IsPermutation (housing_cells k.containers u.values) (housings_of n hs)) (sym found.2) (all_has (λ (u : Unit). IsPermutation (housing_cells k.containers u.values) (housings_of u.id hs)) (nodes k.forest) u at.housings.are found.1) in
     let long = all_has (λ (u : Unit). length u.values.texts ≡ 25) (nodes k.forest) u places found.1 in
-    let texts = c.in_ok-texts.ensures.answers at_d xs (ap (λ (db : Database). db.trees 16) same_b ∙ at.elements.rows) u.values long cells in
-    let numbers = c.in_ok-containers.ensures.answers at_e hs (ap (λ (db : Database). db.trees 20) same_d ∙ at.housings.rows) k.containers u.values housed in
+    let texts = c.in_ok-texts.ensures.answers at_d xs (still_numbered element_row (a.now.trees 16) _ xs (ap (λ (db : Database). db.trees 16) same_b) at.elements.rows) u.values long cells in
+    let numbers = c.in_ok-containers.ensures.answers at_e hs (still_numbered housing_row (a.now.trees 20) _ hs (ap (λ (db : Database). db.trees 20) same_d) at.housings.rows) k.containers u.values housed in
     let there : ShowsContainers e.now.trees k.containers = ap (λ (db : Database). db.trees 18) same_e ∙ at.containers in
     let boxes = c.in_ok-boxes.ensures.answers clean k.containers there u.values.boxes (c.as_slice.ensures ∙ numbers) in
     rw (found.4, texts, boxes, numbers, found.3) refl
@@ -108,7 +110,7 @@ returns-in_err-texts-clause-faults g c clean free version o k at places knows ke
     let cells : IsPermutation (element_cells u.values) (elements_of c.args.unit xs) =
     subst (λ n. IsPermutation (element_cells u.values) (elements_of n xs)) (sym found.2) (all_has (λ (u : Unit). IsPermutation (element_cells u.values) (elements_of u.id xs)) (nodes k.forest) u at.elements.are found.1) in
     let long = all_has (λ (u : Unit). length u.values.texts ≡ 25) (nodes k.forest) u places found.1 in
-    let why = c.in_err-texts.ensures.faults clean free_b xs (ap (λ (db : Database). db.trees 16) (looked.same at_b) ∙ at.elements.rows) (legible_elements a.now.trees k.forest at.elements kept.units) u.values long cells in
+    let why = c.in_err-texts.ensures.faults clean free_b xs (still_numbered element_row (a.now.trees 16) _ xs (ap (λ (db : Database). db.trees 16) (looked.same at_b)) at.elements.rows) (legible_elements a.now.trees k.forest at.elements kept.units) u.values long cells in
     let whole = cause_then a b d looked.goes.on at_b _ why in
     search (rules, whole)
 
@@ -121,7 +123,7 @@ returns-in_err-containers-clause-faults g c clean free version o k at places kno
     let looked = looks_then a b d c.in_ok-levels.ensures.reads.looks c.in_ok-texts.ensures.looks in
     let at_d = early d e _ c.in_err-containers.ensures.cut.crash clean in
     let free_d : IsUnlimited d = still_unlimited a d looked.goes.on free in
-    let why = c.in_err-containers.ensures.faults clean free_d at.housings.housings (ap (λ (db : Database). db.trees 20) (looked.same at_d) ∙ at.housings.rows) in
+    let why = c.in_err-containers.ensures.faults clean free_d at.housings.housings (still_numbered housing_row (a.now.trees 20) _ at.housings.housings (ap (λ (db : Database). db.trees 20) (looked.same at_d)) at.housings.rows) in
     let whole = cause_then a d e looked.goes.on at_d _ why in
     search (rules, whole)
 
@@ -144,7 +146,7 @@ returns-in_err-boxes-clause-faults g c clean free version o k at places knows ke
     let hs = at.housings.housings in
     let housed : IsPermutation (housing_cells k.containers u.values) (housings_of c.args.unit hs) =
     subst (λ n. IsPermutation (housing_cells k.containers u.values) (housings_of n hs)) (sym found.2) (all_has (λ (u : Unit). IsPermutation (housing_cells k.containers u.values) (housings_of u.id hs)) (nodes k.forest) u at.housings.are found.1) in
-    let numbers = c.in_ok-containers.ensures.answers at_e hs (ap (λ (db : Database). db.trees 20) (looked_d.same at_d) ∙ at.housings.rows) k.containers u.values housed in
+    let numbers = c.in_ok-containers.ensures.answers at_e hs (still_numbered housing_row (a.now.trees 20) _ hs (ap (λ (db : Database). db.trees 20) (looked_d.same at_d)) at.housings.rows) k.containers u.values housed in
     let there : ShowsContainers e.now.trees k.containers = ap (λ (db : Database). db.trees 18) (looked.same at_e) ∙ at.containers in
     let known = all_has (λ (u : Unit). list_all (λ box. list_any (is_same box) k.containers) u.values.boxes ≡ true) (nodes k.forest) u knows.known found.1 in
     let why = c.in_err-boxes.ensures.faults clean free_e k.containers there kept.boxes kept.few_boxes u.values.boxes known (c.as_slice.ensures ∙ numbers) in
