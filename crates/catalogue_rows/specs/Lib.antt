@@ -4,3 +4,4 @@ pub mod Added
 pub mod Removals
 pub mod Adding
 pub mod Settings
+pub mod Values

@@ -102,3 +102,7 @@ pub record ShowsCatalogue (version : Version) (db : Database) (o : OfficeRow) (c
 pub record Shows (places : Trees → Forest ℕ → Type 0) (version : Version) (db : Database) (o : OfficeRow) (c : Catalogue) : Type 0 where
   pub catalogue : ShowsCatalogue version db o c
   pub shown : places db.trees (each (λ (u : Unit). u.id) c.forest)
+
+-- the same of the settings, beside the catalogue
+abbrev pub ShowsSettings : (Trees → Forest ℕ → Type 0) → Version → Database → Catalogue → OfficeRow → Type 0
+ShowsSettings places version db c o = Shows places version db o c

@@ -14,3 +14,4 @@ pub mod FoundLinks
 pub mod MarkCauses
 pub mod ValueCauses
 pub mod WorkedLemmas
+pub mod UnitTold

@@ -1,6 +1,7 @@
 pub mod Worked
 pub mod Attaching
 pub mod Valuing
+pub mod Offices
 pub use Rattle.catalogue_core.specs.Units
 pub use Rattle.catalogue_core.specs.Merging
 pub use Rattle.catalogue_core.specs.Publishing
@@ -27,4 +28,5 @@ pub use Rattle.catalogue_rows.specs.Rows
 pub use Rattle.catalogue_rows.specs.Shows
 pub use Rattle.catalogue_rows.specs.Adding
 pub use Rattle.catalogue_rows.specs.Removals
+pub use Rattle.catalogue_rows.specs.Values
 pub use Rattle.catalogue_rows.specs.Added

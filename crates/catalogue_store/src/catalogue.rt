@@ -1,19 +1,20 @@
 //! The calls on the whole catalogue.
 
-ghost use Rattle.std.specs.Prelude.{◌≡◌, ◌<◌, ◌^◌, [], OnOk, OnErr, IfOk, IfErr};
+ghost use Rattle.std.specs.Prelude.{[], OnOk, OnErr, IfErr, ⊤};
 ghost use Rattle.sqlite.specs.Held.{state};
 ghost use Rattle.sqlite.specs.State.{HasCleanDisk};
 ghost use Rattle.sqlite.specs.Effect.{Database};
 ghost use Rattle.sqlite.specs.Change.{KeepsRows};
-ghost use Rattle.tree_core.specs.Forest.{Forest, Empty};
+ghost use Rattle.isad_core.specs.Limits.{IsNumber};
+ghost use Rattle.tree_core.specs.Forest.{Empty};
+ghost use Rattle.office_tables.specs.Calls.{ShowsAlone, Tells};
 ghost use Rattle.office_tables.specs.Creation.{IsMaking};
 ghost use Rattle.office_tables.specs.Faults.{IsUnlimited, HasCause, BlamesDisk};
 ghost use Rattle.catalogue_core.specs.Finding.{Finds};
-ghost use Rattle.catalogue_core.specs.Merging.{Catalogue};
 ghost use Rattle.office_tables.specs.Schema.{desk_schema, desk_tables};
 ghost use Rattle.catalogue_rows.specs.Shows.{Shows, ShowsUnits};
-ghost use Rattle.office_tables.specs.Step.{InOffice, Continues, Looks, IsCut};
-ghost use Rattle.catalogue_core.specs.Units.{«Unit» as Described, is_from};
+ghost use Rattle.office_tables.specs.Step.{InOffice, Continues, IsCut};
+ghost use Rattle.catalogue_core.specs.Units.{is_from};
 
 use crate::office::insert_office;
 use crate::places::Places;
@@ -30,7 +31,7 @@ pub fn create<P: Places, S: Alter>(
     conn: &mut Connection<S>,
     row: &OfficeRow,
 ) -> Result<(), StoreFault>
-    requires { row.now.next_unit < 2 ^ 63 }
+    requires { IsNumber row.now.next_unit }
     ensures shows { (start : Database) → IsMaking desk_tables desk_schema start (state S.Store conn.old)
         → HasCleanDisk (state S.Store conn.new)
         → OnOk result (Shows P.shows P.version (state S.Store conn.new).now row.now
@@ -63,13 +64,8 @@ pub fn known<S: Alter>(
     legacy: &Text,
 ) -> Result<Option<u64>, StoreFault>
     requires inside { InOffice (state S.Store conn.old) }
-    ensures finds { HasCleanDisk (state S.Store conn.new) → (f : Forest Described)
-        → ShowsUnits (state S.Store conn.old).now.trees f → IfOk result (Finds (is_from source.now legacy.now) f) }
-    ensures faults { HasCleanDisk (state S.Store conn.new) → IsUnlimited (state S.Store conn.old)
-        → (f : Forest Described) → ShowsUnits (state S.Store conn.old).now.trees f
-        → IfErr result (HasCause (state S.Store conn.old) (state S.Store conn.new)) }
-    ensures looks { OnOk result (Looks (state S.Store conn.old) (state S.Store conn.new)) }
-    ensures cut { OnErr result (IsCut (state S.Store conn.old) (state S.Store conn.new)) }
+    ensures tells { Tells S.Store (ShowsAlone ShowsUnits) (λ _. ⊤) conn.old conn.new result (λ _. ⊤)
+        (λ _ f. Finds (is_from source.now legacy.now) f) }
 {
     let found = units_from(alloc, conn, source, legacy)?;
     Ok(found.first().copied())

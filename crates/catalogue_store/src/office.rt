@@ -1,17 +1,18 @@
 //! The office: its row, and how much is catalogued.
 
-ghost use Rattle.std.specs.Prelude.{◌≡◌, ◌<◌, ◌^◌, [], length, OnOk, OnErr, IfOk, IfErr};
-ghost use Rattle.catalogue_rows.specs.Settings.{AreLegibleSettings};
+ghost use Rattle.std.specs.Prelude.{◌≡◌, [], OnOk, ⊤};
 ghost use Rattle.sqlite.specs.Held.{state};
 ghost use Rattle.sqlite.specs.State.{HasCleanDisk};
-ghost use Rattle.tree_core.specs.Forest.{size};
-ghost use Rattle.office_tables.specs.Faults.{IsUnlimited, HasCause, BlamesDisk};
-ghost use Rattle.office_tables.specs.Counting.{capped};
-ghost use Rattle.catalogue_core.specs.Merging.{Catalogue};
+ghost use Rattle.isad_core.specs.Limits.{IsNumber};
+ghost use Rattle.office_tables.specs.Calls.{Tells};
+ghost use Rattle.office_tables.specs.Changing.{Leaves};
+ghost use Rattle.office_tables.specs.Faults.{Excused};
+ghost use Rattle.office_tables.specs.Schema as tables;
+ghost use Rattle.office_tables.specs.Step.{InTransaction, PutsRow};
 ghost use Rattle.catalogue_rows.specs.Rows.{office_row as row_of_office};
-ghost use Rattle.catalogue_rows.specs.Shows.{Shows};
-ghost use Rattle.catalogue_rows.specs.declared.office.OfficeRow.{OfficeRow};
-ghost use Rattle.office_tables.specs.Step.{InTransaction, Goes, Looks, IsCut, PutsRow};
+ghost use Rattle.catalogue_rows.specs.Settings.{AreLegibleSettings};
+ghost use Rattle.catalogue_rows.specs.Shows.{ShowsSettings};
+ghost use Rattle.catalogue_store.specs.Offices.{told_office};
 
 use crate::places::Places;
 use catalogue_rows::OfficeRow;
@@ -27,19 +28,15 @@ pub fn insert_office<P: Places, S: Alter>(
     conn: &mut Connection<S>,
     row: &OfficeRow,
 ) -> Result<(), StoreFault>
-    requires { row.now.next_unit < 2 ^ 63 }
-    ensures goes { InTransaction P.version (state S.Store conn.old)
-        → OnOk result (Goes (state S.Store conn.old) (state S.Store conn.new)) }
+    requires { IsNumber row.now.next_unit }
+    ensures leaves { InTransaction P.version (state S.Store conn.old)
+        → Leaves (state S.Store conn.old) (state S.Store conn.new) result }
     ensures puts { InTransaction P.version (state S.Store conn.old) → HasCleanDisk (state S.Store conn.new)
-        → OnOk result (PutsRow 13 (row_of_office P.version row.now) (state S.Store conn.old).now
+        → OnOk result (PutsRow tables.office.tree (row_of_office P.version row.now) (state S.Store conn.old).now
         (state S.Store conn.new).now) }
-    ensures disk { InTransaction P.version (state S.Store conn.old) → HasCleanDisk (state S.Store conn.new)
-        → IfErr result (BlamesDisk (state S.Store conn.old) (state S.Store conn.new)) }
-    ensures faults { InTransaction P.version (state S.Store conn.old) → HasCleanDisk (state S.Store conn.new)
-        → IsUnlimited (state S.Store conn.old) → (state S.Store conn.old).now.trees 13 ≡ []
-        → IfErr result (HasCause (state S.Store conn.old) (state S.Store conn.new)) }
-    ensures cut { InTransaction P.version (state S.Store conn.old)
-        → OnErr result (IsCut (state S.Store conn.old) (state S.Store conn.new)) }
+    ensures faults { InTransaction P.version (state S.Store conn.old)
+        → (state S.Store conn.old).now.trees tables.office.tree ≡ []
+        → Excused (state S.Store conn.old) (state S.Store conn.new) result }
 {
     let version = P::number();
     // An open connection's rows keep the rules of its tables.
@@ -77,15 +74,8 @@ pub fn office_row<P: Places, S: Alter>(
     conn: &mut Connection<S>,
 ) -> Result<Office, StoreFault>
     requires inside { InTransaction P.version (state S.Store conn.old) }
-    ensures answers { HasCleanDisk (state S.Store conn.new) → (o : OfficeRow) (c : Catalogue)
-        → Shows P.shows P.version (state S.Store conn.old).now o c
-        → IfOk result (λ office. office
-        ≡ record { row = o; units = capped (size c.forest); containers = capped (length c.containers) }) }
-    ensures faults { HasCleanDisk (state S.Store conn.new) → IsUnlimited (state S.Store conn.old)
-        → (o : OfficeRow) (c : Catalogue) → Shows P.shows P.version (state S.Store conn.old).now o c
-        → AreLegibleSettings o → IfErr result (HasCause (state S.Store conn.old) (state S.Store conn.new)) }
-    ensures looks { OnOk result (Looks (state S.Store conn.old) (state S.Store conn.new)) }
-    ensures cut { OnErr result (IsCut (state S.Store conn.old) (state S.Store conn.new)) }
+    ensures tells { Tells S.Store (ShowsSettings P.shows P.version) AreLegibleSettings conn.old conn.new result (λ _. ⊤)
+        (λ c o office. office ≡ told_office c o) }
 {
     let mut rows = office_rows(alloc, conn)?;
     let units = count_units(alloc, conn)?;

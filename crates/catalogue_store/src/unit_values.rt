@@ -1,30 +1,31 @@
 //! The values of a unit, read from its rows.
 
-ghost use Rattle.std.specs.Prelude.{◌≡◌, ◌≢◌, ◌<◌, ◌^◌, ℕ, List, length, map, true, IsPermutation, IsOk, OnOk};
-ghost use Rattle.std.specs.Prelude.{OnErr, IfOk, IfErr, IfSome, IfNone, IsUtf8};
+ghost use Rattle.std.specs.Prelude.{◌≡◌, ◌≢◌, ◌<◌, ◌^◌, ℕ, List, length, map, true, IsPermutation, IsOk, IfOk};
+ghost use Rattle.std.specs.Prelude.{IfSome, IfNone, IsUtf8, ⊤};
 ghost use Rattle.std.specs.List.{AllByRecursion, list_any, list_all};
 ghost use Rattle.sqlite.specs.Held.{state};
 ghost use Rattle.sqlite.specs.State.{HasCleanDisk};
+ghost use Rattle.isad_core.specs.Boxes.{is_same as is_same_box};
+ghost use Rattle.isad_core.specs.Legible.{IsLegibleBox};
+ghost use Rattle.isad_core.specs.Limits.{IsNumber};
 ghost use Rattle.isad_core.specs.declared.values.BoxKey.{BoxKey};
 ghost use Rattle.isad_core.specs.declared.values.Values.{«Values» as Description};
-ghost use Rattle.isad_core.specs.Boxes.{is_same as is_same_box};
 ghost use Rattle.catalogue_core.specs.Bounds.{IsKept};
-ghost use Rattle.catalogue_core.specs.Describing.{HasAllPlaces, KnowsItsContainers};
-ghost use Rattle.catalogue_store.specs.Valuing.{values_of};
-ghost use Rattle.office_tables.specs.Faults.{IsUnlimited, HasCause};
-ghost use Rattle.isad_core.specs.Legible.{IsLegibleBox};
-ghost use Rattle.catalogue_core.specs.Merging.{Catalogue, box_number};
-ghost use Rattle.catalogue_rows.specs.Rows.{ElementRow, element_row, HousingRow, housing_row};
-ghost use Rattle.tree_core.specs.Versions.{Version};
-ghost use Rattle.catalogue_rows.specs.Shows.{ShowsCatalogue, ShowsContainers, element_cells};
-ghost use Rattle.catalogue_rows.specs.Shows.{element_number as number_of_place, elements_of as texts_among};
-ghost use Rattle.catalogue_rows.specs.Shows.{housing_cells, housings_of as containers_among};
+ghost use Rattle.catalogue_core.specs.Describing.{KnowsItsContainers};
+ghost use Rattle.catalogue_core.specs.Merging.{box_number};
+ghost use Rattle.office_tables.specs.Asking.{Reads};
+ghost use Rattle.office_tables.specs.Calls.{Tells};
+ghost use Rattle.office_tables.specs.Faults.{Excused};
 ghost use Rattle.office_tables.specs.Numbered.{HoldsNumbered};
 ghost use Rattle.office_tables.specs.Schema as tables;
-ghost use Rattle.office_tables.specs.Step.{InOffice, Looks, IsCut};
+ghost use Rattle.office_tables.specs.Step.{InOffice};
+ghost use Rattle.catalogue_rows.specs.Rows.{HousingRow, housing_row};
+ghost use Rattle.catalogue_rows.specs.Shows.{ShowsContainers, element_cells, housing_cells};
+ghost use Rattle.catalogue_rows.specs.Shows.{element_number as number_of_place, housings_of as containers_among};
+ghost use Rattle.catalogue_rows.specs.Values.{ShowsValues, TellsTexts};
 ghost use Rattle.catalogue_rows.specs.declared.answer.Element.{Element};
 ghost use Rattle.catalogue_rows.specs.declared.answer.Housing.{Housing};
-ghost use Rattle.catalogue_rows.specs.declared.office.OfficeRow.{OfficeRow};
+ghost use Rattle.catalogue_store.specs.Valuing.{values_of};
 
 use catalogue_rows::answer::{Element, Housing};
 use catalogue_rows::containers::{find_container, housings_of};
@@ -82,18 +83,9 @@ fn texts_of<S: Alter>(
     unit: u64,
 ) -> Result<[Option<Text>; 25], StoreFault>
     requires inside { InOffice (state S.Store conn.old) }
-    requires small { unit < 2 ^ 63 }
-    ensures answers { HasCleanDisk (state S.Store conn.new) → (xs : List ElementRow)
-        → HoldsNumbered tables.element element_row (state S.Store conn.old) xs → (values : Description)
-        → length values.texts ≡ 25 → IsPermutation (element_cells values) (texts_among unit xs)
-        → IfOk result (λ texts. texts ≡ values.texts) }
-    ensures looks { OnOk result (Looks (state S.Store conn.old) (state S.Store conn.new)) }
-    ensures faults { HasCleanDisk (state S.Store conn.new) → IsUnlimited (state S.Store conn.old)
-        → (xs : List ElementRow) → HoldsNumbered tables.element element_row (state S.Store conn.old) xs
-        → AllByRecursion (λ e. IsUtf8 e.value) xs → (values : Description) → length values.texts ≡ 25
-        → IsPermutation (element_cells values) (texts_among unit xs)
-        → IfErr result (HasCause (state S.Store conn.old) (state S.Store conn.new)) }
-    ensures cut { OnErr result (IsCut (state S.Store conn.old) (state S.Store conn.new)) }
+    requires small { IsNumber unit }
+    ensures tells { Tells S.Store (TellsTexts unit) (AllByRecursion (λ e. IsUtf8 e.value)) conn.old conn.new result
+        (λ _. ⊤) (λ values _ texts. texts ≡ values.texts) }
 {
     let found = elements_of(alloc, conn, unit)?;
     placed(found)
@@ -117,17 +109,15 @@ fn containers_of<S: Alter>(
     unit: u64,
 ) -> Result<List<u64>, StoreFault>
     requires inside { InOffice (state S.Store conn.old) }
-    requires small { unit < 2 ^ 63 }
-    ensures answers { HasCleanDisk (state S.Store conn.new) → (xs : List HousingRow)
+    requires small { IsNumber unit }
+    ensures reads { Reads (state S.Store conn.old) (state S.Store conn.new) result }
+    ensures numbers { HasCleanDisk (state S.Store conn.new) → (xs : List HousingRow)
         → HoldsNumbered tables.housing housing_row (state S.Store conn.old) xs
         → (boxes : List BoxKey) (values : Description)
         → IsPermutation (housing_cells boxes values) (containers_among unit xs)
         → IfOk result (λ numbers. numbers ≡ map (box_number boxes) values.boxes) }
-    ensures looks { OnOk result (Looks (state S.Store conn.old) (state S.Store conn.new)) }
-    ensures faults { HasCleanDisk (state S.Store conn.new) → IsUnlimited (state S.Store conn.old)
-        → (xs : List HousingRow) → HoldsNumbered tables.housing housing_row (state S.Store conn.old) xs
-        → IfErr result (HasCause (state S.Store conn.old) (state S.Store conn.new)) }
-    ensures cut { OnErr result (IsCut (state S.Store conn.old) (state S.Store conn.new)) }
+    ensures faults { (xs : List HousingRow) → HoldsNumbered tables.housing housing_row (state S.Store conn.old) xs
+        → Excused (state S.Store conn.old) (state S.Store conn.new) result }
 {
     let found = housings_of(alloc, conn, unit)?;
     Ok(numbers_in(alloc, &found)?)
@@ -140,16 +130,14 @@ fn container_of<S: Alter>(
     number: u64,
 ) -> Result<BoxKey, StoreFault>
     requires inside { InOffice (state S.Store conn.old) }
-    ensures answers { HasCleanDisk (state S.Store conn.new) → (boxes : List BoxKey)
+    ensures reads { Reads (state S.Store conn.old) (state S.Store conn.new) result }
+    ensures key { HasCleanDisk (state S.Store conn.new) → (boxes : List BoxKey)
         → ShowsContainers (state S.Store conn.old).now.trees boxes → (b : BoxKey) → number ≡ box_number boxes b
         → IfOk result (λ key. key ≡ b) }
-    ensures looks { OnOk result (Looks (state S.Store conn.old) (state S.Store conn.new)) }
-    ensures faults { HasCleanDisk (state S.Store conn.new) → IsUnlimited (state S.Store conn.old)
-        → (boxes : List BoxKey) → ShowsContainers (state S.Store conn.old).now.trees boxes
+    ensures faults { (boxes : List BoxKey) → ShowsContainers (state S.Store conn.old).now.trees boxes
         → AllByRecursion IsLegibleBox boxes → length boxes < 2 ^ 62 → (b : BoxKey)
         → list_any (is_same_box b) boxes ≡ true → number ≡ box_number boxes b
-        → IfErr result (HasCause (state S.Store conn.old) (state S.Store conn.new)) }
-    ensures cut { OnErr result (IsCut (state S.Store conn.old) (state S.Store conn.new)) }
+        → Excused (state S.Store conn.old) (state S.Store conn.new) result }
 {
     if number >= NO_NUMBER {
         return Err(StoreFault::Schema);
@@ -168,16 +156,14 @@ fn boxes_of<S: Alter>(
     numbers: &[u64],
 ) -> Result<List<BoxKey>, StoreFault>
     requires inside { InOffice (state S.Store conn.old) }
-    ensures answers { HasCleanDisk (state S.Store conn.new) → (boxes : List BoxKey)
+    ensures reads { Reads (state S.Store conn.old) (state S.Store conn.new) result }
+    ensures boxes { HasCleanDisk (state S.Store conn.new) → (boxes : List BoxKey)
         → ShowsContainers (state S.Store conn.old).now.trees boxes → (bs : List BoxKey)
         → numbers.now ≡ map (box_number boxes) bs → IfOk result (λ keys. keys ≡ bs) }
-    ensures looks { OnOk result (Looks (state S.Store conn.old) (state S.Store conn.new)) }
-    ensures faults { HasCleanDisk (state S.Store conn.new) → IsUnlimited (state S.Store conn.old)
-        → (boxes : List BoxKey) → ShowsContainers (state S.Store conn.old).now.trees boxes
+    ensures faults { (boxes : List BoxKey) → ShowsContainers (state S.Store conn.old).now.trees boxes
         → AllByRecursion IsLegibleBox boxes → length boxes < 2 ^ 62 → (bs : List BoxKey)
         → list_all (λ b. list_any (is_same_box b) boxes) bs ≡ true → numbers.now ≡ map (box_number boxes) bs
-        → IfErr result (HasCause (state S.Store conn.old) (state S.Store conn.new)) }
-    ensures cut { OnErr result (IsCut (state S.Store conn.old) (state S.Store conn.new)) }
+        → Excused (state S.Store conn.old) (state S.Store conn.new) result }
 {
     let mut keys = List::new(alloc);
     for number in numbers {
@@ -193,16 +179,9 @@ pub fn values<S: Alter>(
     unit: u64,
 ) -> Result<Option<UnitValues>, StoreFault>
     requires inside { InOffice (state S.Store conn.old) }
-    requires small { unit < 2 ^ 63 }
-    ensures answers { HasCleanDisk (state S.Store conn.new) → (version : Version) (o : OfficeRow) (c : Catalogue)
-        → ShowsCatalogue version (state S.Store conn.old).now o c → HasAllPlaces c
-        → IfOk result (λ found. found ≡ values_of unit c) }
-    ensures looks { OnOk result (Looks (state S.Store conn.old) (state S.Store conn.new)) }
-    ensures faults { HasCleanDisk (state S.Store conn.new) → IsUnlimited (state S.Store conn.old)
-        → (version : Version) (o : OfficeRow) (c : Catalogue)
-        → ShowsCatalogue version (state S.Store conn.old).now o c → HasAllPlaces c → KnowsItsContainers c → IsKept c
-        → IfErr result (HasCause (state S.Store conn.old) (state S.Store conn.new)) }
-    ensures cut { OnErr result (IsCut (state S.Store conn.old) (state S.Store conn.new)) }
+    requires small { IsNumber unit }
+    ensures tells { Tells S.Store ShowsValues IsKept conn.old conn.new result KnowsItsContainers
+        (λ _ c found. found ≡ values_of unit c) }
 {
     let mut levels = levels_of(alloc, conn, unit)?;
     let Some(level) = levels.pop() else {

@@ -38,3 +38,5 @@ pub mod numbered
 pub mod OnlyOf
 pub mod LastOf
 pub mod CountOf
+pub mod CallEnds
+pub mod ReadEnds

@@ -1,12 +1,17 @@
 -- What a call promises on tables that show a model: a catalogue, or a desk.
-use Rattle.std.specs.Prelude.{ℕ, List, Result, IfOk, OnOk, OnErr}
+use Rattle.std.specs.Prelude.{ℕ, ⊤, List, Result, IfOk, OnOk, OnErr}
 use Rattle.sqlite_trees.specs.declared.store.Store as store
 use Rattle.sqlite.specs.Effect.{Database}
+use Rattle.sqlite.specs.Tree.{Trees}
 use Rattle.sqlite.specs.Held.{Held, state}
 use Rattle.sqlite.specs.State.{State, HasCleanDisk}
 use Rattle.office_tables.specs.Faults.{Excused}
 use Rattle.office_tables.specs.Step.{Goes, IsCut, Looks, OnlyTouches}
 use Rattle.office_tables.specs.declared.fault.StoreFault.{StoreFault}
+
+-- the rows show the model, beside nothing else
+abbrev pub ShowsAlone : {Model : Type 0} → (Trees → Model → Type 0) → Database → ⊤ → Model → Type 0
+ShowsAlone shows db beside m = shows db.trees m
 
 -- The tables show the model beside what stays, as the settings of the office. Such a model is kept as is within the
 -- bounds of the tables.

@@ -1,5 +1,6 @@
 pub mod Worked
 pub mod Forest
+pub mod Bearing
 pub mod Links
 pub mod LastPlace
 pub mod Spans

@@ -47,7 +47,7 @@ returns-clause-goes g c start making =
     let on3 = continues_then a0 a2 a3 on2 step3.0 in
     let inside : InTransaction g.P.Places.version a3 = λ clean. ((step3.1 clean).0.schema_is, (step3.1 clean).1) in
     let a4 = state g.S.Store c.insert_office.new.conn in
-    on_ok_then c.insert_office.result (Goes a3 a4) (Continues a0 a4) (λ last. continues_then a0 a3 a4 on3 last.on) (c.insert_office.ensures.goes inside)
+    on_ok_then c.insert_office.result (Goes a3 a4) (Continues a0 a4) (λ last. continues_then a0 a3 a4 on3 last.on) (c.insert_office.ensures.leaves inside).goes
 
 pub returns-clause-cut : goal.returns-clause-cut
 returns-clause-cut g c start making =
@@ -62,7 +62,7 @@ returns-clause-cut g c start making =
     let on3 = continues_then a0 a2 a3 on2 step3.0 in
     let inside : InTransaction g.P.Places.version a3 = λ clean. ((step3.1 clean).0.schema_is, (step3.1 clean).1) in
     let a4 = state g.S.Store c.insert_office.new.conn in
-    on_err_then c.insert_office.result (IsCut a3 a4) (IsCut a0 a4) (λ last. cut_then a0 a3 a4 on3 last) (c.insert_office.ensures.cut inside)
+    on_err_then c.insert_office.result (IsCut a3 a4) (IsCut a0 a4) (λ last. cut_then a0 a3 a4 on3 last) (c.insert_office.ensures.leaves inside).cut
 
 pub returns-clause-shows : goal.returns-clause-shows
 returns-clause-shows g c start making clean =
@@ -82,7 +82,7 @@ returns-clause-shows g c start making clean =
     (λ last puts.
     let clean3 = early a3 a4 _ last.on.crash clean in
     shows_beginning g.P.Places.version g.P.Places.shows g.met.P.Places.shows_same start a3.now a4.now c.args.row.now (step3.1 clean3).0 (last.schema clean) puts (c.in_ok-create.ensures.nothing start step2.1 clean3))
-    (c.insert_office.ensures.goes inside) (c.insert_office.ensures.puts inside clean)
+    (c.insert_office.ensures.leaves inside).goes (c.insert_office.ensures.puts inside clean)
 
 pub returns-clause-desk : goal.returns-clause-desk
 returns-clause-desk g c start making clean =
@@ -99,7 +99,7 @@ returns-clause-desk g c start making clean =
     let a4 = state g.S.Store c.insert_office.new.conn in
     on_ok_both c.insert_office.result (Goes a3 a4) (PutsRow 13 (office_row g.P.Places.version c.args.row.now) a3.now a4.now) (KeepsRows desk_tables start.trees a4.now.trees)
     (λ last puts. desk_kept g.P.Places.version start a3.now a4.now c.args.row.now (step3.1 (early a3 a4 _ last.on.crash clean)).0 puts)
-    (c.insert_office.ensures.goes inside) (c.insert_office.ensures.puts inside clean)
+    (c.insert_office.ensures.leaves inside).goes (c.insert_office.ensures.puts inside clean)
 
 pub returns-in_err-create_containers-clause-disk : goal.returns-in_err-create_containers-clause-disk
 returns-in_err-create_containers-clause-disk g c start making clean =
@@ -137,7 +137,7 @@ returns-clause-disk g c start making clean =
     let on3 = continues_then a0 a2 a3 on2 step3.0 in
     let inside : InTransaction g.P.Places.version a3 = λ clean. ((step3.1 clean).0.schema_is, (step3.1 clean).1) in
     let a4 = state g.S.Store c.insert_office.new.conn in
-    last_disk a0 a3 a4 on3 c.insert_office.result (c.insert_office.ensures.cut inside) clean (c.insert_office.ensures.disk inside clean)
+    last_disk a0 a3 a4 on3 c.insert_office.result (c.insert_office.ensures.leaves inside).cut clean ((c.insert_office.ensures.leaves inside).disk clean)
 
 pub returns-in_err-create_units-clause-disk : goal.returns-in_err-create_units-clause-disk
 returns-in_err-create_units-clause-disk g c start making clean =
@@ -164,7 +164,7 @@ returns-in_err-create-clause-faults g c start making clean free =
     let on2 = continues_then a0 a1 a2 step1.0 step2.0 in
     let a3 = state g.S.Store c.create.new.conn in
     let before = early a2 a3 _ (c.in_err-create.ensures.cut start step2.1).crash clean in
-    let all = cause_then a0 a2 a3 on2 before _ (c.in_err-create.ensures.faults clean (still_unlimited a0 a2 on2 free) start step2.1) in
+    let all = cause_then a0 a2 a3 on2 before _ (c.in_err-create.ensures.faults start step2.1 clean (still_unlimited a0 a2 on2 free)) in
     search (rules, all)
 
 pub returns-clause-faults : goal.returns-clause-faults
@@ -180,7 +180,7 @@ returns-clause-faults g c start making clean free =
     let on3 = continues_then a0 a2 a3 on2 step3.0 in
     let inside : InTransaction g.P.Places.version a3 = λ clean. ((step3.1 clean).0.schema_is, (step3.1 clean).1) in
     let a4 = state g.S.Store c.insert_office.new.conn in
-    last_cause a0 a3 a4 on3 c.insert_office.result (c.insert_office.ensures.cut inside) clean (λ before. c.insert_office.ensures.faults inside clean (still_unlimited a0 a3 on3 free) (step3.1 before).0.empty.0)
+    last_cause a0 a3 a4 on3 c.insert_office.result (c.insert_office.ensures.leaves inside).cut clean (λ before. c.insert_office.ensures.faults inside (step3.1 before).0.empty.0 clean (still_unlimited a0 a3 on3 free))
 
 pub returns-in_err-create_units-clause-faults : goal.returns-in_err-create_units-clause-faults
 returns-in_err-create_units-clause-faults g c start making clean free =

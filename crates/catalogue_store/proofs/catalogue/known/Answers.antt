@@ -1,17 +1,34 @@
-use Rattle.std.proofs.Common.{rules, ap, ◌≡◌, subst, sym, ◌∙◌, map, slice_get}
+use Rattle.std.proofs.Common.{ap, ◌≡◌, subst, sym, ◌∙◌, map, slice_get}
+use Rattle.std.specs.Prelude.{⊤}
 use Rattle.catalogue_core.specs.Units.{Unit, is_from}
 use Rattle.catalogue_core.specs.Finding.{Finds}
+use Rattle.office_tables.specs.Calls.{ShowsAlone}
+use Rattle.catalogue_rows.specs.Shows.{ShowsUnits}
+use Rattle.office_tables.proofs.CallEnds.{same_fault, tells_not}
 use Rattle.catalogue_rows.proofs.Finding.{finds_first}
 use Rattle.catalogue_store.proofs.catalogue.known.Goals as goal
 
-pub returns-clause-finds : goal.returns-clause-finds
-returns-clause-finds g c clean f shows =
-    let is = is_from c.args.source.now c.args.legacy.now in
-    let got = c.in_ok-found.ensures.rows clean shows.units shows.rows in
-    let e : c.copied.result ≡ slice_get (map (λ (u : Unit). u.id) got.0) 0 = c.copied.ensures ∙ c.first.ensures.value ∙ ap (λ l. slice_get l 0) (c.deref.ensures.value ∙ got.2) in
-    subst (Finds is f) (sym e) (finds_first is f shows.units got.0 shows.are got.1.0)
+pub returns-in_err-found : goal.returns-in_err-found
+returns-in_err-found g c =
+    let handed = c.from_residual.ensures in
+    let e = c.in_err-found.field-0.0 in
+    record {
+      tells = tells_not g.S.Store (ShowsAlone ShowsUnits) (λ _. ⊤) (λ _. ⊤) c.args.conn.now c.units_from.new.conn c.from_residual.result (λ _ f. Finds (is_from c.args.source.now c.args.legacy.now) f) e
+          (same_fault c.from_residual.result e handed.0 handed.1) c.in_err-found.ensures.reads.cut
+          (λ beside f shown may kept clean free. c.in_err-found.ensures.faults shown.units shown.rows clean free);
+    }
 
-pub returns-in_err-found-clause-faults : goal.returns-in_err-found-clause-faults
-returns-in_err-found-clause-faults g c clean free f shows =
-    let why = c.in_err-found.ensures.faults shows.units shows.rows clean free in
-    search (rules, why)
+pub returns : goal.returns
+returns g c =
+    let is = is_from c.args.source.now c.args.legacy.now in
+    record {
+      tells = record {
+        answers = λ clean beside f shown.
+            let got = c.in_ok-found.ensures.rows clean shown.units shown.rows in
+            let e : c.copied.result ≡ slice_get (map (λ (u : Unit). u.id) got.0) 0 = c.copied.ensures ∙ c.first.ensures.value ∙ ap (λ l. slice_get l 0) (c.deref.ensures.value ∙ got.2) in
+            subst (Finds is f) (sym e) (finds_first is f shown.units got.0 shown.are got.1.0);
+        looks = c.in_ok-found.ensures.reads.looks;
+        cut = tt;
+        faults = λ beside f shown may kept clean free. tt;
+      };
+    }

@@ -28,7 +28,7 @@ describe-requires-clause-inside g c =
     let a = state g.S.Store c.args.conn.now in
     let b = state g.S.Store c.insert_unit.new.conn in
     let d = state g.S.Store c.add.new.conn in
-    still_office a d (office_of g.P.Places.version a c.requires.inside) (goes_then a b d c.in_ok-insert_unit.ensures.leaves.goes c.in_ok-add.ensures.goes)
+    still_office a d (office_of g.P.Places.version a c.requires.inside) (goes_then a b d c.in_ok-insert_unit.ensures.leaves.goes c.in_ok-add.ensures.makes.goes)
 
 pub set_next_unit-requires-clause-inside : goal.set_next_unit-requires-clause-inside
 set_next_unit-requires-clause-inside g c =
@@ -36,7 +36,7 @@ set_next_unit-requires-clause-inside g c =
     let b = state g.S.Store c.insert_unit.new.conn in
     let d = state g.S.Store c.add.new.conn in
     let e = state g.S.Store c.describe.new.conn in
-    still_office a e (office_of g.P.Places.version a c.requires.inside) (goes_then a d e (goes_then a b d c.in_ok-insert_unit.ensures.leaves.goes c.in_ok-add.ensures.goes) c.in_ok-describe.ensures.goes)
+    still_office a e (office_of g.P.Places.version a c.requires.inside) (goes_then a d e (goes_then a b d c.in_ok-insert_unit.ensures.leaves.goes c.in_ok-add.ensures.makes.goes) c.in_ok-describe.ensures.goes)
 
 pub returns-in_err-describe-clause-cut : goal.returns-in_err-describe-clause-cut
 returns-in_err-describe-clause-cut g c =
@@ -44,7 +44,7 @@ returns-in_err-describe-clause-cut g c =
     let b = state g.S.Store c.insert_unit.new.conn in
     let d = state g.S.Store c.add.new.conn in
     let e = state g.S.Store c.describe.new.conn in
-    let all : IsCut a e = cut_then a d e (goes_then a b d c.in_ok-insert_unit.ensures.leaves.goes c.in_ok-add.ensures.goes).on c.in_err-describe.ensures.cut in
+    let all : IsCut a e = cut_then a d e (goes_then a b d c.in_ok-insert_unit.ensures.leaves.goes c.in_ok-add.ensures.makes.goes).on c.in_err-describe.ensures.cut in
     search (rules, all)
 
 pub returns-clause-cut : goal.returns-clause-cut
@@ -54,7 +54,7 @@ returns-clause-cut g c =
     let d = state g.S.Store c.add.new.conn in
     let e = state g.S.Store c.describe.new.conn in
     let h = state g.S.Store c.set_next_unit.new.conn in
-    let so_far = goes_then a d e (goes_then a b d c.in_ok-insert_unit.ensures.leaves.goes c.in_ok-add.ensures.goes) c.in_ok-describe.ensures.goes in
+    let so_far = goes_then a d e (goes_then a b d c.in_ok-insert_unit.ensures.leaves.goes c.in_ok-add.ensures.makes.goes) c.in_ok-describe.ensures.goes in
     on_err_then c.set_next_unit.result (IsCut e h) (IsCut a h) (λ last. cut_then a e h so_far.on last) c.set_next_unit.ensures.leaves.cut
 
 pub returns-clause-only : goal.returns-clause-only
@@ -69,9 +69,9 @@ returns-clause-only g c clean o k it =
     (λ last.
     let before_e = early e h _ last.on.crash clean in
     let before_d = early d e _ c.in_ok-describe.ensures.goes.on.crash before_e in
-    let before_b = early b d _ c.in_ok-add.ensures.goes.on.crash before_d in
+    let before_b = early b d _ c.in_ok-add.ensures.makes.goes.on.crash before_d in
     let kept = (c.in_ok-insert_unit.ensures.puts before_b).only in
-    let aside = c.in_ok-add.ensures.only before_d in
+    let aside = c.in_ok-add.ensures.makes.only before_d in
     let told = c.in_ok-describe.ensures.only before_e in
     let office = told tables.office.tree refl refl ∙ aside tables.office.tree refl refl ∙ kept tables.office.tree refl refl ∙ it.catalogue.office in
     on_ok_then c.set_next_unit.result (HasRows 13 (office_row g.P.Places.version (record o { next_unit = c.args.unit.now.id + 1 }) ∷ []) e.now h.now) result
@@ -100,13 +100,13 @@ returns-clause-shows g c clean o k it knows next there =
     (λ last.
     let before_e = early e h _ last.on.crash clean in
     let before_d = early d e _ c.in_ok-describe.ensures.goes.on.crash before_e in
-    let before_b = early b d _ c.in_ok-add.ensures.goes.on.crash before_d in
+    let before_b = early b d _ c.in_ok-add.ensures.makes.goes.on.crash before_d in
     let put = c.in_ok-insert_unit.ensures.puts before_b in
     let kept = put.only in
     let new_id = no_unit a.now.trees k.forest at.units u put.fresh in
-    let placed = c.in_ok-add.ensures.shows before_d ids (same a.now.trees b.now.trees ids (kept tables.link.tree refl refl) it.shown)
-    (has_place-each nat_eq (λ (x : Unit). x.id) parent k.forest ∙ there) (has-each (nat_eq u.id) (λ (x : Unit). x.id) k.forest ∙ new_id) in
-    let aside = c.in_ok-add.ensures.only before_d in
+    let placed = c.in_ok-add.ensures.makes.shows_made before_d tt ids (same a.now.trees b.now.trees ids (kept tables.link.tree refl refl) it.shown)
+    (has_place-each nat_eq (λ (x : Unit). x.id) parent k.forest ∙ there, has-each (nat_eq u.id) (λ (x : Unit). x.id) k.forest ∙ new_id) in
+    let aside = c.in_ok-add.ensures.makes.only before_d in
     let texts = same_elements a.now.trees d.now.trees xs (aside tables.element.tree refl refl ∙ kept tables.element.tree refl refl) (elements_shown v a.now o k at) in
     let housed = same_housed a.now.trees d.now.trees k.containers hs (aside tables.container.tree refl refl ∙ kept tables.container.tree refl refl) (aside tables.housing.tree refl refl ∙ kept tables.housing.tree refl refl) (housed_shown v a.now o k at knows) in
     let made = c.in_ok-describe.ensures.tells before_e k.containers xs hs texts housed in
@@ -114,7 +114,7 @@ returns-clause-shows g c clean o k it knows next there =
     let office = told tables.office.tree refl refl ∙ aside tables.office.tree refl refl ∙ kept tables.office.tree refl refl ∙ at.office in
     on_ok_then c.set_next_unit.result (HasRows 13 (office_row v (record o { next_unit = u.id + 1 }) ∷ []) e.now h.now) result
     (λ wrote. shows_added v shows a.now h.now o k parent u it next there knows (record {
-      schema = (goes_then a e h (goes_then a d e (goes_then a b d c.in_ok-insert_unit.ensures.leaves.goes c.in_ok-add.ensures.goes) c.in_ok-describe.ensures.goes) last).schema clean;
+      schema = (goes_then a e h (goes_then a d e (goes_then a b d c.in_ok-insert_unit.ensures.leaves.goes c.in_ok-add.ensures.makes.goes) c.in_ok-describe.ensures.goes) last).schema clean;
       office = wrote.are;
       units = wrote.only tables.unit.tree refl refl ∙ told tables.unit.tree refl refl ∙ aside tables.unit.tree refl refl ∙ put.rows;
       fresh = put.fresh;
@@ -140,11 +140,11 @@ returns-in_err-add-clause-faults g c clean free o k it kept knows there new_id n
     let u = unit_of c.args.unit.now in
     let ids = each (λ (x : Unit). x.id) k.forest in
     let went = c.in_ok-insert_unit.ensures.leaves.goes in
-    let before = early b d _ c.in_err-add.ensures.cut.crash clean in
+    let before = early b d _ c.in_err-add.ensures.makes.cut.crash clean in
     let only = (c.in_ok-insert_unit.ensures.puts before).only in
     let shown = g.met.P.Places.shows_same a.now.trees b.now.trees ids (only tables.link.tree refl refl) it.shown in
-    let why = c.in_err-add.ensures.faults clean (still_unlimited a b went.on free) ids shown kept.places
-    (has_place-each nat_eq (λ (x : Unit). x.id) c.args.parent k.forest ∙ there) (has-each (nat_eq u.id) (λ (x : Unit). x.id) k.forest ∙ new_id) in
+    let why = c.in_err-add.ensures.makes.faults tt ids shown
+    (has_place-each nat_eq (λ (x : Unit). x.id) c.args.parent k.forest ∙ there, has-each (nat_eq u.id) (λ (x : Unit). x.id) k.forest ∙ new_id) kept.places clean (still_unlimited a b went.on free) in
     let whole = cause_then a b d went.on before _ why in
     search (rules, whole)
 
@@ -159,12 +159,12 @@ returns-in_err-describe-clause-faults g c clean free o k it kept knows there new
     let at = it.catalogue in
     let xs = at.elements.elements in
     let hs = at.housings.housings in
-    let went = goes_then a b d c.in_ok-insert_unit.ensures.leaves.goes c.in_ok-add.ensures.goes in
+    let went = goes_then a b d c.in_ok-insert_unit.ensures.leaves.goes c.in_ok-add.ensures.makes.goes in
     let before_d = early d e _ c.in_err-describe.ensures.cut.crash clean in
-    let before_b = early b d _ c.in_ok-add.ensures.goes.on.crash before_d in
+    let before_b = early b d _ c.in_ok-add.ensures.makes.goes.on.crash before_d in
     let put = c.in_ok-insert_unit.ensures.puts before_b in
     let only = put.only in
-    let aside = c.in_ok-add.ensures.only before_d in
+    let aside = c.in_ok-add.ensures.makes.only before_d in
     let unit = unit_added a.now.trees d.now.trees u at.units.units at.units.rows (aside tables.unit.tree refl refl ∙ put.rows) in
     let texts = same_elements a.now.trees d.now.trees xs (aside tables.element.tree refl refl ∙ only tables.element.tree refl refl) (elements_shown v a.now o k at) in
     let housed = same_housed a.now.trees d.now.trees k.containers hs (aside tables.container.tree refl refl ∙ only tables.container.tree refl refl) (aside tables.housing.tree refl refl ∙ only tables.housing.tree refl refl) (housed_shown v a.now o k at knows) in
@@ -180,12 +180,12 @@ returns-clause-faults g c clean free o k it kept knows there new_id new_source o
     let d = state g.S.Store c.add.new.conn in
     let e = state g.S.Store c.describe.new.conn in
     let h = state g.S.Store c.set_next_unit.new.conn in
-    let went = goes_then a d e (goes_then a b d c.in_ok-insert_unit.ensures.leaves.goes c.in_ok-add.ensures.goes) c.in_ok-describe.ensures.goes in
+    let went = goes_then a d e (goes_then a b d c.in_ok-insert_unit.ensures.leaves.goes c.in_ok-add.ensures.makes.goes) c.in_ok-describe.ensures.goes in
     last_cause a e h went.on c.set_next_unit.result c.set_next_unit.ensures.leaves.cut clean (λ before_e.
     let before_d = early d e _ c.in_ok-describe.ensures.goes.on.crash before_e in
-    let before_b = early b d _ c.in_ok-add.ensures.goes.on.crash before_d in
+    let before_b = early b d _ c.in_ok-add.ensures.makes.goes.on.crash before_d in
     let only = (c.in_ok-insert_unit.ensures.puts before_b).only in
-    let aside = c.in_ok-add.ensures.only before_d in
+    let aside = c.in_ok-add.ensures.makes.only before_d in
     let told = c.in_ok-describe.ensures.only before_e in
     let office = told tables.office.tree refl refl ∙ aside tables.office.tree refl refl ∙ only tables.office.tree refl refl ∙ it.catalogue.office in
     c.set_next_unit.ensures.faults g.P.Places.version o office clean (still_unlimited a e went.on free))

@@ -27,7 +27,7 @@ returns-in_err-path-clause-cut g c =
     let a = state g.S.Store c.args.conn.now in
     let b = state g.S.Store c.loop-unit.conn in
     let d = state g.S.Store c.marks_on_path.new.conn in
-    let all : IsCut a d = cut_then a b d c.loop-unit.invariant.looks.goes.on c.in_err-path.ensures.cut in
+    let all : IsCut a d = cut_then a b d c.loop-unit.invariant.looks.goes.on c.in_err-path.ensures.tells.cut in
     search (rules, all)
 
 pub returns-in_err-branch-clause-cut : goal.returns-in_err-branch-clause-cut
@@ -36,7 +36,7 @@ returns-in_err-branch-clause-cut g c =
     let b = state g.S.Store c.loop-unit.conn in
     let d = state g.S.Store c.marks_on_path.new.conn in
     let e = state g.S.Store c.marks_in_branch.new.conn in
-    let all : IsCut a e = cut_then a d e (looks_then a b d c.loop-unit.invariant.looks c.in_ok-path.ensures.looks).goes.on c.in_err-branch.ensures.cut in
+    let all : IsCut a e = cut_then a d e (looks_then a b d c.loop-unit.invariant.looks c.in_ok-path.ensures.tells.looks).goes.on c.in_err-branch.ensures.tells.cut in
     search (rules, all)
 
 pub returns-in_err-push-clause-cut : goal.returns-in_err-push-clause-cut
@@ -45,7 +45,7 @@ returns-in_err-push-clause-cut g c =
     let b = state g.S.Store c.loop-unit.conn in
     let d = state g.S.Store c.marks_on_path.new.conn in
     let e = state g.S.Store c.marks_in_branch.new.conn in
-    let all : IsCut a e = cut_after a e (looks_then a d e (looks_then a b d c.loop-unit.invariant.looks c.in_ok-path.ensures.looks) c.in_ok-branch.ensures.looks).goes.on in
+    let all : IsCut a e = cut_after a e (looks_then a d e (looks_then a b d c.loop-unit.invariant.looks c.in_ok-path.ensures.tells.looks) c.in_ok-branch.ensures.tells.looks).goes.on in
     search (rules, all)
 
 pub loop-unit-preserved : goal.loop-unit-preserved
@@ -60,17 +60,17 @@ loop-unit-preserved g c =
     let one : Attached = record { path = c.in_ok-path.path; branch = c.in_ok-branch.branch } in
     record {
       inside = c.loop-unit.invariant.inside;
-      looks = looks_then a d e (looks_then a b d c.loop-unit.invariant.looks c.in_ok-path.ensures.looks) c.in_ok-branch.ensures.looks;
+      looks = looks_then a d e (looks_then a b d c.loop-unit.invariant.looks c.in_ok-path.ensures.tells.looks) c.in_ok-branch.ensures.tells.looks;
       so_far = λ clean o k it.
-          let at_d = early d e _ c.in_ok-branch.ensures.looks.goes.on.crash clean in
-          let at_b = early b d _ c.in_ok-path.ensures.looks.goes.on.crash at_d in
+          let at_d = early d e _ c.in_ok-branch.ensures.tells.looks.goes.on.crash clean in
+          let at_b = early b d _ c.in_ok-path.ensures.tells.looks.goes.on.crash at_d in
           let same_b = c.loop-unit.invariant.looks.same at_b in
-          let same_d = c.in_ok-path.ensures.looks.same at_d ∙ same_b in
+          let same_d = c.in_ok-path.ensures.tells.looks.same at_d ∙ same_b in
           let shows = λ (db : Database). Shows g.P.Places.shows g.P.Places.version db o k in
           subst (λ (found : List Attached). AreMarksOfEach k.forest (take (i + 1) units) found) (sym c.in_ok-push.ensures.items)
           (subst (λ (ids : List ℕ). AreMarksOfEach k.forest ids (c.loop-unit.found.items ++ one ∷ [])) (sym (take_more units i 0 c.loop-unit-test.true))
           (each_more k.forest (take i units) unit c.loop-unit.found.items one (c.loop-unit.invariant.so_far at_b o k it)
-          (c.in_ok-path.ensures.answers at_d o k (subst shows (sym same_b) it)) (c.in_ok-branch.ensures.answers clean o k (subst shows (sym same_d) it))));
+          (c.in_ok-path.ensures.tells.answers at_d o k (subst shows (sym same_b) it)) (c.in_ok-branch.ensures.tells.answers clean o k (subst shows (sym same_d) it))));
     }
 
 pub returns-clause-answers : goal.returns-clause-answers
@@ -89,9 +89,9 @@ returns-in_err-path-clause-faults g c clean free o k it kept low =
     let b = state g.S.Store c.loop-unit.conn in
     let d = state g.S.Store c.marks_on_path.new.conn in
     let looked = c.loop-unit.invariant.looks in
-    let before = early b d _ c.in_err-path.ensures.cut.crash clean in
+    let before = early b d _ c.in_err-path.ensures.tells.cut.crash clean in
     let free_b : IsUnlimited b = still_unlimited a b looked.goes.on free in
-    let why = c.in_err-path.ensures.faults clean free_b o k (subst (λ (db : Database). Shows g.P.Places.shows g.P.Places.version db o k) (sym (looked.same before)) it) kept in
+    let why = c.in_err-path.ensures.tells.faults o k (subst (λ (db : Database). Shows g.P.Places.shows g.P.Places.version db o k) (sym (looked.same before)) it) tt kept clean free_b in
     let whole = cause_then a b d looked.goes.on before _ why in
     search (rules, whole)
 
@@ -101,9 +101,9 @@ returns-in_err-branch-clause-faults g c clean free o k it kept low =
     let b = state g.S.Store c.loop-unit.conn in
     let d = state g.S.Store c.marks_on_path.new.conn in
     let e = state g.S.Store c.marks_in_branch.new.conn in
-    let looked = looks_then a b d c.loop-unit.invariant.looks c.in_ok-path.ensures.looks in
-    let before = early d e _ c.in_err-branch.ensures.cut.crash clean in
+    let looked = looks_then a b d c.loop-unit.invariant.looks c.in_ok-path.ensures.tells.looks in
+    let before = early d e _ c.in_err-branch.ensures.tells.cut.crash clean in
     let free_d : IsUnlimited d = still_unlimited a d looked.goes.on free in
-    let why = c.in_err-branch.ensures.faults clean free_d o k (subst (λ (db : Database). Shows g.P.Places.shows g.P.Places.version db o k) (sym (looked.same before)) it) kept in
+    let why = c.in_err-branch.ensures.tells.faults o k (subst (λ (db : Database). Shows g.P.Places.shows g.P.Places.version db o k) (sym (looked.same before)) it) tt kept clean free_d in
     let whole = cause_then a d e looked.goes.on before _ why in
     search (rules, whole)

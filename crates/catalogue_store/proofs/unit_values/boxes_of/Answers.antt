@@ -5,9 +5,11 @@ use Rattle.sqlite.specs.Held.{state}
 use Rattle.isad_core.specs.declared.values.BoxKey.{BoxKey}
 use Rattle.catalogue_core.specs.Merging.{box_number}
 use Rattle.catalogue_rows.specs.Shows.{ShowsContainers}
-use Rattle.office_tables.proofs.Calls.{early, looks_then}
+use Rattle.office_tables.proofs.CallEnds.{same_fault}
+use Rattle.office_tables.proofs.Calls.{early, cut_then, looks_then}
 use Rattle.office_tables.specs.Faults.{IsUnlimited}
 use Rattle.office_tables.proofs.Causes.{cause_then, still_unlimited}
+use Rattle.office_tables.proofs.ReadEnds.{read_not, read_only}
 use Rattle.catalogue_store.proofs.ValueCauses.{box_at}
 use Rattle.catalogue_store.proofs.unit_values.boxes_of.Goals as goal
 
@@ -19,7 +21,7 @@ loop-number-preserved g c =
     let i = c.loop-number.number-index in
     let key = c.in_ok-container_of.field-0 in
     let invariant = c.loop-number.invariant in
-    let last = c.in_ok-container_of.ensures.looks in (
+    let last = c.in_ok-container_of.ensures.reads.looks in (
       invariant.0,
       (
         looks_then a b d invariant.1.0 last,
@@ -28,21 +30,38 @@ loop-number-preserved g c =
             let there : ShowsContainers b.now.trees boxes = ap (λ (db : Database). db.trees 18) (invariant.1.0.same before) ∙ at in
             let low : i < length bs = subst (λ n. i < n) (ap length is ∙ length-map bs (box_number boxes)) c.loop-number-test.true in
             let number : get_or c.args.numbers.now i 0 ≡ box_number boxes (get_or bs i key) = ap (λ (l : List ℕ). get_or l i 0) is ∙ get_or-map (box_number boxes) bs i key 0 low in
-            let same : key ≡ get_or bs i key = c.in_ok-container_of.ensures.answers clean boxes there (get_or bs i key) number in
+            let same : key ≡ get_or bs i key = c.in_ok-container_of.ensures.key clean boxes there (get_or bs i key) number in
             c.in_ok-push.ensures.ok ∙ ap (λ (l : List BoxKey). l ++ key ∷ []) (invariant.1.1 before boxes at bs is) ∙ ap (λ (x : BoxKey). take i bs ++ x ∷ []) same ∙ sym (take_more bs i key low),
       ),
     )
 
+pub returns-in_err-container_of-clause-reads : goal.returns-in_err-container_of-clause-reads
+returns-in_err-container_of-clause-reads g c =
+    let a = state g.S.Store c.args.conn.now in
+    let b = state g.S.Store c.loop-number.conn in
+    let d = state g.S.Store c.container_of.new.conn in
+    let handed = c.from_residual.ensures in
+    read_not a d c.from_residual.result c.in_err-container_of.field-0.0 (same_fault c.from_residual.result c.in_err-container_of.field-0.0 handed.0 handed.1)
+    (cut_then a b d c.loop-number.invariant.1.0.goes.on c.in_err-container_of.ensures.reads.cut)
+
+pub returns-in_err-push-clause-reads : goal.returns-in_err-push-clause-reads
+returns-in_err-push-clause-reads g c =
+    let a = state g.S.Store c.args.conn.now in
+    let b = state g.S.Store c.loop-number.conn in
+    let d = state g.S.Store c.container_of.new.conn in
+    let looked = looks_then a b d c.loop-number.invariant.1.0 c.in_ok-container_of.ensures.reads.looks in
+    read_only a d c.from_residual-in_err-push.result looked
+
 pub returns-in_err-container_of-clause-faults : goal.returns-in_err-container_of-clause-faults
-returns-in_err-container_of-clause-faults g c clean free boxes at legible few bs known is =
+returns-in_err-container_of-clause-faults g c boxes at legible few bs known is clean free =
     let a = state g.S.Store c.args.conn.now in
     let b = state g.S.Store c.loop-number.conn in
     let d = state g.S.Store c.container_of.new.conn in
     let looked = c.loop-number.invariant.1.0 in
-    let before = early b d _ c.in_err-container_of.ensures.cut.crash clean in
+    let before = early b d _ c.in_err-container_of.ensures.reads.cut.crash clean in
     let free_b : IsUnlimited b = still_unlimited a b looked.goes.on free in
     let there : ShowsContainers b.now.trees boxes = ap (λ (db : Database). db.trees 18) (looked.same before) ∙ at in
     let box = box_at boxes bs c.args.numbers.now c.loop-number.number-index known is c.loop-number-test.true in
-    let why = c.in_err-container_of.ensures.faults clean free_b boxes there legible few box.0 box.1 box.2 in
+    let why = c.in_err-container_of.ensures.faults boxes there legible few box.0 box.1 box.2 clean free_b in
     let whole = cause_then a b d looked.goes.on before _ why in
     search (rules, whole)

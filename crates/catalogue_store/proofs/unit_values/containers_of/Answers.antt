@@ -7,8 +7,8 @@ use Rattle.catalogue_rows.specs.declared.answer.Housing.{Housing}
 use Rattle.catalogue_rows.proofs.CellReads.{cells_read, housings_in_order, numbers_told}
 use Rattle.catalogue_store.proofs.unit_values.containers_of.Goals as goal
 
-pub returns-clause-answers : goal.returns-clause-answers
-returns-clause-answers g c clean xs stored boxes values tell =
+pub returns-clause-numbers : goal.returns-clause-numbers
+returns-clause-numbers g c clean xs stored boxes values tell =
     let got = c.in_ok-found.ensures.rows clean xs stored in
     let cells = cells_read (λ (h : HousingRow). h.unit) housing_cell c.args.unit (housing_cells boxes values) xs got.0 (housings_in_order boxes values) tell got.1.0 got.1.1 in
     let second = λ (c : ℕ × ℕ). c.1 in
@@ -18,6 +18,6 @@ returns-clause-answers g c clean xs stored boxes values tell =
     c.in_ok-numbers_in.ensures ∙ ap (map (λ (h : Housing). h.container)) c.deref.ensures.value ∙ all ∙ ap (map second) cells ∙ numbers_told boxes values
 
 pub returns-in_err-found-clause-faults : goal.returns-in_err-found-clause-faults
-returns-in_err-found-clause-faults g c clean free xs stored =
-    let why = c.in_err-found.ensures.faults xs stored clean free in
+returns-in_err-found-clause-faults g c xs at clean free =
+    let why = c.in_err-found.ensures.faults xs at clean free in
     search (rules, why)

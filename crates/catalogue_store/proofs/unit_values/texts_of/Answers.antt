@@ -1,31 +1,49 @@
-use Rattle.std.proofs.Common.{rules, map, ap, ◌∙◌}
+use Rattle.std.proofs.Common.{◌≡◌, List, map, ap, ◌∙◌}
+use Rattle.std.specs.Prelude.{⊤, IsUtf8}
+use Rattle.std.specs.List.{AllByRecursion}
+use Rattle.sqlite.specs.Held.{state}
+use Rattle.sqlite.specs.State.{HasCleanDisk}
+use Rattle.isad_core.specs.declared.values.Values.{«Values» as Description}
 use Rattle.sqlite_trees.proofs.ListLemmas.{map-map}
+use Rattle.office_tables.specs.Faults.{HasCause}
 use Rattle.catalogue_rows.specs.Adding.{cell_of}
 use Rattle.catalogue_rows.specs.Rows.{ElementRow}
 use Rattle.catalogue_rows.specs.Shows.{element_cells}
+use Rattle.catalogue_rows.specs.Values.{TellsTexts}
 use Rattle.catalogue_rows.specs.declared.answer.Element.{Element}
+use Rattle.office_tables.proofs.CallEnds.{same_fault, tells_not}
+use Rattle.office_tables.proofs.Calls.{cut_looks, on_ok_from}
 use Rattle.catalogue_rows.proofs.CellReads.{cells_read, elements_in_order}
 use Rattle.catalogue_rows.proofs.TextReads.{cell_of as told_of}
-use Rattle.sqlite.specs.Held.{state}
-use Rattle.office_tables.specs.Faults.{HasCause}
 use Rattle.catalogue_store.proofs.ValueCauses.{never_fails}
 use Rattle.catalogue_store.proofs.unit_values.texts_of.Goals as goal
 
-pub returns-clause-answers : goal.returns-clause-answers
-returns-clause-answers g c clean xs stored values long tell =
-    let got = c.in_ok-found.ensures.rows clean xs stored in
-    let cells = cells_read (λ (e : ElementRow). e.unit) cell_of c.args.unit (element_cells values) xs got.0 (elements_in_order values) tell got.1.0 got.1.1 in
-    let read = λ (e : ElementRow). (let x : Element = record { k = e.k; value = e.value } in x) in
-    c.placed.ensures.value values long (ap (map told_of) got.2 ∙ map-map told_of read got.0 ∙ cells)
+pub returns-in_err-found : goal.returns-in_err-found
+returns-in_err-found g c =
+    let handed = c.from_residual.ensures in
+    record {
+      tells = tells_not g.S.Store (TellsTexts c.args.unit) (AllByRecursion (λ (e : ElementRow). IsUtf8 e.value)) (λ _. ⊤) c.args.conn.now c.elements_of.new.conn c.from_residual.result _ c.in_err-found.field-0.0
+          (same_fault c.from_residual.result c.in_err-found.field-0.0 handed.0 handed.1) c.in_err-found.ensures.reads.cut
+          (λ values xs it may legible clean free. c.in_err-found.ensures.faults xs it.rows legible clean free);
+    }
 
-pub returns-in_err-found-clause-faults : goal.returns-in_err-found-clause-faults
-returns-in_err-found-clause-faults g c clean free xs stored legible values long tell =
-    let why = c.in_err-found.ensures.faults xs stored legible clean free in
-    search (rules, why)
-
-pub returns-clause-faults : goal.returns-clause-faults
-returns-clause-faults g c clean free xs stored legible values long tell =
-    let got = c.in_ok-found.ensures.rows clean xs stored in
-    let cells = cells_read (λ (e : ElementRow). e.unit) cell_of c.args.unit (element_cells values) xs got.0 (elements_in_order values) tell got.1.0 got.1.1 in
+pub returns : goal.returns
+returns g c =
+    let old = state g.S.Store c.args.conn.now in
+    let new = state g.S.Store c.elements_of.new.conn in
+    let looked = c.in_ok-found.ensures.reads.looks in
     let read = λ (e : ElementRow). (let x : Element = record { k = e.k; value = e.value } in x) in
-    never_fails c.placed.result (HasCause (state g.S.Store c.args.conn.now) (state g.S.Store c.elements_of.new.conn)) (c.placed.ensures.places values long (ap (map told_of) got.2 ∙ map-map told_of read got.0 ∙ cells))
+    let told = map told_of c.in_ok-found.found.items in
+    let are : HasCleanDisk new → (values : Description) (xs : List ElementRow) → TellsTexts c.args.unit old.now values xs → told ≡ element_cells values =
+    λ clean values xs it.
+    let got = c.in_ok-found.ensures.rows clean xs it.rows in
+    let cells = cells_read (λ (e : ElementRow). e.unit) cell_of c.args.unit (element_cells values) xs got.0 (elements_in_order values) it.are got.1.0 got.1.1 in
+    ap (map told_of) got.2 ∙ map-map told_of read got.0 ∙ cells in
+    record {
+      tells = record {
+        answers = λ clean values xs it. c.placed.ensures.value values it.places (are clean values xs it);
+        looks = on_ok_from c.placed.result _ looked;
+        cut = cut_looks c.placed.result old new looked;
+        faults = λ values xs it may legible clean free. never_fails c.placed.result (HasCause old new) (c.placed.ensures.places values it.places (are clean values xs it));
+      };
+    }

@@ -1,0 +1,35 @@
+-- What the tables tell of a unit of the catalogue: its texts, and its containers.
+use Rattle.std.proofs.Common.{◌≡◌, ℕ, length, true, sym, subst}
+use Rattle.std.specs.List.{list_any, list_all}
+use Rattle.std.specs.List.Sorted.{IsPermutation}
+use Rattle.sqlite.specs.Effect.{Database}
+use Rattle.sqlite_rules.specs.Lists.{Has}
+use Rattle.sqlite_rules.proofs.ListLemmas.{all_has}
+use Rattle.isad_core.specs.Boxes.{is_same}
+use Rattle.tree_core.specs.Forest.{nodes}
+use Rattle.catalogue_core.specs.Describing.{KnowsItsContainers}
+use Rattle.catalogue_core.specs.Merging.{Catalogue}
+use Rattle.catalogue_core.specs.Units.{Unit}
+use Rattle.catalogue_rows.specs.Shows.{element_cells, elements_of, housing_cells, housings_of}
+use Rattle.catalogue_rows.specs.Values.{ShowsValues, TellsTexts}
+use Rattle.catalogue_rows.specs.declared.office.OfficeRow.{OfficeRow}
+
+module _ (db : Database) (o : OfficeRow) (c : Catalogue) (it : ShowsValues db o c) (n : ℕ) (u : Unit) (there : Has (nodes c.forest) u) (is : n ≡ u.id) where
+  pub texts_told : TellsTexts n db u.values it.catalogue.elements.elements
+  texts_told =
+      let elements = it.catalogue.elements in
+      record {
+        rows = elements.rows;
+        places = all_has (λ (u : Unit). length u.values.texts ≡ 25) (nodes c.forest) u it.places there;
+        are = subst (λ n. IsPermutation (element_cells u.values) (elements_of n elements.elements)) (sym is)
+            (all_has (λ (u : Unit). IsPermutation (element_cells u.values) (elements_of u.id elements.elements)) (nodes c.forest) u elements.are there);
+      }
+
+  pub containers_told : IsPermutation (housing_cells c.containers u.values) (housings_of n it.catalogue.housings.housings)
+  containers_told =
+      let housings = it.catalogue.housings in
+      subst (λ n. IsPermutation (housing_cells c.containers u.values) (housings_of n housings.housings)) (sym is)
+      (all_has (λ (u : Unit). IsPermutation (housing_cells c.containers u.values) (housings_of u.id housings.housings)) (nodes c.forest) u housings.are there)
+
+  pub boxes_known : KnowsItsContainers c → list_all (λ box. list_any (is_same box) c.containers) u.values.boxes ≡ true
+  boxes_known knows = all_has (λ (u : Unit). list_all (λ box. list_any (is_same box) c.containers) u.values.boxes ≡ true) (nodes c.forest) u knows.known there

@@ -1,0 +1,11 @@
+-- What is told of an office.
+use Rattle.std.specs.Prelude.{length}
+use Rattle.tree_core.specs.Forest.{size}
+use Rattle.catalogue_core.specs.Merging.{Catalogue}
+use Rattle.office_tables.specs.Counting.{capped}
+use Rattle.catalogue_rows.specs.declared.office.OfficeRow.{OfficeRow}
+use Rattle.catalogue_store.specs.declared.office.Office.{Office}
+
+-- its row, and how many units and containers there are
+abbrev pub told_office : Catalogue → OfficeRow → Office
+told_office c o = record { row = o; units = capped (size c.forest); containers = capped (length c.containers) }
