@@ -1,4 +1,5 @@
 -- Texts and containers, as other tables change.
+use Rattle.office_tables.specs.Schema as tables
 use Rattle.std.proofs.Common.{◌≡◌, ℕ, List, ◌∙◌}
 use Rattle.sqlite.specs.Tree.{Trees}
 use Rattle.isad_core.specs.declared.values.BoxKey.{BoxKey}
@@ -13,11 +14,11 @@ use Rattle.catalogue_rows.specs.Shows.{ShowsCatalogue}
 use Rattle.catalogue_rows.specs.declared.office.OfficeRow.{OfficeRow}
 use Rattle.sqlite.specs.Effect.{Database}
 
-pub same_elements : (old new : Trees) (xs : List ElementRow) → new 16 ≡ old 16 → AreElements old xs → AreElements new xs
-same_elements old new xs same at = record { rows = still_numbered element_row (old 16) (new 16) xs same at.rows }
+pub same_elements : (old new : Trees) (xs : List ElementRow) → new tables.element.tree ≡ old tables.element.tree → AreElements old xs → AreElements new xs
+same_elements old new xs same at = record { rows = still_numbered element_row (old tables.element.tree) (new tables.element.tree) xs same at.rows }
 
-pub same_housed : (old new : Trees) (boxes : List BoxKey) (hs : List HousingRow) → new 18 ≡ old 18 → new 20 ≡ old 20 → AreHoused old boxes hs → AreHoused new boxes hs
-same_housed old new boxes hs containers housings at = record { containers = containers ∙ at.containers; apart = at.apart; rows = still_numbered housing_row (old 20) (new 20) hs housings at.rows }
+pub same_housed : (old new : Trees) (boxes : List BoxKey) (hs : List HousingRow) → new tables.container.tree ≡ old tables.container.tree → new tables.housing.tree ≡ old tables.housing.tree → AreHoused old boxes hs → AreHoused new boxes hs
+same_housed old new boxes hs containers housings at = record { containers = containers ∙ at.containers; apart = at.apart; rows = still_numbered housing_row (old tables.housing.tree) (new tables.housing.tree) hs housings at.rows }
 
 -- what a catalogue's tables have of both
 pub elements_shown : (v : Version) (db : Database) (o : OfficeRow) (c : Catalogue) → (at : ShowsCatalogue v db o c) → AreElements db.trees at.elements.elements
@@ -26,7 +27,7 @@ elements_shown v db o c at = record { rows = at.elements.rows }
 pub housed_shown : (v : Version) (db : Database) (o : OfficeRow) (c : Catalogue) → (at : ShowsCatalogue v db o c) → KnowsItsContainers c → AreHoused db.trees c.containers at.housings.housings
 housed_shown v db o c at knows = record { containers = at.containers; apart = knows.apart; rows = at.housings.rows }
 
-pub same_described : (old new : Trees) (unit : ℕ) (values : Values) (boxes : List BoxKey) (xs : List ElementRow) (hs : List HousingRow) → new 16 ≡ old 16 → new 18 ≡ old 18 → new 20 ≡ old 20
+pub same_described : (old new : Trees) (unit : ℕ) (values : Values) (boxes : List BoxKey) (xs : List ElementRow) (hs : List HousingRow) → new tables.element.tree ≡ old tables.element.tree → new tables.container.tree ≡ old tables.container.tree → new tables.housing.tree ≡ old tables.housing.tree
     → IsDescribed unit values boxes xs hs old → IsDescribed unit values boxes xs hs new
 same_described old new unit values boxes xs hs texts containers housings it = record {
   elements = it.elements;

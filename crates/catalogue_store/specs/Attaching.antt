@@ -1,5 +1,5 @@
 -- What a container is attached to, and the marks that are told of it.
-use Rattle.std.specs.Prelude.{ℕ, List, [], ◌∷◌, filter, IsPermutation, ⊤}
+use Rattle.std.specs.Prelude.{ℕ, List, [], ◌∷◌, map, filter, IsPermutation, ⊤}
 use Rattle.tree_core.specs.Forest.{Forest, nodes, path, tree}
 use Rattle.catalogue_core.specs.Merging.{Catalogue}
 use Rattle.office_tables.specs.Order.{Rises}
@@ -20,3 +20,7 @@ AreMarksOfEach f [] (one ∷ more) = ⊥
 AreMarksOfEach f (id ∷ ids) [] = ⊥
 AreMarksOfEach f (id ∷ ids) (one ∷ more) =
     AreMarks (path (has_id id) f) one.path.items × AreWalkMarks (tree (has_id id) f) one.branch.items × AreMarksOfEach f ids more
+
+-- of each unit that the container is attached to, in order of their numbers
+abbrev pub AreMarksOfContents : Catalogue → ℕ → List Attached → Type 0
+AreMarksOfContents c container found = (units : List Unit) × AreAttached c container units × AreMarksOfEach c.forest (map (λ u. u.id) units) found

@@ -40,3 +40,4 @@ pub mod LastOf
 pub mod CountOf
 pub mod CallEnds
 pub mod ReadEnds
+pub mod WriteEnds

@@ -1,56 +1,59 @@
-use Rattle.std.proofs.Common.{rules, List, ℕ, map, sym, subst, ◌∙◌}
+use Rattle.std.proofs.Common.{◌≡◌, List, ℕ, map, sym, subst, ◌∙◌}
+use Rattle.std.specs.Prelude.{⊤}
 use Rattle.std.proofs.lemmas.Result.{IfOk-weaker}
-use Rattle.sqlite.specs.Held.{state}
 use Rattle.sqlite.specs.Effect.{Database}
-use Rattle.catalogue_store.specs.Attaching.{AreAttached, AreMarksOfEach}
-use Rattle.catalogue_rows.specs.Shows.{Shows}
+use Rattle.sqlite.specs.Held.{state}
+use Rattle.sqlite.specs.State.{HasCleanDisk}
+use Rattle.catalogue_core.specs.Bounds.{IsKept}
+use Rattle.catalogue_core.specs.Merging.{Catalogue}
 use Rattle.office_tables.specs.Step.{IsCut, Looks}
-use Rattle.catalogue_core.specs.Units.{Unit}
-use Rattle.office_tables.proofs.Calls.{early, office_of}
-use Rattle.office_tables.specs.Faults.{IsUnlimited, HasCause}
-use Rattle.office_tables.proofs.Causes.{if_cause_then, still_unlimited}
-use Rattle.catalogue_store.proofs.MarkCauses.{if_err_with, attached_low}
+use Rattle.catalogue_rows.specs.Shows.{Shows}
+use Rattle.catalogue_rows.specs.declared.office.OfficeRow.{OfficeRow}
+use Rattle.catalogue_store.specs.Attaching.{AreMarksOfEach, AreMarksOfContents}
+use Rattle.office_tables.proofs.CallEnds.{excused_then, same_fault, tells_not}
+use Rattle.office_tables.proofs.Calls.{cut_then, early, looks_then, office_of, on_err_then, on_ok_then}
 use Rattle.office_tables.proofs.Outcomes.{if_ok_by}
+use Rattle.catalogue_store.proofs.MarkCauses.{attached_low}
 use Rattle.catalogue_store.proofs.marking.contents_marks.Goals as goal
 
 pub attached_units-requires-clause-inside : goal.attached_units-requires-clause-inside
 attached_units-requires-clause-inside g c = office_of g.P.Places.version (state g.S.Store c.args.conn.now) c.requires.inside
 
-pub returns-clause-answers : goal.returns-clause-answers
-returns-clause-answers g c clean o k it =
+pub returns-in_err-units : goal.returns-in_err-units
+returns-in_err-units g c =
+    let handed = c.from_residual.ensures in
+    let e = c.in_err-units.field-0.0 in
+    record {
+      tells = tells_not g.S.Store (Shows g.P.Places.shows g.P.Places.version) IsKept (λ _. ⊤) c.args.conn.now c.attached_units.new.conn c.from_residual.result (λ _ k found. AreMarksOfContents k c.args.container found.items) e
+          (same_fault c.from_residual.result e handed.0 handed.1) c.in_err-units.ensures.reads.cut
+          (λ o k it may kept clean free. c.in_err-units.ensures.faults k it.catalogue.housings clean free);
+    }
+
+pub returns : goal.returns
+returns g c =
     let a = state g.S.Store c.args.conn.now in
     let b = state g.S.Store c.attached_units.new.conn in
     let d = state g.S.Store c.marks_of_each.new.conn in
-    let ids = λ (units : List Unit). map (λ (u : Unit). u.id) units in
-    if_ok_by c.marks_of_each.result (Looks b d) (λ found. (units : List Unit) × AreAttached k c.args.container units × AreMarksOfEach k.forest (ids units) found.items)
-    (λ last.
-    let before = early b d _ last.goes.on.crash clean in
-    let still = sym (c.in_ok-units.ensures.looks.same before) in
-    let got = c.in_ok-units.ensures.answers before k it.catalogue.units it.catalogue.housings in
-    let same = c.deref.ensures.value ∙ got.2 in
-    IfOk-weaker c.marks_of_each.result (λ found. AreMarksOfEach k.forest c.deref.result.now found.items) (λ found. (units : List Unit) × AreAttached k c.args.container units × AreMarksOfEach k.forest (ids units) found.items)
-    (λ found each. (got.0, got.1, subst (λ (l : List ℕ). AreMarksOfEach k.forest l found.items) same each))
-    (c.marks_of_each.ensures.answers clean o k (subst (λ (db : Database). Shows g.P.Places.shows g.P.Places.version db o k) still it)))
-    c.marks_of_each.ensures.looks
-
-pub returns-in_err-units-clause-faults : goal.returns-in_err-units-clause-faults
-returns-in_err-units-clause-faults g c clean free o k it kept =
-    let why = c.in_err-units.ensures.faults clean free k it.catalogue.housings in
-    search (rules, why)
-
-pub returns-clause-faults : goal.returns-clause-faults
-returns-clause-faults g c clean free o k it kept =
-    let a = state g.S.Store c.args.conn.now in
-    let b = state g.S.Store c.attached_units.new.conn in
-    let d = state g.S.Store c.marks_of_each.new.conn in
-    let looked = c.in_ok-units.ensures.looks in
-    if_err_with c.marks_of_each.result (IsCut b d) (HasCause a d)
-    (λ last.
-    let before = early b d _ last.crash clean in
-    let still = sym (looked.same before) in
-    let free_b : IsUnlimited b = still_unlimited a b looked.goes.on free in
-    let got = c.in_ok-units.ensures.answers before k it.catalogue.units it.catalogue.housings in
-    if_cause_then a b d looked.goes.on before c.marks_of_each.result
-    (c.marks_of_each.ensures.faults clean free_b o k (subst (λ (db : Database). Shows g.P.Places.shows g.P.Places.version db o k) still it) kept
-    (attached_low k kept c.args.container got.0 c.deref.result.now got.1 (c.deref.ensures.value ∙ got.2))))
-    c.marks_of_each.ensures.cut
+    let looked = c.in_ok-units.ensures.reads.looks in
+    let told = c.marks_of_each.ensures.tells in
+    let found = c.marks_of_each.result in
+    let still : HasCleanDisk b → (o : OfficeRow) (k : Catalogue) → Shows g.P.Places.shows g.P.Places.version a.now o k → Shows g.P.Places.shows g.P.Places.version b.now o k =
+    λ before o k it. subst (λ (db : Database). Shows g.P.Places.shows g.P.Places.version db o k) (sym (looked.same before)) it in
+    record {
+      tells = record {
+        answers = λ clean o k it.
+            if_ok_by found (Looks b d) (λ all. AreMarksOfContents k c.args.container all.items)
+            (λ last.
+            let before = early b d _ last.goes.on.crash clean in
+            let got = c.in_ok-units.ensures.units before k it.catalogue.units it.catalogue.housings in
+            IfOk-weaker found _ _ (λ all each. (got.0, got.1, subst (λ (l : List ℕ). AreMarksOfEach k.forest l all.items) (c.deref.ensures.value ∙ got.2) each))
+            (told.answers clean o k (still before o k it)))
+            told.looks;
+        looks = on_ok_then found (Looks b d) (Looks a d) (looks_then a b d looked) told.looks;
+        cut = on_err_then found (IsCut b d) (IsCut a d) (cut_then a b d looked.goes.on) told.cut;
+        faults = λ o k it may kept.
+            excused_then a b d looked.goes.on found told.cut (λ before.
+            let got = c.in_ok-units.ensures.units before k it.catalogue.units it.catalogue.housings in
+            told.faults o k (still before o k it) (attached_low k kept c.args.container got.0 c.deref.result.now got.1 (c.deref.ensures.value ∙ got.2)) kept);
+      };
+    }

@@ -1,16 +1,19 @@
-use Rattle.std.proofs.Common.{rules, ℕ, ◌+◌, ◌<◌, ◌^◌, List, ◌++◌, ◌∷◌, [], take, get_or, sym, subst, ◌∙◌, arith}
+use Rattle.std.proofs.Common.{ℕ, ◌+◌, ◌<◌, ◌^◌, List, ◌++◌, ◌∷◌, [], take, get_or, refl, sym, subst, ◌∙◌, arith}
+use Rattle.std.specs.List.{AllByRecursion}
 use Rattle.std.proofs.lemmas.List.{take_more, take_all}
+use Rattle.sqlite.specs.Effect.{Database}
 use Rattle.sqlite.specs.Held.{state}
 use Rattle.sqlite_trees.proofs.ListLemmas.{all-get_or}
-use Rattle.sqlite.specs.Effect.{Database}
-use Rattle.catalogue_store.specs.Attaching.{AreMarksOfEach}
+use Rattle.isad_core.specs.Limits.{IsNumber}
+use Rattle.catalogue_core.specs.Bounds.{IsKept}
+use Rattle.office_tables.specs.declared.fault.StoreFault.TheVariants as fault
 use Rattle.catalogue_rows.specs.Shows.{Shows}
-use Rattle.office_tables.specs.Step.{IsCut}
+use Rattle.catalogue_store.specs.Attaching.{AreMarksOfEach}
 use Rattle.catalogue_store.specs.declared.marking.Attached.{Attached}
-use Rattle.office_tables.proofs.Calls.{early, looks_nowhere, looks_then, cut_then, cut_after, office_of}
+use Rattle.office_tables.proofs.CallEnds.{same_fault, tells_not}
+use Rattle.office_tables.proofs.Calls.{cut_after, early, looks_nowhere, looks_then, office_of}
+use Rattle.office_tables.proofs.ReadEnds.{tells_cut}
 use Rattle.catalogue_store.proofs.MarkForests.{each_more}
-use Rattle.office_tables.specs.Faults.{IsUnlimited}
-use Rattle.office_tables.proofs.Causes.{cause_then, still_unlimited}
 use Rattle.catalogue_store.proofs.marking.marks_of_each.Goals as goal
 
 pub loop-unit-init : goal.loop-unit-init
@@ -21,32 +24,6 @@ loop-unit-init g c =
       looks = looks_nowhere a (office_of g.P.Places.version a c.requires.inside);
       so_far = λ clean o k it. subst (AreMarksOfEach k.forest []) (sym c.new-found.ensures.items) tt;
     }
-
-pub returns-in_err-path-clause-cut : goal.returns-in_err-path-clause-cut
-returns-in_err-path-clause-cut g c =
-    let a = state g.S.Store c.args.conn.now in
-    let b = state g.S.Store c.loop-unit.conn in
-    let d = state g.S.Store c.marks_on_path.new.conn in
-    let all : IsCut a d = cut_then a b d c.loop-unit.invariant.looks.goes.on c.in_err-path.ensures.tells.cut in
-    search (rules, all)
-
-pub returns-in_err-branch-clause-cut : goal.returns-in_err-branch-clause-cut
-returns-in_err-branch-clause-cut g c =
-    let a = state g.S.Store c.args.conn.now in
-    let b = state g.S.Store c.loop-unit.conn in
-    let d = state g.S.Store c.marks_on_path.new.conn in
-    let e = state g.S.Store c.marks_in_branch.new.conn in
-    let all : IsCut a e = cut_then a d e (looks_then a b d c.loop-unit.invariant.looks c.in_ok-path.ensures.tells.looks).goes.on c.in_err-branch.ensures.tells.cut in
-    search (rules, all)
-
-pub returns-in_err-push-clause-cut : goal.returns-in_err-push-clause-cut
-returns-in_err-push-clause-cut g c =
-    let a = state g.S.Store c.args.conn.now in
-    let b = state g.S.Store c.loop-unit.conn in
-    let d = state g.S.Store c.marks_on_path.new.conn in
-    let e = state g.S.Store c.marks_in_branch.new.conn in
-    let all : IsCut a e = cut_after a e (looks_then a d e (looks_then a b d c.loop-unit.invariant.looks c.in_ok-path.ensures.tells.looks) c.in_ok-branch.ensures.tells.looks).goes.on in
-    search (rules, all)
 
 pub loop-unit-preserved : goal.loop-unit-preserved
 loop-unit-preserved g c =
@@ -73,37 +50,64 @@ loop-unit-preserved g c =
           (c.in_ok-path.ensures.tells.answers at_d o k (subst shows (sym same_b) it)) (c.in_ok-branch.ensures.tells.answers clean o k (subst shows (sym same_d) it))));
     }
 
-pub returns-clause-answers : goal.returns-clause-answers
-returns-clause-answers g c clean o k it =
-    subst (λ (ids : List ℕ). AreMarksOfEach k.forest ids c.loop-unit.found.items) (take_all c.loop-unit.unit-index c.args.units.now (omega (arith, c.loop-unit-test.false)))
-    (c.loop-unit.invariant.so_far clean o k it)
+pub returns-then-unit-ge-NO_NUMBER : goal.returns-then-unit-ge-NO_NUMBER
+returns-then-unit-ge-NO_NUMBER g c =
+    let a = state g.S.Store c.args.conn.now in
+    let b = state g.S.Store c.loop-unit.conn in
+    record {
+      tells = tells_not g.S.Store (Shows g.P.Places.shows g.P.Places.version) IsKept (λ _. AllByRecursion IsNumber c.args.units.now) c.args.conn.now c.loop-unit.conn _ (λ _ k found. AreMarksOfEach k.forest c.args.units.now found.items) fault.Schema refl (cut_after a b c.loop-unit.invariant.looks.goes.on)
+          (λ o k it low kept clean free.
+          let small : get_or c.args.units.now c.loop-unit.unit-index 0 < 2 ^ 63 = all-get_or IsNumber c.args.units.now c.loop-unit.unit-index 0 low c.loop-unit-test.true in
+          absurd (omega (arith, small, c.if-unit-ge-NO_NUMBER.true)));
+    }
 
-pub returns-then-unit-ge-NO_NUMBER-clause-faults : goal.returns-then-unit-ge-NO_NUMBER-clause-faults
-returns-then-unit-ge-NO_NUMBER-clause-faults g c clean free o k it kept low =
-    let small : get_or c.args.units.now c.loop-unit.unit-index 0 < 2 ^ 63 = all-get_or (λ (id : ℕ). id < 2 ^ 63) c.args.units.now c.loop-unit.unit-index 0 low c.loop-unit-test.true in
-    absurd (omega (arith, small, c.if-unit-ge-NO_NUMBER.true))
+pub returns-in_err-path : goal.returns-in_err-path
+returns-in_err-path g c =
+    let handed = c.from_residual.ensures in
+    let e = c.in_err-path.field-0.0 in
+    let looked = c.loop-unit.invariant.looks in
+    record {
+      tells = tells_cut g.S.Store (Shows g.P.Places.shows g.P.Places.version) IsKept (λ _. AllByRecursion IsNumber c.args.units.now) c.args.conn.now c.loop-unit.conn c.marks_on_path.new.conn c.from_residual.result (λ _ k found. AreMarksOfEach k.forest c.args.units.now found.items) e
+          (same_fault c.from_residual.result e handed.0 handed.1) looked c.in_err-path.ensures.tells.cut
+          (λ o k it low kept at_b clean free. c.in_err-path.ensures.tells.faults o k (subst (λ (db : Database). Shows g.P.Places.shows g.P.Places.version db o k) (sym (looked.same at_b)) it) tt kept clean free);
+    }
 
-pub returns-in_err-path-clause-faults : goal.returns-in_err-path-clause-faults
-returns-in_err-path-clause-faults g c clean free o k it kept low =
+pub returns-in_err-branch : goal.returns-in_err-branch
+returns-in_err-branch g c =
     let a = state g.S.Store c.args.conn.now in
     let b = state g.S.Store c.loop-unit.conn in
     let d = state g.S.Store c.marks_on_path.new.conn in
-    let looked = c.loop-unit.invariant.looks in
-    let before = early b d _ c.in_err-path.ensures.tells.cut.crash clean in
-    let free_b : IsUnlimited b = still_unlimited a b looked.goes.on free in
-    let why = c.in_err-path.ensures.tells.faults o k (subst (λ (db : Database). Shows g.P.Places.shows g.P.Places.version db o k) (sym (looked.same before)) it) tt kept clean free_b in
-    let whole = cause_then a b d looked.goes.on before _ why in
-    search (rules, whole)
+    let handed = c.from_residual-in_err-branch.ensures in
+    let e = c.in_err-branch.field-0.0 in
+    let looked = looks_then a b d c.loop-unit.invariant.looks c.in_ok-path.ensures.tells.looks in
+    record {
+      tells = tells_cut g.S.Store (Shows g.P.Places.shows g.P.Places.version) IsKept (λ _. AllByRecursion IsNumber c.args.units.now) c.args.conn.now c.marks_on_path.new.conn c.marks_in_branch.new.conn c.from_residual-in_err-branch.result (λ _ k found. AreMarksOfEach k.forest c.args.units.now found.items) e
+          (same_fault c.from_residual-in_err-branch.result e handed.0 handed.1) looked c.in_err-branch.ensures.tells.cut
+          (λ o k it low kept at_d clean free. c.in_err-branch.ensures.tells.faults o k (subst (λ (db : Database). Shows g.P.Places.shows g.P.Places.version db o k) (sym (looked.same at_d)) it) tt kept clean free);
+    }
 
-pub returns-in_err-branch-clause-faults : goal.returns-in_err-branch-clause-faults
-returns-in_err-branch-clause-faults g c clean free o k it kept low =
+pub returns-in_err-push : goal.returns-in_err-push
+returns-in_err-push g c =
     let a = state g.S.Store c.args.conn.now in
     let b = state g.S.Store c.loop-unit.conn in
     let d = state g.S.Store c.marks_on_path.new.conn in
     let e = state g.S.Store c.marks_in_branch.new.conn in
-    let looked = looks_then a b d c.loop-unit.invariant.looks c.in_ok-path.ensures.tells.looks in
-    let before = early d e _ c.in_err-branch.ensures.tells.cut.crash clean in
-    let free_d : IsUnlimited d = still_unlimited a d looked.goes.on free in
-    let why = c.in_err-branch.ensures.tells.faults o k (subst (λ (db : Database). Shows g.P.Places.shows g.P.Places.version db o k) (sym (looked.same before)) it) tt kept clean free_d in
-    let whole = cause_then a d e looked.goes.on before _ why in
-    search (rules, whole)
+    let handed = c.from_residual-in_err-push.ensures in
+    let looked = looks_then a d e (looks_then a b d c.loop-unit.invariant.looks c.in_ok-path.ensures.tells.looks) c.in_ok-branch.ensures.tells.looks in
+    record {
+      tells = tells_not g.S.Store (Shows g.P.Places.shows g.P.Places.version) IsKept (λ _. AllByRecursion IsNumber c.args.units.now) c.args.conn.now c.marks_in_branch.new.conn c.from_residual-in_err-push.result (λ _ k found. AreMarksOfEach k.forest c.args.units.now found.items) fault.Memory
+          (same_fault c.from_residual-in_err-push.result fault.Memory handed.0 handed.1) (cut_after a e looked.goes.on) (λ o k it low kept clean free. tt);
+    }
+
+pub returns : goal.returns
+returns g c =
+    record {
+      tells = record {
+        answers = λ clean o k it.
+            subst (λ (ids : List ℕ). AreMarksOfEach k.forest ids c.loop-unit.found.items) (take_all c.loop-unit.unit-index c.args.units.now (omega (arith, c.loop-unit-test.false)))
+            (c.loop-unit.invariant.so_far clean o k it);
+        looks = c.loop-unit.invariant.looks;
+        cut = tt;
+        faults = λ o k it low kept clean free. tt;
+      };
+    }
