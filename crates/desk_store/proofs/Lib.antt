@@ -17,3 +17,13 @@ pub mod LoanRows
 pub mod LoanCalls
 pub mod OpeningRows
 pub mod OpeningCalls
+pub mod WaitingRows
+pub mod ReshelvingRows
+pub mod ReshelvingCalls
+pub mod ToldCalls
+pub mod BoxRows
+pub mod PlaceRows
+pub mod QueueCalls
+pub mod PickingRows
+pub mod PickingLists
+pub mod PickingCalls

@@ -8,3 +8,5 @@ pub mod Holdings
 pub mod Runs
 pub mod Permits
 pub mod Opening
+pub mod Stacks
+pub mod Picking

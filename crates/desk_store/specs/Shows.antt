@@ -1,10 +1,10 @@
 -- When the tables show a desk: each has the rows that its part of the desk names, and no others.
-use Rattle.std.specs.Prelude.{◌≡◌, ◌≤◌, ◌<◌, ◌^◌, length, map, IsUtf8, true, ⊤}
+use Rattle.std.specs.Prelude.{◌≡◌, ◌⊎◌, ℕ, ◌≤◌, ◌<◌, ◌^◌, Option, Some, None, List, [], ◌∷◌, length, map, IsUtf8, true, ⊤}
 use Rattle.std.specs.List.{AllByRecursion}
 use Rattle.sqlite.specs.Tree.{Trees}
 use Rattle.sqlite.specs.Effect.{Database}
 use Rattle.isad_core.specs.Days.{is_day_number}
-use Rattle.isad_core.specs.Limits.{most_orders, most_tickets, most_runs}
+use Rattle.isad_core.specs.Limits.{IsNumber, most_orders, most_tickets, most_runs}
 use Rattle.desk_core.specs.DeskRows.{Desk, ReaderRow, SeatRow, OrderRow, HoldingRow, RunRow, PermitRow}
 use Rattle.office_tables.specs.Numbered.{AreCounted, AreByNumber, HasNumbered}
 use Rattle.desk_store.specs.Rows.{reader_cells, seat_cells, order_cells, holding_cells, run_cells, run_line_cells}
@@ -45,10 +45,15 @@ pub record IsLegibleOrder (o : OrderRow) : Type 0 where
   pub some_state : 1 ≤ o.state
   pub state : o.state ≤ 4
 
--- at the desk or out
+-- at the desk, or out with an order
+abbrev pub IsKnownPlace : ℕ → Option ℕ → Type 0
+IsKnownPlace place None = place ≡ 1
+IsKnownPlace place (Some order) = (place ≡ 1) ⊎ (place ≡ 2)
+
+-- a container of a number that a table keeps, in a place that there is
 pub record IsLegibleHolding (h : HoldingRow) : Type 0 where
-  pub some_place : 1 ≤ h.place
-  pub place : h.place ≤ 2
+  pub number : IsNumber h.container
+  pub place : IsKnownPlace h.place h.held_by
 
 pub record IsLegible (d : Desk) : Type 0 where
   pub readers : AllByRecursion IsLegibleReader d.readers

@@ -2,6 +2,7 @@
 #![tactic(auto)]
 
 mod blank;
+mod boxes;
 mod cards;
 mod granting;
 mod holdings;
@@ -9,11 +10,14 @@ mod lending;
 mod making;
 mod opening;
 mod orders;
+mod picking;
 mod placing;
 mod queues;
 mod readers;
+mod reshelving;
 mod runs;
 mod seating;
+mod waiting;
 
 pub use blank::is_blank;
 pub use cards::{LiveOrder, ReaderCard, reader};
@@ -23,8 +27,10 @@ pub use lending::issued;
 pub use making::create_desk;
 pub use opening::open_day;
 pub use orders::{OrderState, PlacedOrder, WaitingOrder, order};
+pub use picking::candidates;
 pub use placing::{append_order, end_order};
-pub use queues::ContainerQueue;
+pub use queues::{ContainerQueue, queue};
 pub use readers::{add_reader, renew};
+pub use reshelving::at_desk;
 pub use runs::{Brought, record_run};
 pub use seating::{TakenSeat, seats, set_seat};

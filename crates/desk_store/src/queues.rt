@@ -1,8 +1,30 @@
 //! Queues of containers.
 
+ghost use Rattle.std.specs.Prelude.{◌≡◌, ◌<◌, ◌^◌, nat_eq, List as Rows, map, filter, slice_get, IfOk, IsOk, ⊤};
+ghost use Rattle.sqlite.specs.Held.{state};
+ghost use Rattle.sqlite.specs.State.{HasCleanDisk};
+ghost use Rattle.desk_core.specs.DeskRows.{HoldingRow};
+ghost use Rattle.office_tables.specs.Asking.{Reads};
+ghost use Rattle.office_tables.specs.Calls.{Tells};
+ghost use Rattle.office_tables.specs.Faults.{Excused};
+ghost use Rattle.office_tables.specs.Schema as tables;
+ghost use Rattle.office_tables.specs.Step.{InOffice, Holds};
+ghost use Rattle.desk_store.specs.Orders.{holding_of, IsAt};
+ghost use Rattle.desk_store.specs.Rows.{holding_cells};
+ghost use Rattle.desk_store.specs.Shows.{IsKnownPlace, ShowsRoom, IsLegible};
+ghost use Rattle.office_tables.specs.Numbered.{AreByNumber};
+ghost use Rattle.desk_store.specs.Stacks.{ShowsStacks, IsLegibleStacks, box_with, IsQueued};
+
+use crate::boxes::box_of;
 use crate::orders::WaitingOrder;
+use crate::waiting::waiting_for;
 use desk_core::Place;
 use isad_core::{List, Text};
+use office_tables::answer::FromRow;
+use office_tables::value::number;
+use office_tables::{StoreFault, find};
+use sqlite::{Alter, Connection, Row};
+use std::alloc::Global;
 
 /// A container, and who waits for it.
 #[derive(Debug, Drop)]
@@ -12,4 +34,109 @@ pub struct ContainerQueue {
     pub place: Place,
     /// By number.
     pub waiting: List<WaitingOrder>,
+}
+
+/// Where the table says that a container is.
+#[derive(Debug, Clone, Copy, PartialEq, Eq, Drop)]
+struct PlaceEntry {
+    /// 1 at the desk, 2 out.
+    place: u64,
+    /// The order that it is out with.
+    held_by: Option<u64>,
+}
+
+impl FromRow for PlaceEntry {
+    ghost use Rattle.std.specs.Prelude.{pos, option_map, [], ◌∷◌, ⊤};
+    ghost use Rattle.sqlite.specs.Values.{or_null};
+    ghost use Rattle.sqlite.specs.declared.types.Value.TheVariants.{Int};
+
+    ghost cells = { λ h. Int (pos h.place) ∷ or_null Int (option_map pos h.held_by) ∷ [] };
+
+    ghost is_legible = { λ _. ⊤ };
+
+    fn read(row: &Row) -> Result<PlaceEntry, StoreFault> {
+        Ok(PlaceEntry {
+            place: row.get(0)?,
+            held_by: row.get(1)?,
+        })
+    }
+}
+
+impl PlaceEntry {
+    /// The place, where it is one that there is.
+    fn place(&self) -> Result<Place, StoreFault>
+        ensures place { IfOk result (IsAt (Some (record { container = 0; place = self.now.place; held_by = self.now.held_by }))) }
+        ensures known { IsKnownPlace self.now.place self.now.held_by → IsOk result }
+    {
+        match (self.place, self.held_by) {
+            (1, _) => Ok(Place::Desk),
+            (2, Some(order)) => Ok(Place::Out(order)),
+            _ => Err(StoreFault::Schema),
+        }
+    }
+}
+
+/// Where the table says that a container is: one row, or none. It is found by the number of its row.
+fn places_with<S: Alter>(
+    alloc: Global,
+    conn: &mut Connection<S>,
+    container: u64,
+) -> Result<Vec<PlaceEntry>, StoreFault>
+    requires inside { InOffice (state S.Store conn.old) }
+    requires small { container < 2 ^ 63 }
+    ensures reads { Reads (state S.Store conn.old) (state S.Store conn.new) result }
+    ensures rows { HasCleanDisk (state S.Store conn.new) → (xs : Rows HoldingRow)
+        → Holds tables.holding holding_cells (state S.Store conn.old) xs → AreByNumber (λ h. h.container) xs
+        → IfOk result (λ found. found.items ≡ map
+        (λ (h : HoldingRow). record { place = h.place; held_by = h.held_by })
+        (filter (λ (h : HoldingRow). nat_eq container h.container) xs)) }
+    ensures faults { (xs : Rows HoldingRow) → Holds tables.holding holding_cells (state S.Store conn.old) xs
+        → Excused (state S.Store conn.old) (state S.Store conn.new) result }
+{
+    find(
+        alloc,
+        conn,
+        "SELECT place, held_by FROM holding WHERE container = ?1 ORDER BY container",
+        &[number(container)],
+    )
+}
+
+/// Where a container is. On the shelf it has no row.
+fn place_of<S: Alter>(
+    alloc: Global,
+    conn: &mut Connection<S>,
+    container: u64,
+) -> Result<Place, StoreFault>
+    requires inside { InOffice (state S.Store conn.old) }
+    requires small { container < 2 ^ 63 }
+    ensures tells { Tells S.Store ShowsRoom IsLegible conn.old conn.new result (λ _. ⊤)
+        (λ _ d place. IsAt (holding_of container d) place) }
+{
+    let found = places_with(alloc, conn, container)?;
+    match found.first() {
+        Some(entry) => entry.place(),
+        None => Ok(Place::Shelf),
+    }
+}
+
+/// What is written on a container, where it is, and who waits for it; none where it is not known.
+pub fn queue<S: Alter>(
+    alloc: Global,
+    conn: &mut Connection<S>,
+    container: u64,
+) -> Result<Option<ContainerQueue>, StoreFault>
+    requires inside { InOffice (state S.Store conn.old) }
+    ensures tells { Tells S.Store ShowsStacks IsLegibleStacks conn.old conn.new result (λ _. ⊤)
+        (λ _ stacks found. IsQueued container stacks (box_with container stacks) found) }
+{
+    let Some(known) = box_of(alloc, conn, container)? else {
+        return Ok(None);
+    };
+    let place = place_of(alloc, conn, container)?;
+    let waiting = waiting_for(alloc, conn, container)?;
+    Ok(Some(ContainerQueue {
+        name: known.name,
+        place,
+        waiting: List(waiting),
+    }))
 }

@@ -1,0 +1,94 @@
+-- The statement on a container: what its text means, what it tells, and why it fails. And the container that it tells.
+use Rattle.std.proofs.Common.{◌≡◌, ◌<◌, ℕ, pos, List, [], ◌∷◌, length, map, filter, find, codes, true, false, ◌++◌, Option, Some, None, Result, IfOk, IfErr, Ordering, nat_eq, refl, sym, ap, ◌∙◌, arith}
+use Rattle.std.proofs.Math.Nat.{le_refl}
+use Rattle.std.specs.Prelude.{IsSome, option_map, option_to_list, slice_get}
+use Rattle.std.specs.Cmp.{IsTotalOrder, on_total, int_cmp_total}
+use Rattle.std.specs.List.{AllByRecursion}
+use Rattle.std.specs.Ordering.{int_cmp}
+use Rattle.isad_core.specs.Legible.{IsLegibleBox}
+use Rattle.isad_core.specs.declared.values.BoxKey.{BoxKey}
+use Rattle.sqlite.specs.declared.types.Value.TheVariants.{Int, Text}
+use Rattle.sqlite.specs.Order.{Row}
+use Rattle.sqlite.specs.Term.{Term, col, op2}
+use Rattle.sqlite.specs.Collation.TheVariants.{Binary}
+use Rattle.sqlite.specs.Command.{Command}
+use Rattle.sqlite.specs.Command.TheVariants.{Select}
+use Rattle.sqlite.specs.Listing.{understood}
+use Rattle.sqlite.specs.State.{State}
+use Rattle.sqlite_sql.specs.declared.ops.BinaryOp.TheVariants.{Compare}
+use Rattle.sqlite_sql.specs.declared.ops.CompareOp.TheVariants.{Eq}
+use Rattle.sqlite_tied.specs.Compute.{everything}
+use Rattle.tree_core.specs.Versions.{Version, Links, Spans}
+use Rattle.office_tables.specs.Asking.{Finds, Misses}
+use Rattle.office_tables.specs.Faults.{IsUnlimited, HasCause}
+use Rattle.office_tables.specs.Meaning.{Means}
+use Rattle.office_tables.specs.Order.{IsOrdered}
+use Rattle.office_tables.specs.Schema.{schema, container}
+use Rattle.office_tables.specs.Shared.{box_cells}
+use Rattle.office_tables.specs.Step.{Holds}
+use Rattle.office_tables.specs.declared.fault.StoreFault.{StoreFault}
+use Rattle.office_tables.proofs.Reading.{first_kept}
+use Rattle.office_tables.proofs.SelectOf.{asking, select_finds, select_faults}
+use Rattle.office_tables.proofs.Tests.{only, same_number, by_one_int}
+use Rattle.desk_store.proofs.CardRows.{in_order}
+
+-- a container under its number
+abbrev pub Numbered : Type 0
+Numbered = ℕ × BoxKey
+
+abbrev pub by_number : Numbered → Numbered → Ordering
+by_number a b = int_cmp (pos a.0) (pos b.0)
+
+pub by_number_total : IsTotalOrder by_number
+by_number_total = on_total (λ (b : Numbered). pos b.0) int_cmp_total
+
+abbrev pub written_cells : BoxKey → Row
+written_cells b = Text b.name ∷ Text b.location ∷ Text b.kind ∷ []
+
+abbrev with_its_number : List Term
+with_its_number = op2 (Compare Eq Binary) (col 1 0) (col 0 0) ∷ []
+
+abbrev box_columns : List Term
+box_columns = col 1 2 ∷ col 1 3 ∷ col 1 4 ∷ []
+
+abbrev box_names : List (List ℕ)
+box_names = codes "name" ∷ codes "location" ∷ codes "kind" ∷ []
+
+abbrev pub box_text : List ℕ
+box_text = codes "SELECT name, location, kind FROM container WHERE id = ?1 ORDER BY id"
+
+abbrev pub box_command : Command
+box_command = Select (asking container with_its_number box_columns in_order) box_names
+
+pub box_means : (v : Version) → Means v box_text 1 box_command
+unfolding understood everything
+box_means Links = record { is = refl; plain = (refl, refl); whole = (le_refl _, refl, refl); unlisted = refl }
+box_means Spans = record { is = refl; plain = (refl, refl); whole = (le_refl _, refl, refl); unlisted = refl }
+
+module _ (old new : State) (n : ℕ) (v : Version) (has : old.now.schema ≡ schema v) (bs : List Numbered) (stored : Holds container box_cells old bs) {X : Type 0} (items : X → List BoxKey) (r : Result X StoreFault) where
+  pub box_finds : IfOk r (λ found. Finds written_cells box_text (Int (pos n) ∷ []) old new (items found))
+      → IfOk r (λ found. (ys : List Numbered) × IsOrdered by_number (filter (λ (b : Numbered). nat_eq n b.0) bs) ys × (items found ≡ map (λ (b : Numbered). b.1) ys))
+  box_finds =
+      select_finds v container box_text with_its_number box_columns in_order box_names (Int (pos n) ∷ []) (box_means v) old new has box_cells bs stored
+      (λ (b : Numbered). nat_eq n b.0) (λ b. only (same_number b.0 n)) (λ b. written_cells b.1) (λ (b : Numbered). Int (pos b.0) ∷ []) (λ _. refl) by_number (λ _. refl) (λ a b. by_one_int (pos a.0) (pos b.0))
+      written_cells items (λ (b : Numbered). b.1) (λ _. refl) r
+
+  pub box_faults : AllByRecursion (λ (b : Numbered). IsLegibleBox b.1) bs → IsUnlimited old → IfErr r (Misses written_cells IsLegibleBox box_text (Int (pos n) ∷ []) old new) → IfErr r (HasCause old new)
+  box_faults legible free =
+      select_faults v container box_text with_its_number box_columns in_order box_names (Int (pos n) ∷ []) (box_means v) old new has box_cells bs stored
+      (λ (b : Numbered). nat_eq n b.0) (λ b. only (same_number b.0 n)) (λ b. written_cells b.1) (λ (b : Numbered). Int (pos b.0) ∷ []) (λ _. refl) by_number (λ _. refl) (λ a b. by_one_int (pos a.0) (pos b.0))
+      written_cells items (λ (b : Numbered). b.1) (λ _. refl) IsLegibleBox refl free legible r
+
+first_mapped : (bs : List Numbered) → slice_get (map (λ (b : Numbered). b.1) bs) 0 ≡ option_map (λ (b : Numbered). b.1) (slice_get bs 0)
+first_mapped [] = refl
+first_mapped (b ∷ bs) = refl
+
+-- the first of the rows tells what is written on it
+pub box_told : (n : ℕ) (bs : List Numbered) (found : List BoxKey) → found ≡ map (λ (b : Numbered). b.1) (filter (λ (b : Numbered). nat_eq n b.0) bs) → slice_get found 0 ≡ option_map (λ (b : Numbered). b.1) (find (λ (b : Numbered). nat_eq n b.0) bs)
+box_told n bs found are = ap (λ l. slice_get l 0) are ∙ first_mapped (filter (λ (b : Numbered). nat_eq n b.0) bs) ∙ ap (option_map (λ (b : Numbered). b.1)) (first_kept (λ (b : Numbered). nat_eq n b.0) bs)
+
+-- what an iterator gives first is the first of its items
+pub first_out : {A : Type 0} (r : Option A) (xs rest : List A) → xs ≡ option_to_list r ++ rest → (0 < length xs → IsSome r) → r ≡ slice_get xs 0
+first_out (Some x) xs rest e some = sym (ap (λ l. slice_get l 0) e)
+first_out None [] rest e some = refl
+first_out None (x ∷ xs) rest e some = absurd (let none : false ≡ true = some (omega arith) in cc)

@@ -1,0 +1,61 @@
+-- The statement on the containers at the desk: what its text means, what it tells, and why it fails.
+use Rattle.std.proofs.Common.{◌≡◌, ℕ, pos, List, [], ◌∷◌, map, filter, codes, Result, IfOk, IfErr, nat_eq, refl}
+use Rattle.std.proofs.Math.Nat.{le_refl}
+use Rattle.std.specs.Prelude.{⊤}
+use Rattle.sqlite.specs.declared.types.Value.TheVariants.{Int}
+use Rattle.sqlite.specs.Order.{Row}
+use Rattle.sqlite.specs.Term.{Term, lit, col, op2}
+use Rattle.sqlite.specs.Collation.TheVariants.{Binary}
+use Rattle.sqlite.specs.Command.{Command}
+use Rattle.sqlite.specs.Command.TheVariants.{Select}
+use Rattle.sqlite.specs.Listing.{understood}
+use Rattle.sqlite.specs.State.{State}
+use Rattle.sqlite_sql.specs.declared.ops.BinaryOp.TheVariants.{Compare}
+use Rattle.sqlite_sql.specs.declared.ops.CompareOp.TheVariants.{Eq}
+use Rattle.sqlite_tied.specs.Compute.{everything}
+use Rattle.tree_core.specs.Versions.{Version, Links, Spans}
+use Rattle.desk_core.specs.DeskRows.{HoldingRow}
+use Rattle.office_tables.specs.Asking.{Finds, Misses}
+use Rattle.office_tables.specs.Faults.{IsUnlimited, HasCause}
+use Rattle.office_tables.specs.Meaning.{Means}
+use Rattle.office_tables.specs.Order.{IsOrdered}
+use Rattle.office_tables.specs.Schema.{schema, holding}
+use Rattle.office_tables.specs.Step.{Holds}
+use Rattle.office_tables.specs.declared.fault.StoreFault.{StoreFault}
+use Rattle.office_tables.proofs.SelectOf.{asking, select_finds, select_faults}
+use Rattle.office_tables.proofs.Tests.{only, same_number, by_one_int}
+use Rattle.desk_store.specs.Rows.{holding_cells}
+use Rattle.desk_store.proofs.CardRows.{in_order}
+use Rattle.desk_store.proofs.LoanRows.{by_container}
+use Rattle.desk_store.proofs.WaitingRows.{every}
+
+abbrev pub number_cells : ℕ → Row
+number_cells n = Int (pos n) ∷ []
+
+abbrev is_there : List Term
+is_there = op2 (Compare Eq Binary) (col 1 2) (lit (Int (pos 1))) ∷ []
+
+abbrev pub desk_text : List ℕ
+desk_text = codes "SELECT container FROM holding WHERE place = 1 ORDER BY container"
+
+abbrev pub desk_command : Command
+desk_command = Select (asking holding is_there (col 1 0 ∷ []) in_order) (codes "container" ∷ [])
+
+pub desk_means : (v : Version) → Means v desk_text 0 desk_command
+unfolding understood everything
+desk_means Links = record { is = refl; plain = (refl, refl); whole = (le_refl _, refl, refl); unlisted = refl }
+desk_means Spans = record { is = refl; plain = (refl, refl); whole = (le_refl _, refl, refl); unlisted = refl }
+
+module _ (old new : State) (v : Version) (has : old.now.schema ≡ schema v) (xs : List HoldingRow) (stored : Holds holding holding_cells old xs) {X : Type 0} (items : X → List ℕ) (r : Result X StoreFault) where
+  pub desk_finds : IfOk r (λ found. Finds number_cells desk_text [] old new (items found))
+      → IfOk r (λ found. (ys : List HoldingRow) × IsOrdered by_container (filter (λ (h : HoldingRow). nat_eq 1 h.place) xs) ys × (items found ≡ map (λ (h : HoldingRow). h.container) ys))
+  desk_finds =
+      select_finds v holding desk_text is_there (col 1 0 ∷ []) in_order (codes "container" ∷ []) [] (desk_means v) old new has holding_cells xs stored
+      (λ (h : HoldingRow). nat_eq 1 h.place) (λ h. only (same_number h.place 1)) (λ h. number_cells h.container) (λ (h : HoldingRow). Int (pos h.container) ∷ []) (λ _. refl) by_container (λ _. refl) (λ a b. by_one_int (pos a.container) (pos b.container))
+      number_cells items (λ (h : HoldingRow). h.container) (λ _. refl) r
+
+  pub desk_faults : IsUnlimited old → IfErr r (Misses number_cells (λ _. ⊤) desk_text [] old new) → IfErr r (HasCause old new)
+  desk_faults free =
+      select_faults v holding desk_text is_there (col 1 0 ∷ []) in_order (codes "container" ∷ []) [] (desk_means v) old new has holding_cells xs stored
+      (λ (h : HoldingRow). nat_eq 1 h.place) (λ h. only (same_number h.place 1)) (λ h. number_cells h.container) (λ (h : HoldingRow). Int (pos h.container) ∷ []) (λ _. refl) by_container (λ _. refl) (λ a b. by_one_int (pos a.container) (pos b.container))
+      number_cells items (λ (h : HoldingRow). h.container) (λ _. refl) (λ _. ⊤) refl free (every xs) r

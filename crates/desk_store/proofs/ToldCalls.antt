@@ -1,0 +1,65 @@
+-- A call that reads in several steps, of whatever the tables show.
+use Rattle.std.proofs.Common.{◌≡◌, true, false, Result, Ok, Err, IfErr, sym, subst}
+use Rattle.std.specs.Prelude.{⊤, IsOk}
+use Rattle.sqlite.specs.Effect.{Database}
+use Rattle.sqlite.specs.Held.{Held, state}
+use Rattle.sqlite.specs.State.{State, HasCleanDisk}
+use Rattle.sqlite_trees.specs.declared.store.Store as store
+use Rattle.office_tables.specs.Calls.{Tells}
+use Rattle.office_tables.specs.Faults.{IsUnlimited, HasCause}
+use Rattle.office_tables.specs.Step.{IsCut, Looks}
+use Rattle.office_tables.specs.declared.fault.StoreFault.{StoreFault}
+use Rattle.office_tables.proofs.Calls.{cut_then, cut_after}
+use Rattle.office_tables.specs.declared.fault.StoreFault.TheVariants.{Memory}
+use Rattle.office_tables.proofs.Causes.{still_unlimited}
+use Rattle.office_tables.proofs.LaterCauses.{next_cause}
+
+module _ {Model : Type 0} (shows : Database → ⊤ → Model → Type 0) where
+  -- the same is still shown, and was shown before
+  pub shown_on : (a b : State) → Looks a b → HasCleanDisk b → (m : Model) → shows a.now tt m → shows b.now tt m
+  shown_on a b looked clean m shown = subst (λ (db : Database). shows db tt m) (sym (looked.same clean)) shown
+
+  pub shown_back : (a b : State) → Looks a b → HasCleanDisk b → (m : Model) → shows b.now tt m → shows a.now tt m
+  shown_back a b looked clean m shown = subst (λ (db : Database). shows db tt m) (looked.same clean) shown
+
+  module _ {S Y : Type 0} (kept may : Model → Type 0) (g : store.Ghosts S) (before mid after : Held S) (answer : ⊤ → Model → Y → Type 0) where
+    abbrev a : State
+    a = state g before
+
+    abbrev b : State
+    b = state g mid
+
+    abbrev c : State
+    c = state g after
+
+    -- it ends with the fault of a step
+    pub ends_not : Looks a b → (e : StoreFault) → IsCut b c → ((m : Model) → shows b.now tt m → may m → kept m → HasCleanDisk c → IsUnlimited b → HasCause b c e)
+        → (r : Result Y StoreFault) → r ≡ Err e → Tells g shows kept before after r may answer
+    ends_not looked e cut why r is =
+        subst (λ (r : Result Y StoreFault). Tells g shows kept before after r may answer) (sym is)
+        (record {
+          answers = λ clean beside m shown. tt;
+          looks = tt;
+          cut = cut_then a b c looked.goes.on cut;
+          faults = λ beside m shown allowed legible clean free. next_cause a b c looked.goes.on cut clean e (λ cleaner. why m (shown_on a b looked cleaner m shown) allowed legible clean (still_unlimited a b looked.goes.on free));
+        })
+
+    -- it ends with what was read
+    pub ends_well : Looks a c → (y : Y) → (HasCleanDisk c → (m : Model) → shows a.now tt m → answer tt m y) → Tells g shows kept before after (Ok y) may answer
+    ends_well looked y is = record { answers = λ clean beside m shown. is clean m shown; looks = looked; cut = tt; faults = λ beside m shown allowed legible clean free. tt }
+
+    -- there was no memory for what was read
+    pub ends_full : Looks a c → (r : Result Y StoreFault) → r ≡ Err Memory → Tells g shows kept before after r may answer
+    ends_full looked r is =
+        subst (λ (r : Result Y StoreFault). Tells g shows kept before after r may answer) (sym is)
+        (record {
+          answers = λ clean beside m shown. tt;
+          looks = tt;
+          cut = cut_after a c looked.goes.on;
+          faults = λ beside m shown allowed legible clean free. tt;
+        })
+
+-- what always succeeds has no fault to excuse
+pub never_fails : {X : Type 0} (r : Result X StoreFault) (P : StoreFault → Type 0) → IsOk r → IfErr r P
+never_fails (Ok x) P ok = tt
+never_fails (Err e) P ok = absurd (let none : false ≡ true = ok in cc)

@@ -1,0 +1,113 @@
+-- The statements on the orders that wait: what their texts mean, what they tell, and why they fail.
+use Rattle.std.proofs.Common.{◌≡◌, ◌≤◌, ◌<◌, ◌^◌, ℕ, pos, List, [], ◌∷◌, length, map, filter, codes, true, false, Bool, cond, ◌||◌, Result, IfOk, IfErr, refl, sym, ap, ◌∙◌, arith}
+use Rattle.std.proofs.Math.Nat.{le_refl}
+use Rattle.std.specs.Prelude.{⊤, nat_lt}
+use Rattle.std.proofs.lemmas.Bool.{lt-ltb}
+use Rattle.std.proofs.lemmas.List.Sums.{length-filter}
+use Rattle.std.specs.List.{AllByRecursion, count_by, list_any}
+use Rattle.sqlite.specs.declared.types.Value.TheVariants.{Int}
+use Rattle.sqlite.specs.Order.{Row}
+use Rattle.sqlite.specs.Term.{Term, lit, col, op2}
+use Rattle.sqlite.specs.Collation.TheVariants.{Binary}
+use Rattle.sqlite.specs.Command.{Command}
+use Rattle.sqlite.specs.Command.TheVariants.{Select}
+use Rattle.sqlite.specs.Listing.{understood}
+use Rattle.sqlite.specs.State.{State}
+use Rattle.sqlite_sql.specs.declared.ops.BinaryOp.TheVariants.{Compare}
+use Rattle.sqlite_sql.specs.declared.ops.CompareOp.TheVariants.{Eq}
+use Rattle.sqlite_tied.specs.Compute.{everything}
+use Rattle.tree_core.specs.Versions.{Version, Links, Spans}
+use Rattle.isad_core.specs.Limits.{most_orders}
+use Rattle.desk_core.specs.DeskRows.{OrderRow}
+use Rattle.office_tables.specs.Asking.{Finds, FindsFirst, Misses}
+use Rattle.office_tables.specs.Faults.{IsUnlimited, HasCause}
+use Rattle.office_tables.specs.Meaning.{Means}
+use Rattle.office_tables.specs.Order.{IsOrdered}
+use Rattle.office_tables.specs.Schema.{schema, orders}
+use Rattle.office_tables.specs.Step.{Holds}
+use Rattle.office_tables.specs.declared.fault.StoreFault.{StoreFault}
+use Rattle.office_tables.proofs.SelectOf.{asking, select_finds, select_faults}
+use Rattle.office_tables.proofs.Tests.{both, same_number, by_one_int}
+use Rattle.desk_store.specs.Holdings.{waits_for}
+use Rattle.desk_store.specs.Rows.{order_cells}
+use Rattle.desk_store.specs.declared.orders.WaitingOrder.{WaitingOrder}
+use Rattle.desk_store.proofs.CardRows.{by_order, in_order}
+use Rattle.office_tables.proofs.CountOf.{counting, count_finds, count_faults}
+
+-- it waits, and for this container
+abbrev for_the_container : List Term
+for_the_container = op2 (Compare Eq Binary) (col 1 5) (lit (Int (pos 1))) ∷ op2 (Compare Eq Binary) (col 1 3) (col 0 0) ∷ []
+
+pub every : {A : Type 0} (xs : List A) → AllByRecursion (λ _. ⊤) xs
+every [] = tt
+every (x ∷ xs) = (tt, every xs)
+
+-- ---- those that wait for a container
+
+abbrev pub waiting_of : OrderRow → WaitingOrder
+waiting_of o = record { order = o.id; ticket = o.ticket }
+
+abbrev pub waiting_cells : WaitingOrder → Row
+waiting_cells o = Int (pos o.order) ∷ Int (pos o.ticket) ∷ []
+
+abbrev waiting_columns : List Term
+waiting_columns = col 1 0 ∷ col 1 2 ∷ []
+
+abbrev waiting_names : List (List ℕ)
+waiting_names = codes "id" ∷ codes "ticket" ∷ []
+
+abbrev pub waiting_text : List ℕ
+waiting_text = codes "SELECT id, ticket FROM orders WHERE state = 1 AND container = ?1 ORDER BY id"
+
+abbrev pub waiting_command : Command
+waiting_command = Select (asking orders for_the_container waiting_columns in_order) waiting_names
+
+pub waiting_means : (v : Version) → Means v waiting_text 1 waiting_command
+unfolding understood everything
+waiting_means Links = record { is = refl; plain = (refl, refl); whole = (le_refl _, refl, refl); unlisted = refl }
+waiting_means Spans = record { is = refl; plain = (refl, refl); whole = (le_refl _, refl, refl); unlisted = refl }
+
+module _ (old new : State) (c : ℕ) (v : Version) (has : old.now.schema ≡ schema v) (xs : List OrderRow) (stored : Holds orders order_cells old xs) {X : Type 0} (items : X → List WaitingOrder) (r : Result X StoreFault) where
+  pub waiting_finds : IfOk r (λ found. Finds waiting_cells waiting_text (Int (pos c) ∷ []) old new (items found)) → IfOk r (λ found. (ys : List OrderRow) × IsOrdered by_order (filter (waits_for c) xs) ys × (items found ≡ map waiting_of ys))
+  waiting_finds =
+      select_finds v orders waiting_text for_the_container waiting_columns in_order waiting_names (Int (pos c) ∷ []) (waiting_means v) old new has order_cells xs stored
+      (waits_for c) (λ o. both (same_number o.state 1) (same_number o.container c)) (λ o. waiting_cells (waiting_of o)) (λ (o : OrderRow). Int (pos o.id) ∷ []) (λ _. refl) by_order (λ _. refl) (λ a b. by_one_int (pos a.id) (pos b.id))
+      waiting_cells items waiting_of (λ _. refl) r
+
+  pub waiting_faults : IsUnlimited old → IfErr r (Misses waiting_cells (λ _. ⊤) waiting_text (Int (pos c) ∷ []) old new) → IfErr r (HasCause old new)
+  waiting_faults free =
+      select_faults v orders waiting_text for_the_container waiting_columns in_order waiting_names (Int (pos c) ∷ []) (waiting_means v) old new has order_cells xs stored
+      (waits_for c) (λ o. both (same_number o.state 1) (same_number o.container c)) (λ o. waiting_cells (waiting_of o)) (λ (o : OrderRow). Int (pos o.id) ∷ []) (λ _. refl) by_order (λ _. refl) (λ a b. by_one_int (pos a.id) (pos b.id))
+      waiting_cells items waiting_of (λ _. refl) (λ _. ⊤) refl free (every xs) r
+
+-- ---- how many wait for a container
+
+abbrev pub count_text : List ℕ
+count_text = codes "SELECT count(*) FROM orders WHERE state = 1 AND container = ?1"
+
+abbrev pub count_command : Command
+count_command = Select (counting orders for_the_container) (codes "count(*)" ∷ [])
+
+pub count_means : (v : Version) → Means v count_text 1 count_command
+unfolding understood everything
+count_means Links = record { is = refl; plain = (refl, refl); whole = (le_refl _, refl, refl); unlisted = refl }
+count_means Spans = record { is = refl; plain = (refl, refl); whole = (le_refl _, refl, refl); unlisted = refl }
+
+module _ (old new : State) (v : Version) (has : old.now.schema ≡ schema v) (c : ℕ) (xs : List OrderRow) (stored : Holds orders order_cells old xs) (few : length xs ≤ most_orders) (r : Result ℕ StoreFault) where
+  pub waiting_count_finds : IfOk r (FindsFirst count_text (Int (pos c) ∷ []) old new) → IfOk r (λ n. n ≡ count_by (waits_for c) xs)
+  waiting_count_finds =
+      count_finds v orders count_text for_the_container (codes "count(*)" ∷ []) (Int (pos c) ∷ []) (count_means v) old new has order_cells xs stored
+      (waits_for c) (λ o. both (same_number o.state 1) (same_number o.container c)) (omega (arith, few)) r
+
+  pub waiting_count_faults : IsUnlimited old → IfErr r (Misses (λ n. Int (pos n) ∷ []) (λ n. n < 2 ^ 32) count_text (Int (pos c) ∷ []) old new) → IfErr r (HasCause old new)
+  waiting_count_faults free =
+      count_faults v orders count_text for_the_container (codes "count(*)" ∷ []) (Int (pos c) ∷ []) (count_means v) old new has order_cells xs stored
+      (waits_for c) (λ o. both (same_number o.state 1) (same_number o.container c)) (omega (arith, few)) refl free r
+
+-- some are there where there is more than none
+any_kept : {A : Type 0} (p : A → Bool) (xs : List A) → nat_lt 0 (length (filter p xs)) ≡ list_any p xs
+any_kept p [] = refl
+any_kept p (x ∷ xs) = elim (p x) as (λ b. nat_lt 0 (length (cond b (x ∷ filter p xs) (filter p xs))) ≡ (b || list_any p xs)) [ true ↦ lt-ltb 0 (length (x ∷ filter p xs)) (omega arith) | false ↦ any_kept p xs ]
+
+pub any_counted : {A : Type 0} (p : A → Bool) (xs : List A) → nat_lt 0 (count_by p xs) ≡ list_any p xs
+any_counted p xs = ap (nat_lt 0) (sym (length-filter p xs)) ∙ any_kept p xs

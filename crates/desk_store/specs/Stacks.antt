@@ -1,0 +1,63 @@
+-- The desk beside the containers, which are the catalogue's.
+use Rattle.std.specs.Prelude.{◌≡◌, ◌≤◌, ⊤, ℕ, nat_eq, List, length, map, find, Option, Some, None, IsPermutation}
+use Rattle.std.specs.List.{AllByRecursion, AllZip}
+use Rattle.sqlite.specs.Effect.{Database}
+use Rattle.isad_core.specs.Legible.{IsLegibleBox}
+use Rattle.isad_core.specs.Limits.{most_containers}
+use Rattle.isad_core.specs.declared.values.BoxKey.{BoxKey}
+use Rattle.desk_core.specs.DeskRows.{Desk, RunRow, RunLineRow}
+use Rattle.office_tables.specs.Schema as tables
+use Rattle.office_tables.specs.Shared.{box_cells}
+use Rattle.desk_store.specs.Orders.{IsQueue}
+use Rattle.desk_store.specs.Runs.{lines_of, IsCandidate}
+use Rattle.desk_store.specs.Shows.{ShowsDesk, IsLegible}
+use Rattle.office_tables.specs.Numbered.{AreCounted}
+use Rattle.desk_store.specs.declared.queues.ContainerQueue.{ContainerQueue}
+use Rattle.desk_store.specs.declared.runs.Brought.{Brought}
+
+-- the containers that the catalogue knows, each under its number, and the desk
+pub record Stacks : Type 0 where
+  pub boxes : List (ℕ × BoxKey)
+  pub desk : Desk
+
+-- containers are numbered from 1, up to the most that there may be
+pub record ShowsStacks (db : Database) (beside : ⊤) (stacks : Stacks) : Type 0 where
+  pub boxes : db.trees tables.container.tree ≡ map box_cells stacks.boxes
+  pub numbers : AreCounted (λ (b : ℕ × BoxKey). b.0) stacks.boxes
+  pub few : length stacks.boxes ≤ most_containers
+  pub desk : ShowsDesk db.trees stacks.desk
+
+-- what is written on a container can be read back
+pub record IsLegibleStacks (stacks : Stacks) : Type 0 where
+  pub boxes : AllByRecursion (λ (b : ℕ × BoxKey). IsLegibleBox b.1) stacks.boxes
+  pub desk : IsLegible stacks.desk
+
+abbrev pub box_with : ℕ → Stacks → Option (ℕ × BoxKey)
+box_with c stacks = find (λ (b : ℕ × BoxKey). nat_eq c b.0) stacks.boxes
+
+-- ---- a container and who waits for it
+
+-- what is told of a container that may be known
+abbrev pub IsQueued : ℕ → Stacks → Option (ℕ × BoxKey) → Option ContainerQueue → Type 0
+IsQueued c stacks None found = found ≡ None
+IsQueued c stacks (Some box) None = ⊥
+IsQueued c stacks (Some box) (Some q) = IsQueue c stacks.desk box.1 q
+
+-- ---- what a run brought
+
+-- the run's day, and its lines in some order, each with what is written on its container
+pub record IsBrought (stacks : Stacks) (run : RunRow) (told : Brought) : Type 0 where
+  pub day : told.day ≡ run.day
+  pub lines : List RunLineRow
+  pub are : IsPermutation (lines_of run.id stacks.desk) lines
+  pub tell : AllZip (IsCandidate stacks.boxes) lines told.lines
+
+-- what is told of a run that may have been made
+abbrev pub IsToldRun : Stacks → Option RunRow → Option Brought → Type 0
+IsToldRun stacks None found = found ≡ None
+IsToldRun stacks (Some run) None = ⊥
+IsToldRun stacks (Some run) (Some told) = IsBrought stacks run told
+
+-- the containers of a run's lines are known
+abbrev pub AreKnown : ℕ → Stacks → Type 0
+AreKnown n stacks = AllByRecursion (λ (l : RunLineRow). (box : BoxKey) × (box_with l.container stacks ≡ Some (l.container, box))) (lines_of n stacks.desk)
