@@ -1,9 +1,9 @@
 -- The statements on the texts of the units: what their texts mean, what they leave or tell, and why they fail.
-use Rattle.std.proofs.Common.{◌≡◌, ℕ, pos, List, [], ◌∷◌, map, filter, codes, true, false, not, ◌&&◌, Result, OnOk, IfOk, IfErr, nat_eq, refl, ap, ◌∙◌}
+use Rattle.std.proofs.Common.{◌≡◌, ℕ, ℤ, pos, List, [], ◌∷◌, map, filter, codes, true, false, not, ◌&&◌, Result, OnOk, IfOk, IfErr, nat_eq, refl, sym, ap, ◌∙◌}
 use Rattle.std.proofs.Math.Nat.{le_refl}
 use Rattle.std.proofs.lemmas.Bool.{or_right}
 use Rattle.std.specs.List.{AllByRecursion, list_any, list_all}
-use Rattle.std.specs.Ordering.{int_cmp}
+use Rattle.std.proofs.lemmas.Result.{IfOk-weaker}
 use Rattle.std.specs.Prelude.{IsUtf8}
 use Rattle.isad_core.specs.Texts.{Bytes}
 use Rattle.sqlite.specs.declared.types.Value.TheVariants.{Null, Int, Text}
@@ -32,13 +32,17 @@ use Rattle.office_tables.specs.Asking.{Finds, Misses}
 use Rattle.office_tables.specs.Changing.{Ran}
 use Rattle.office_tables.specs.Faults.{IsUnlimited, HasCause}
 use Rattle.office_tables.specs.Meaning.{Means}
-use Rattle.office_tables.specs.Order.{Rises, IsOrdered}
+use Rattle.office_tables.specs.Numbered.{HoldsNumbered}
+use Rattle.office_tables.specs.Order.{IsOrdered}
 use Rattle.office_tables.specs.Schema.{schema, to_unit, unit, element}
-use Rattle.office_tables.specs.Step.{Holds, HasRows, PutsRow, OnlyTouches}
+use Rattle.office_tables.specs.Step.{PutsRow, OnlyTouches}
 use Rattle.office_tables.specs.declared.fault.StoreFault.{StoreFault}
 use Rattle.catalogue_rows.specs.Adding.{AreElements, HasUnit}
 use Rattle.catalogue_rows.specs.Rows.{unit_row, ElementRow, element_row, by_element}
 use Rattle.catalogue_rows.specs.declared.answer.Element.{Element}
+use Rattle.sqlite_trees.proofs.ListLemmas.{map-map}
+use Rattle.office_tables.proofs.Calls.{on_ok_then}
+use Rattle.office_tables.proofs.numbered.OwnNumbers.{none_numbered, all_numbered, kept_ordered, those_left}
 use Rattle.office_tables.proofs.Casts.{cast_int, cast_null}
 use Rattle.office_tables.proofs.DeleteOf.{removing, delete_leaves, delete_faults}
 use Rattle.office_tables.proofs.Fresh.{any_mapped, next_free}
@@ -94,9 +98,9 @@ unfolding understood everything
 insert_element_means Links = record { is = refl; plain = (refl, refl); whole = (le_refl _, refl, refl); unlisted = refl }
 insert_element_means Spans = record { is = refl; plain = (refl, refl); whole = (le_refl _, refl, refl); unlisted = refl }
 
-same_element : (a b : ElementRow) → agree plain (1 ∷ 2 ∷ []) (element_row a) (1 ∷ 2 ∷ []) (element_row b) ≡ (nat_eq b.unit a.unit && nat_eq b.k a.k)
+same_element : (a b : ℤ × ElementRow) → agree plain (1 ∷ 2 ∷ []) (element_row a) (1 ∷ 2 ∷ []) (element_row b) ≡ (nat_eq b.1.unit a.1.unit && nat_eq b.1.k a.1.k)
 unfolding first_key
-same_element a b = both (same_number a.unit b.unit) (same_number a.k b.k)
+same_element a b = both (same_number a.1.unit b.1.unit) (same_number a.1.k b.1.k)
 
 no_other : (v : Version) (db : Trees) (row : Row) → list_any (λ r. agree plain (1 ∷ 2 ∷ []) r (1 ∷ 2 ∷ []) row) (db element.tree) ≡ false
     → list_all (λ i. not (guards i element && list_any (λ r. agree i.order i.columns r i.columns row) (db element.tree))) (schema v).indexes ≡ true
@@ -107,8 +111,8 @@ module _ (old new : State) (unit_id k : ℕ) (value : Bytes) (v : Version) (has 
   abbrev params : Row
   params = Int (pos unit_id) ∷ Int (pos k) ∷ Text value ∷ []
 
-  abbrev added : ElementRow
-  added = record { row = next_rowid (old.now.trees element.tree); unit = unit_id; k = k; value = value }
+  abbrev added : ℤ × ElementRow
+  added = (next_rowid (old.now.trees element.tree), record { unit = unit_id; k = k; value = value })
 
   news : (edit_of old.now.trees element [] Chosen 0 (value_rows params 4 1 insert_element_terms)).news ≡ element_row added ∷ []
   news = rw (cast_null, cast_int (pos unit_id), cast_int (pos k)) refl
@@ -120,12 +124,13 @@ module _ (old new : State) (unit_id k : ℕ) (value : Bytes) (v : Version) (has 
     welcome : IsWelcome (schema v) old.now.trees element (element_row added)
     welcome = record {
       keyed = refl;
-      free = next_free element_row (λ e. e.row) (λ _. refl) xs (old.now.trees element.tree) params at.rows at.rise;
+      free = next_free element_row (λ e. e.0) (λ _. refl) at.rows.numbered (old.now.trees element.tree) params at.rows.are at.rows.rise;
       typed = refl;
       present = refl;
       checked = refl;
-      alone = no_other v old.now.trees (element_row added) (ap (list_any (λ r. agree plain (1 ∷ 2 ∷ []) r (1 ∷ 2 ∷ []) (element_row added))) at.rows
-          ∙ any_mapped element_row _ (λ (e : ElementRow). nat_eq unit_id e.unit && nat_eq k e.k) (λ e. same_element e added) xs ∙ none);
+      alone = no_other v old.now.trees (element_row added) (ap (list_any (λ r. agree plain (1 ∷ 2 ∷ []) r (1 ∷ 2 ∷ []) (element_row added))) at.rows.are
+          ∙ any_mapped element_row _ (λ (x : ℤ × ElementRow). nat_eq unit_id x.1.unit && nat_eq k x.1.k) (λ x. same_element x added) at.rows.numbered
+          ∙ none_numbered element_row (old.now.trees element.tree) xs at.rows (λ (e : ElementRow). nat_eq unit_id e.unit && nat_eq k e.k) none);
       referred = to_unit_fits v;
       parents = has_its_unit v old.now.trees (element_row added) unit_id refl known;
     }
@@ -157,11 +162,12 @@ clear_elements_means Links = record { is = refl; plain = (refl, refl); whole = (
 clear_elements_means Spans = record { is = refl; plain = (refl, refl); whole = (le_refl _, refl, refl); unlisted = refl }
 
 module _ (old new : State) (unit_id : ℕ) (v : Version) (has : old.now.schema ≡ schema v) where
-  pub clear_elements_leaves : (xs : List ElementRow) → Holds element element_row old xs → Rises (λ (a b : ElementRow). int_cmp a.row b.row) xs
-      → (r : Result Unit StoreFault) → Ran clear_elements_text (Int (pos unit_id) ∷ []) old new r → OnOk r (HasRows element.tree (map element_row (filter (λ (x : ElementRow). not (nat_eq unit_id x.unit)) xs)) old.now new.now)
-  clear_elements_leaves xs stored up =
-      delete_leaves v 9 element refl (element_alone v) clear_elements_text of_unit (col 1 0 ∷ []) (Int (pos unit_id) ∷ []) (clear_elements_means v) old new has
-      element_row (λ x. x.row) (λ _. refl) xs stored up (λ (x : ElementRow). nat_eq unit_id x.unit) (λ x. only (same_number x.unit unit_id)) (λ (x : ElementRow). Int x.row ∷ []) (λ _. refl) (λ _. refl)
+  pub clear_elements_leaves : (xs : List ElementRow) → HoldsNumbered element element_row old xs
+      → (r : Result Unit StoreFault) → Ran clear_elements_text (Int (pos unit_id) ∷ []) old new r → OnOk r (HoldsNumbered element element_row new (filter (λ (x : ElementRow). not (nat_eq unit_id x.unit)) xs))
+  clear_elements_leaves xs at r ran =
+      on_ok_then r _ _ (λ has. those_left element_row (old.now.trees element.tree) (new.now.trees element.tree) xs at (λ (e : ElementRow). nat_eq unit_id e.unit) has.are)
+      (delete_leaves v 9 element refl (element_alone v) clear_elements_text of_unit (col 1 0 ∷ []) (Int (pos unit_id) ∷ []) (clear_elements_means v) old new has
+      element_row (λ x. x.0) (λ _. refl) at.numbered at.are at.rise (λ (x : ℤ × ElementRow). nat_eq unit_id x.1.unit) (λ x. only (same_number x.1.unit unit_id)) (λ (x : ℤ × ElementRow). Int x.0 ∷ []) (λ _. refl) (λ _. refl) r ran)
 
   pub clear_elements_only : (r : Result Unit StoreFault) → Ran clear_elements_text (Int (pos unit_id) ∷ []) old new r → OnOk r (OnlyTouches (element.tree ∷ []) old.now new.now)
   clear_elements_only = delete_only v 9 element refl clear_elements_text _ (Int (pos unit_id) ∷ []) old new has (element_alone v) (clear_elements_means v)
@@ -194,16 +200,25 @@ told e = record { k = e.k; value = e.value }
 abbrev cells : Element → Row
 cells e = Int (pos e.k) ∷ Text e.value ∷ []
 
-module _ (old new : State) (unit_id : ℕ) (v : Version) (has : old.now.schema ≡ schema v) (xs : List ElementRow) (stored : Holds element element_row old xs) {X : Type 0} (items : X → List Element) (r : Result X StoreFault) where
+abbrev told_of : ℤ × ElementRow → Element
+told_of x = told x.1
+
+module _ (old new : State) (unit_id : ℕ) (v : Version) (has : old.now.schema ≡ schema v) (xs : List ElementRow) (at : HoldsNumbered element element_row old xs) {X : Type 0} (items : X → List Element) (r : Result X StoreFault) where
   pub elements_found : IfOk r (λ found. Finds cells elements_text (Int (pos unit_id) ∷ []) old new (items found))
       → IfOk r (λ found. (ys : List ElementRow) × IsOrdered by_element (filter (λ (e : ElementRow). nat_eq unit_id e.unit) xs) ys × (items found ≡ map told ys))
-  elements_found =
-      select_finds v element elements_text of_unit elements_columns by_unit elements_names (Int (pos unit_id) ∷ []) (elements_means v) old new has element_row xs stored
-      (λ (e : ElementRow). nat_eq unit_id e.unit) (λ e. only (same_number e.unit unit_id)) (λ e. cells (told e)) (λ (e : ElementRow). Int (pos e.unit) ∷ Int (pos e.k) ∷ []) (λ _. refl)
-      by_element (λ _. refl) (λ a b. by_two_ints (pos a.unit) (pos b.unit) (pos a.k) (pos b.k)) cells items told (λ _. refl) r
+  elements_found finds =
+      IfOk-weaker r _ _ (λ found it. (
+        map (λ x. x.1) it.0,
+        kept_ordered element_row by_element (old.now.trees element.tree) xs at (λ (e : ElementRow). nat_eq unit_id e.unit) it.0 it.1,
+        it.2 ∙ sym (map-map told (λ (x : ℤ × ElementRow). x.1) it.0),
+      ))
+      (select_finds v element elements_text of_unit elements_columns by_unit elements_names (Int (pos unit_id) ∷ []) (elements_means v) old new has element_row at.numbered at.are
+      (λ (x : ℤ × ElementRow). nat_eq unit_id x.1.unit) (λ x. only (same_number x.1.unit unit_id)) (λ x. cells (told_of x)) (λ (x : ℤ × ElementRow). Int (pos x.1.unit) ∷ Int (pos x.1.k) ∷ []) (λ _. refl)
+      (λ x y. by_element x.1 y.1) (λ _. refl) (λ x y. by_two_ints (pos x.1.unit) (pos y.1.unit) (pos x.1.k) (pos y.1.k)) cells items told_of (λ _. refl) r finds)
 
   pub elements_faults : AllByRecursion (λ (e : ElementRow). IsUtf8 e.value) xs → IsUnlimited old → IfErr r (Misses cells (λ (e : Element). IsUtf8 e.value) elements_text (Int (pos unit_id) ∷ []) old new) → IfErr r (HasCause old new)
   elements_faults legible free =
-      select_faults v element elements_text of_unit elements_columns by_unit elements_names (Int (pos unit_id) ∷ []) (elements_means v) old new has element_row xs stored
-      (λ (e : ElementRow). nat_eq unit_id e.unit) (λ e. only (same_number e.unit unit_id)) (λ e. cells (told e)) (λ (e : ElementRow). Int (pos e.unit) ∷ Int (pos e.k) ∷ []) (λ _. refl)
-      by_element (λ _. refl) (λ a b. by_two_ints (pos a.unit) (pos b.unit) (pos a.k) (pos b.k)) cells items told (λ _. refl) (λ (e : Element). IsUtf8 e.value) refl free legible r
+      select_faults v element elements_text of_unit elements_columns by_unit elements_names (Int (pos unit_id) ∷ []) (elements_means v) old new has element_row at.numbered at.are
+      (λ (x : ℤ × ElementRow). nat_eq unit_id x.1.unit) (λ x. only (same_number x.1.unit unit_id)) (λ x. cells (told_of x)) (λ (x : ℤ × ElementRow). Int (pos x.1.unit) ∷ Int (pos x.1.k) ∷ []) (λ _. refl)
+      (λ x y. by_element x.1 y.1) (λ _. refl) (λ x y. by_two_ints (pos x.1.unit) (pos y.1.unit) (pos x.1.k) (pos y.1.k)) cells items told_of (λ _. refl) (λ (e : Element). IsUtf8 e.value) refl free
+      (all_numbered element_row (old.now.trees element.tree) xs at (λ (e : ElementRow). IsUtf8 e.value) legible) r

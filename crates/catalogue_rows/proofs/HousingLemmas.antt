@@ -1,45 +1,39 @@
 -- Containers of a unit that are told one after another.
 use Rattle.office_tables.specs.Schema as tables
-use Rattle.std.proofs.Common.{◌≡◌, ℕ, ◌+◌, List, [], ◌∷◌, ◌++◌, length, map, true, refl, sym, ap, ap₂, subst, ◌∙◌, arith}
+use Rattle.std.proofs.Common.{◌≡◌, ℕ, ℤ, ◌+◌, List, [], ◌∷◌, ◌++◌, length, map, true, refl, sym, ap, ap₂, subst, ◌∙◌, arith}
 use Rattle.std.specs.Prelude.{unwrap_or}
 use Rattle.std.specs.List.{list_any, list_all}
 use Rattle.std.proofs.lemmas.Bool.{and_parts}
 use Rattle.std.proofs.lemmas.List.{map-append, append_assoc}
 use Rattle.std.proofs.lemmas.List.Sorted.{IsPermutation-refl}
-use Rattle.sqlite.specs.Edit.{next_rowid, is_taken}
+use Rattle.sqlite.specs.Edit.{next_rowid}
 use Rattle.sqlite.specs.Effect.{Database}
-use Rattle.sqlite.specs.Tree.{Trees, put_row}
+use Rattle.sqlite.specs.Tree.{Trees}
 use Rattle.isad_core.specs.declared.values.BoxKey.{BoxKey}
 use Rattle.isad_core.specs.Boxes.{distinct, is_same}
 use Rattle.catalogue_rows.specs.Adding.{AreHoused, WithHousings}
 use Rattle.catalogue_core.specs.Describing.{with_boxes}
 use Rattle.catalogue_core.specs.Merging.{box_number}
-use Rattle.office_tables.specs.Put.{put_by}
 use Rattle.catalogue_rows.specs.Rows.{HousingRow, housing_row, counted_from}
 use Rattle.catalogue_rows.specs.Shows.{ShowsContainers}
 use Rattle.office_tables.specs.Step.{OnlyTouches, PutsRow}
-use Rattle.office_tables.proofs.Puts.{put_rows, put_rises, put_more, fresh_key}
+use Rattle.office_tables.proofs.numbered.OwnNumbers.{one_more, still_numbered}
 use Rattle.catalogue_rows.proofs.BoxNumbers.{all_apart, all_known, distinct_front, keeps_number, one_apart}
 
-abbrev new_row : Trees → ℕ → ℕ → ℕ → HousingRow
-new_row db unit ord container = record { row = next_rowid (db 20); unit = unit; ord = ord; container = container }
+abbrev new_row : Trees → ℕ → ℕ → ℕ → ℤ × HousingRow
+new_row db unit ord container = (next_rowid (db 20), record { unit = unit; ord = ord; container = container })
 
 -- one row is put
 one_housing : (old new : Database) (unit ord container : ℕ) (boxes : List BoxKey) (xs : List HousingRow) → AreHoused old.trees boxes xs → PutsRow 20 (housing_row (new_row old.trees unit ord container)) old new
     → (ys : List HousingRow) × AreHoused new.trees boxes ys × WithHousings unit ((ord, container) ∷ []) xs ys
 one_housing old new unit ord container boxes xs at puts =
-    let key = λ (h : HousingRow). h.row in
-    let row = new_row old.trees unit ord container in
-    let ys = put_by key row xs in
-    let there : AreHoused new.trees boxes ys = record {
+    let row : HousingRow = record { unit = unit; ord = ord; container = container } in
+    let there : AreHoused new.trees boxes (row ∷ xs) = record {
       containers = puts.only tables.container.tree refl refl ∙ at.containers;
       apart = at.apart;
-      rows = puts.rows ∙ ap (put_row (housing_row row)) at.rows ∙ put_rows housing_row key (λ _. refl) row xs;
-      rise = put_rises housing_row key (λ _. refl) row xs at.rise;
+      rows = one_more housing_row (λ _. refl) (old.trees 20) (new.trees 20) xs (next_rowid (old.trees 20)) row at.rows puts.rows puts.fresh;
     } in
-    let free = fresh_key housing_row key (λ _. refl) row xs (ap (λ rows. is_taken rows (housing_row row)) (sym at.rows) ∙ puts.fresh) in
-    let more : WithHousings unit ((ord, container) ∷ []) xs ys = record { more = row ∷ []; are = put_more key row xs free; tell = IsPermutation-refl ((ord, container) ∷ []); theirs = (refl, tt) } in
-    (ys, there, more)
+    (row ∷ xs, there, record { more = row ∷ []; are = IsPermutation-refl (row ∷ xs); tell = IsPermutation-refl ((ord, container) ∷ []); theirs = (refl, tt) })
 
 -- a container is numbered, and then the unit lies in it
 pub housed : (old mid new : Database) (unit ord n : ℕ) (key : BoxKey) (boxes : List BoxKey) (xs : List HousingRow) → AreHoused old.trees boxes xs
@@ -50,8 +44,7 @@ housed old mid new unit ord n key boxes xs at numbered kept puts =
     let there : AreHoused mid.trees all xs = record {
       containers = numbered.1;
       apart = one_apart boxes key at.apart;
-      rows = kept tables.housing.tree refl refl ∙ at.rows;
-      rise = at.rise;
+      rows = still_numbered housing_row (old.trees 20) (mid.trees 20) xs (kept tables.housing.tree refl refl) at.rows;
     } in
     let it = one_housing mid new unit ord n all xs there puts in
     (it.0, it.1, subst (λ m. WithHousings unit ((ord, m) ∷ []) xs it.0) numbered.0 it.2)

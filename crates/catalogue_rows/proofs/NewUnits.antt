@@ -164,7 +164,6 @@ shows_added v shows old new o c parent u it next there knows wrote =
         elements = record {
           elements = made.elements;
           rows = made.texts.rows;
-          rise = made.texts.rise;
           are = elements_still u parent f many new_id at.elements.elements made.elements texts at.elements.are;
           others = all_theirs (λ (e : ElementRow). e.unit) cell_of (λ n. has (has_id n) grown ≡ true) u.id (element_cells u.values) at.elements.elements made.elements (own_here u parent f many new_id)
               (all_weaker (λ (e : ElementRow). has (has_id e.unit) f ≡ true) (λ (e : ElementRow). has (has_id e.unit) grown ≡ true) (λ e h. still_here u parent f many new_id e.unit h) at.elements.elements at.elements.others) texts;
@@ -173,7 +172,6 @@ shows_added v shows old new o c parent u it next there knows wrote =
         housings = record {
           housings = made.housings;
           rows = made.housed.rows;
-          rise = made.housed.rise;
           are = housings_still u parent f many new_id c.containers boxes at.housings.housings made.housings (λ x known. same_cells c.containers u.values.boxes x.values.boxes 1 knows.apart known) housed knows.known at.housings.are;
           others = all_theirs (λ (h : HousingRow). h.unit) housing_cell (λ n. has (has_id n) grown ≡ true) u.id (housing_cells boxes u.values) at.housings.housings made.housings (own_here u parent f many new_id)
               (all_weaker (λ (h : HousingRow). has (has_id h.unit) f ≡ true) (λ (h : HousingRow). has (has_id h.unit) grown ≡ true) (λ h k. still_here u parent f many new_id h.unit k) at.housings.housings at.housings.others) housed;

@@ -9,6 +9,7 @@ use Rattle.std.proofs.lemmas.List.Sorted.{IsPermutation-map}
 use Rattle.std.proofs.lemmas.List.{map-append}
 use Rattle.sqlite.specs.Effect.{Database}
 use Rattle.sqlite.specs.Tree.{Trees}
+use Rattle.office_tables.proofs.numbered.OwnNumbers.{still_numbered}
 use Rattle.sqlite_trees.proofs.ListLemmas.{all-append, ascending-map, ascending_weaker, all_weaker}
 use Rattle.tree_core.specs.Forest.{Forest, Empty, Node, nodes, each, has, tree, branch}
 use Rattle.catalogue_core.specs.Bounds.{IsBounded}
@@ -17,7 +18,7 @@ use Rattle.catalogue_core.specs.Units.{Unit, has_id}
 use Rattle.catalogue_core.specs.Merging.{Catalogue}
 use Rattle.office_tables.specs.Order.{Rises}
 use Rattle.catalogue_core.specs.Statuses.{with_status, is_chosen, chosen_units}
-use Rattle.catalogue_rows.specs.Rows.{unit_row, by_number, ElementRow, HousingRow}
+use Rattle.catalogue_rows.specs.Rows.{unit_row, by_number, ElementRow, HousingRow, element_row, housing_row}
 use Rattle.catalogue_rows.specs.Shows.{Shows, element_cells, elements_of, housing_cells, housings_of}
 use Rattle.office_tables.specs.Step.{HasRows}
 use Rattle.catalogue_rows.specs.declared.office.OfficeRow.{OfficeRow}
@@ -68,8 +69,7 @@ module _ (g : Unit → Unit) (same_id : (u : Unit) → (g u).id ≡ u.id) where
             };
             elements = record {
               elements = at.elements.elements;
-              rows = kept tables.element.tree refl refl ∙ at.elements.rows;
-              rise = at.elements.rise;
+              rows = still_numbered element_row (old.trees 16) (new.trees 16) at.elements.elements (kept tables.element.tree refl refl) at.elements.rows;
               are = subst (AllByRecursion (λ (u : Unit). IsPermutation (element_cells u.values) (elements_of u.id at.elements.elements))) (sym (nodes_each g f))
                   (all_map g (λ (u : Unit). IsPermutation (element_cells u.values) (elements_of u.id at.elements.elements)) (λ (u : Unit). IsPermutation (element_cells u.values) (elements_of u.id at.elements.elements))
                   (λ u h. rw (same_id u, same_values u) h) (nodes f) at.elements.are);
@@ -78,8 +78,7 @@ module _ (g : Unit → Unit) (same_id : (u : Unit) → (g u).id ≡ u.id) where
             containers = kept tables.container.tree refl refl ∙ at.containers;
             housings = record {
               housings = at.housings.housings;
-              rows = kept tables.housing.tree refl refl ∙ at.housings.rows;
-              rise = at.housings.rise;
+              rows = still_numbered housing_row (old.trees 20) (new.trees 20) at.housings.housings (kept tables.housing.tree refl refl) at.housings.rows;
               are = subst (AllByRecursion (λ (u : Unit). IsPermutation (housing_cells c.containers u.values) (housings_of u.id at.housings.housings))) (sym (nodes_each g f))
                   (all_map g (λ (u : Unit). IsPermutation (housing_cells c.containers u.values) (housings_of u.id at.housings.housings)) (λ (u : Unit). IsPermutation (housing_cells c.containers u.values) (housings_of u.id at.housings.housings))
                   (λ u h. rw (same_id u, same_values u) h) (nodes f) at.housings.are);

@@ -1,35 +1,29 @@
 -- Texts that are added one after another.
-use Rattle.std.proofs.Common.{◌≡◌, ℕ, ◌+◌, ◌<◌, get_or, List, [], ◌∷◌, ◌++◌, length, map, Option, Some, None, take, refl, sym, ap, ◌∙◌, arith}
+use Rattle.std.proofs.Common.{◌≡◌, ℕ, ℤ, ◌+◌, ◌<◌, get_or, List, [], ◌∷◌, ◌++◌, length, map, Option, Some, None, take, refl, sym, ap, ◌∙◌, arith}
 use Rattle.std.proofs.lemmas.List.{map-append, take_more, length-take-le}
 use Rattle.std.proofs.lemmas.List.Sorted.{IsPermutation-refl}
-use Rattle.sqlite.specs.Edit.{next_rowid, is_taken}
+use Rattle.sqlite.specs.Edit.{next_rowid}
 use Rattle.sqlite.specs.Effect.{Database}
-use Rattle.sqlite.specs.Tree.{Trees, put_row}
+use Rattle.sqlite.specs.Tree.{Trees}
 use Rattle.isad_core.specs.Texts.{Bytes}
 use Rattle.catalogue_rows.specs.Adding.{text_cells, WithTexts, AreElements}
-use Rattle.office_tables.specs.Put.{put_by}
 use Rattle.catalogue_rows.specs.Rows.{ElementRow, element_row}
 use Rattle.catalogue_rows.specs.Shows.{texts_from, element_number}
 use Rattle.office_tables.specs.Step.{PutsRow}
-use Rattle.office_tables.proofs.Puts.{put_rows, put_rises, put_more, fresh_key}
+use Rattle.office_tables.proofs.numbered.OwnNumbers.{one_more}
 
-abbrev new_row : Trees → ℕ → ℕ → Bytes → ElementRow
-new_row db unit k value = record { row = next_rowid (db 16); unit = unit; k = k; value = value }
+abbrev new_row : Trees → ℕ → ℕ → Bytes → ℤ × ElementRow
+new_row db unit k value = (next_rowid (db 16), record { unit = unit; k = k; value = value })
 
 -- one row is put
 pub one_element : (old new : Database) (unit k : ℕ) (value : Bytes) (xs : List ElementRow) → AreElements old.trees xs → PutsRow 16 (element_row (new_row old.trees unit k value)) old new
     → (ys : List ElementRow) × AreElements new.trees ys × WithTexts unit ((k, value) ∷ []) xs ys
 one_element old new unit k value xs at puts =
-    let key = λ (e : ElementRow). e.row in
-    let row = new_row old.trees unit k value in
-    let ys = put_by key row xs in
-    let there : AreElements new.trees ys = record {
-      rows = puts.rows ∙ ap (put_row (element_row row)) at.rows ∙ put_rows element_row key (λ _. refl) row xs;
-      rise = put_rises element_row key (λ _. refl) row xs at.rise;
-    } in
-    let free = fresh_key element_row key (λ _. refl) row xs (ap (λ rows. is_taken rows (element_row row)) (sym at.rows) ∙ puts.fresh) in
-    let more : WithTexts unit ((k, value) ∷ []) xs ys = record { more = row ∷ []; are = put_more key row xs free; tell = IsPermutation-refl ((k, value) ∷ []); theirs = (refl, tt) } in
-    (ys, there, more)
+    let row : ElementRow = record { unit = unit; k = k; value = value } in (
+      row ∷ xs,
+      record { rows = one_more element_row (λ _. refl) (old.trees 16) (new.trees 16) xs (next_rowid (old.trees 16)) row at.rows puts.rows puts.fresh },
+      record { more = row ∷ []; are = IsPermutation-refl (row ∷ xs); tell = IsPermutation-refl ((k, value) ∷ []); theirs = (refl, tt) },
+    )
 
 texts_more : (k : ℕ) (texts : List (Option Bytes)) (text : Option Bytes) → texts_from k (texts ++ text ∷ []) ≡ texts_from k texts ++ texts_from (k + length texts) (text ∷ [])
 texts_more k [] text = ap (λ n. texts_from n (text ∷ [])) (omega arith)

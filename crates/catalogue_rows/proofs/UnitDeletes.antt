@@ -189,16 +189,18 @@ module _ (old new : Database) (id : ℕ) (units : List Unit) (u : Unit) (v : Ver
   pub remove_unit_removes : AreRemoved (id ∷ []) old new
   remove_unit_removes = record {
     units = λ xs from rise. to_new tables.unit.tree refl refl ∙ to_second tables.unit.tree refl refl ∙ to_first tables.unit.tree refl refl ∙ units_left xs from rise;
-    elements = λ xs from rise.
-        let at = to_first tables.element.tree refl refl ∙ to_next tables.element.tree refl refl ∙ from in
-        to_new tables.element.tree refl refl
-        ∙ cascade_rows (schema v) Enforced (work_on element 1 u) element_row (λ e. e.row) (λ _. refl) first second xs at rise (λ e. nat_eq u.id e.unit) (λ e. child_is element 1 u e.unit (element_row e) refl) cascade.3
-        ∙ ap (map element_row) (same_test_as (λ (e : ElementRow). e.unit) xs);
-    housings = λ xs from rise.
-        let at = to_next tables.housing.tree refl refl ∙ from in
-        to_new tables.housing.tree refl refl ∙ to_second tables.housing.tree refl refl
-        ∙ cascade_rows (schema v) Enforced (work_on housing 1 u) housing_row (λ h. h.row) (λ _. refl) it.next first xs at rise (λ h. nat_eq u.id h.unit) (λ h. child_is housing 1 u h.unit (housing_row h) refl) cascade.2
-        ∙ ap (map housing_row) (same_test_as (λ (h : HousingRow). h.unit) xs);
+    elements = λ xs has.
+        let at = to_first tables.element.tree refl refl ∙ to_next tables.element.tree refl refl ∙ has.are in
+        subst (HasNumbered element_row (new.trees 16)) (same_test_as (λ (e : ElementRow). e.unit) xs)
+        (those_left element_row (old.trees 16) (new.trees 16) xs has (λ (e : ElementRow). nat_eq u.id e.unit)
+        (to_new tables.element.tree refl refl
+        ∙ cascade_rows (schema v) Enforced (work_on element 1 u) element_row (λ e. e.0) (λ _. refl) first second has.numbered at has.rise (λ e. nat_eq u.id e.1.unit) (λ e. child_is element 1 u e.1.unit (element_row e) refl) cascade.3));
+    housings = λ xs has.
+        let at = to_next tables.housing.tree refl refl ∙ has.are in
+        subst (HasNumbered housing_row (new.trees 20)) (same_test_as (λ (h : HousingRow). h.unit) xs)
+        (those_left housing_row (old.trees 20) (new.trees 20) xs has (λ (h : HousingRow). nat_eq u.id h.unit)
+        (to_new tables.housing.tree refl refl ∙ to_second tables.housing.tree refl refl
+        ∙ cascade_rows (schema v) Enforced (work_on housing 1 u) housing_row (λ h. h.0) (λ _. refl) it.next first has.numbered at has.rise (λ h. nat_eq u.id h.1.unit) (λ h. child_is housing 1 u h.1.unit (housing_row h) refl) cascade.2));
     permits = λ xs has.
         let at = to_second tables.permit.tree refl refl ∙ to_first tables.permit.tree refl refl ∙ to_next tables.permit.tree refl refl ∙ has.are in
         subst (HasNumbered permit_cells (new.trees 10)) (same_test_as (λ (p : PermitRow). p.unit) xs)

@@ -65,11 +65,9 @@ told_after gone old new told removed = record {
   unit_rows = removed.units told.units told.unit_rows told.units_rise;
   units_rise = ascending-filter _ _ told.units told.units_rise;
   elements = without (λ (e : ElementRow). e.unit) gone told.elements;
-  element_rows = removed.elements told.elements told.element_rows told.elements_rise;
-  elements_rise = ascending-filter _ _ told.elements told.elements_rise;
+  element_rows = removed.elements told.elements told.element_rows;
   housings = without (λ (h : HousingRow). h.unit) gone told.housings;
-  housing_rows = removed.housings told.housings told.housing_rows told.housings_rise;
-  housings_rise = ascending-filter _ _ told.housings told.housings_rise;
+  housing_rows = removed.housings told.housings told.housing_rows;
   permits = without (λ (p : PermitRow). p.unit) gone told.permits;
   permit_rows = removed.permits told.permits told.permit_rows;
 }
@@ -91,23 +89,10 @@ module _ (v : Version) (place : ℕ) where
       ∙ (λ i. list_any (λ u. same u i) units))
 
   -- where all rows had their units before, those that are left have them still
-  children_left : {A : Type 0} (row : A → Row) (number : A → ℕ) → ((x : A) → column (row x) place ≡ Int (pos (number x))) → (gone : List ℕ) (old new : Trees) (units : List Unit)
-      → old 14 ≡ map unit_row units → new 14 ≡ map unit_row (without id_of gone units) → (tree : ℕ) (xs : List A) → old tree ≡ map row xs → new tree ≡ map row (without number gone xs)
-      → AllByRecursion (λ r. (has_parent (schema v).tables old r (to_unit place) && true) ≡ true) (old tree) → AllByRecursion (λ r. (has_parent (schema v).tables new r (to_unit place) && true) ≡ true) (new tree)
-  children_left row number tells gone old new units was now tree xs before after all =
-      let P = λ (r : Row). (has_parent (schema v).tables old r (to_unit place) && true) ≡ true in
-      let Q = λ (r : Row). (has_parent (schema v).tables new r (to_unit place) && true) ≡ true in
-      subst (AllByRecursion Q) (sym after) (all-map Q row (without number gone xs)
-      (all_kept (λ x. P (row x)) (λ x. Q (row x)) (λ x. list_any (nat_eq (number x)) gone) xs
-      (λ x apart h. ap (λ b. b && true) (parent_of new (without id_of gone units) now (row x) (number x) (tells x)
-      ∙ still_listed (number x) gone units apart (sym (parent_of old units was (row x) (number x) (tells x)) ∙ (and_parts _ _ h).0)))
-      (all_from_map P row xs (subst (AllByRecursion P) before all))))
-
-  -- the same of rows with numbers of their own
-  numbered_left : {R : Type 0} (cells : ℤ × R → Row) (number : R → ℕ) → ((x : ℤ × R) → column (cells x) place ≡ Int (pos (number x.1))) → (gone : List ℕ) (old new : Trees) (units : List Unit)
+  children_left : {R : Type 0} (cells : ℤ × R → Row) (number : R → ℕ) → ((x : ℤ × R) → column (cells x) place ≡ Int (pos (number x.1))) → (gone : List ℕ) (old new : Trees) (units : List Unit)
       → old 14 ≡ map unit_row units → new 14 ≡ map unit_row (without id_of gone units) → (tree : ℕ) (xs : List R) → HasNumbered cells (old tree) xs → HasNumbered cells (new tree) (without number gone xs)
       → AllByRecursion (λ r. (has_parent (schema v).tables old r (to_unit place) && true) ≡ true) (old tree) → AllByRecursion (λ r. (has_parent (schema v).tables new r (to_unit place) && true) ≡ true) (new tree)
-  numbered_left {R} cells number tells gone old new units was now tree xs before after all =
+  children_left {R} cells number tells gone old new units was now tree xs before after all =
       let P = λ (r : Row). (has_parent (schema v).tables old r (to_unit place) && true) ≡ true in
       let Q = λ (r : Row). (has_parent (schema v).tables new r (to_unit place) && true) ≡ true in
       let named = λ (us : List Unit) (x : R). list_any (λ (u : Unit). nat_eq (number x) u.id) us ≡ true in
@@ -136,17 +121,17 @@ parents_left v old new gone told keeps removed =
               (
                 free 8,
                 (
-                  numbered_left v 2 permit_cells (λ p. p.unit) (λ _. refl) gone old.trees new.trees told.units told.unit_rows now 10 told.permits told.permit_rows (removed.permits told.permits told.permit_rows) keeps.1.1.1.1.1.1.0,
+                  children_left v 2 permit_cells (λ p. p.unit) (λ _. refl) gone old.trees new.trees told.units told.unit_rows now 10 told.permits told.permit_rows (removed.permits told.permits told.permit_rows) keeps.1.1.1.1.1.1.0,
                   (
                     free 13,
                     (
                       free 14,
                       (
-                        children_left v 1 element_row (λ e. e.unit) (λ _. refl) gone old.trees new.trees told.units told.unit_rows now 16 told.elements told.element_rows (removed.elements told.elements told.element_rows told.elements_rise) keeps.1.1.1.1.1.1.1.1.1.0,
+                        children_left v 1 element_row (λ e. e.unit) (λ _. refl) gone old.trees new.trees told.units told.unit_rows now 16 told.elements told.element_rows (removed.elements told.elements told.element_rows) keeps.1.1.1.1.1.1.1.1.1.0,
                         (
                           free 18,
                           (
-                            children_left v 1 housing_row (λ h. h.unit) (λ _. refl) gone old.trees new.trees told.units told.unit_rows now 20 told.housings told.housing_rows (removed.housings told.housings told.housing_rows told.housings_rise) keeps.1.1.1.1.1.1.1.1.1.1.1.0,
+                            children_left v 1 housing_row (λ h. h.unit) (λ _. refl) gone old.trees new.trees told.units told.unit_rows now 20 told.housings told.housing_rows (removed.housings told.housings told.housing_rows) keeps.1.1.1.1.1.1.1.1.1.1.1.0,
                             (
                               last v,
                               tt,

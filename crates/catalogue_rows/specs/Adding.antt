@@ -1,13 +1,12 @@
 -- Texts and containers of a unit that are added to their tables.
 use Rattle.std.specs.Prelude.{◌≡◌, ℕ, true, List, [], ◌∷◌, ◌++◌, map, Option, IsPermutation}
 use Rattle.std.specs.List.{AllByRecursion, list_any}
-use Rattle.std.specs.Ordering.{int_cmp}
 use Rattle.sqlite.specs.Tree.{Trees}
 use Rattle.isad_core.specs.Texts.{Bytes}
 use Rattle.isad_core.specs.declared.values.BoxKey.{BoxKey}
 use Rattle.isad_core.specs.declared.values.Values.{Values}
 use Rattle.isad_core.specs.Boxes.{distinct}
-use Rattle.office_tables.specs.Order.{Rises}
+use Rattle.office_tables.specs.Numbered.{HasNumbered}
 use Rattle.catalogue_rows.specs.Rows.{unit_row, ElementRow, element_row, HousingRow, housing_row}
 use Rattle.catalogue_rows.specs.Shows.{ShowsContainers, texts_from, element_number, element_cells, housing_cells}
 use Rattle.catalogue_core.specs.Units.{Unit, has_id}
@@ -41,8 +40,7 @@ WithTexts = WithCells (λ (e : ElementRow). e.unit) cell_of
 
 -- the table's rows are these
 pub record AreElements (db : Trees) (xs : List ElementRow) : Type 0 where
-  pub rows : db 16 ≡ map element_row xs
-  pub rise : Rises (λ a b. int_cmp a.row b.row) xs
+  pub rows : HasNumbered element_row (db 16) xs
 
 -- ---- containers
 
@@ -57,8 +55,7 @@ WithHousings = WithCells (λ (h : HousingRow). h.unit) housing_cell
 pub record AreHoused (db : Trees) (boxes : List BoxKey) (xs : List HousingRow) : Type 0 where
   pub containers : ShowsContainers db boxes
   pub apart : distinct boxes ≡ boxes
-  pub rows : db 20 ≡ map housing_row xs
-  pub rise : Rises (λ a b. int_cmp a.row b.row) xs
+  pub rows : HasNumbered housing_row (db 20) xs
 
 -- ---- both
 

@@ -6,13 +6,13 @@ use Rattle.std.specs.Ordering.{int_cmp, ordering_then}
 use Rattle.sqlite.specs.declared.types.Value.TheVariants.{Null, Int, Text}
 use Rattle.sqlite.specs.Order.{Row}
 use Rattle.sqlite.specs.Values.{or_null}
-use Rattle.isad_core.specs.Texts.{Bytes}
 use Rattle.isad_core.specs.declared.values.BoxKey.{BoxKey}
 use Rattle.tree_core.specs.declared.rows.Link.{Link}
 use Rattle.tree_core.specs.Versions.{Version}
 use Rattle.catalogue_core.specs.Units.{Unit}
 use Rattle.catalogue_rows.specs.declared.office.OfficeRow.{OfficeRow}
 pub use Rattle.tree_core.specs.Versions.{version_number}
+pub use Rattle.catalogue_core.specs.CatalogueRows.{ElementRow, HousingRow}
 pub use Rattle.office_tables.specs.Flags.{flag}
 
 -- ---- office
@@ -39,15 +39,8 @@ by_number a b = int_cmp (pos a.id) (pos b.id)
 
 -- ---- elements, whose rows have a number of their own that tells nothing
 
--- a text of a unit: k is the element's number in the standard's order, 1 to 26 without 4
-pub record ElementRow : Type 0 where
-  pub row : ℤ
-  pub unit : ℕ
-  pub k : ℕ
-  pub value : Bytes
-
-abbrev pub element_row : ElementRow → Row
-element_row e = Int e.row ∷ Int (pos e.unit) ∷ Int (pos e.k) ∷ Text e.value ∷ []
+abbrev pub element_row : ℤ × ElementRow → Row
+element_row (n, e) = Int n ∷ Int (pos e.unit) ∷ Int (pos e.k) ∷ Text e.value ∷ []
 
 -- by their unit, then by their number in the standard
 abbrev pub by_element : ElementRow → ElementRow → Ordering
@@ -65,17 +58,10 @@ abbrev pub counted_from : {A : Type 0} → ℕ → List A → List (ℕ × A)
 counted_from n [] = []
 counted_from n (x ∷ xs) = (n, x) ∷ counted_from (n + 1) xs
 
--- ---- housing
+-- ---- housing, whose rows have a number of their own that tells nothing
 
--- a container of a unit, at its place in the unit's order from 1
-pub record HousingRow : Type 0 where
-  pub row : ℤ
-  pub unit : ℕ
-  pub ord : ℕ
-  pub container : ℕ
-
-abbrev pub housing_row : HousingRow → Row
-housing_row h = Int h.row ∷ Int (pos h.unit) ∷ Int (pos h.ord) ∷ Int (pos h.container) ∷ []
+abbrev pub housing_row : ℤ × HousingRow → Row
+housing_row (n, h) = Int n ∷ Int (pos h.unit) ∷ Int (pos h.ord) ∷ Int (pos h.container) ∷ []
 
 -- by their unit, then by their place
 abbrev pub by_housing : HousingRow → HousingRow → Ordering

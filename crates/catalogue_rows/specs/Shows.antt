@@ -2,7 +2,6 @@
 use Rattle.std.specs.Prelude.{◌≡◌, ℕ, zero, suc, ◌+◌, nat_eq, true, List, [], ◌∷◌, map, filter, Option, Some, None, IsPermutation}
 use Rattle.std.specs.List.{AllByRecursion}
 use Rattle.std.proofs.Common.{◌∙◌}
-use Rattle.std.specs.Ordering.{int_cmp}
 use Rattle.sqlite.specs.Effect.{Database}
 use Rattle.sqlite.specs.Tree.{Trees}
 use Rattle.isad_core.specs.Texts.{Bytes}
@@ -15,6 +14,7 @@ use Rattle.tree_core.specs.Versions.{Version}
 use Rattle.office_tables.specs.Schema.{schema}
 use Rattle.catalogue_core.specs.Units.{Unit, has_id}
 use Rattle.catalogue_core.specs.Merging.{Catalogue, box_number}
+use Rattle.office_tables.specs.Numbered.{HasNumbered}
 use Rattle.office_tables.specs.Order.{Rises}
 use Rattle.catalogue_rows.specs.Rows.{office_row, unit_row, by_number, ElementRow, element_row, container_row, counted_from, HousingRow, housing_row, link_row, by_id}
 use Rattle.catalogue_rows.specs.declared.office.OfficeRow.{OfficeRow}
@@ -54,8 +54,7 @@ elements_of u elements = map (λ e. (e.k, e.value)) (filter (λ e. nat_eq u e.un
 -- a row for each text of each unit
 pub record ShowsElements (db : Trees) (f : Forest Unit) : Type 0 where
   pub elements : List ElementRow
-  pub rows : db 16 ≡ map element_row elements
-  pub rise : Rises (λ a b. int_cmp a.row b.row) elements
+  pub rows : HasNumbered element_row (db 16) elements
   pub are : AllByRecursion (λ u. IsPermutation (element_cells u.values) (elements_of u.id elements)) (nodes f)
   pub others : AllByRecursion (λ e. has (has_id e.unit) f ≡ true) elements
 
@@ -74,8 +73,7 @@ housings_of u housings = map (λ h. (h.ord, h.container)) (filter (λ h. nat_eq 
 -- a row for each container of each unit, at its place in the unit's order from 1
 pub record ShowsHousings (db : Trees) (f : Forest Unit) (containers : List BoxKey) : Type 0 where
   pub housings : List HousingRow
-  pub rows : db 20 ≡ map housing_row housings
-  pub rise : Rises (λ a b. int_cmp a.row b.row) housings
+  pub rows : HasNumbered housing_row (db 20) housings
   pub are : AllByRecursion (λ u. IsPermutation (housing_cells containers u.values) (housings_of u.id housings)) (nodes f)
   pub others : AllByRecursion (λ h. has (has_id h.unit) f ≡ true) housings
 

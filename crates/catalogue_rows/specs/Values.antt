@@ -1,10 +1,11 @@
 -- When the tables tell the values of units, in either version.
-use Rattle.std.specs.Prelude.{◌≡◌, ℕ, List, map, length, IsPermutation}
+use Rattle.std.specs.Prelude.{◌≡◌, ℕ, List, length, IsPermutation}
 use Rattle.sqlite.specs.Effect.{Database}
 use Rattle.isad_core.specs.declared.values.Values.{«Values» as Description}
 use Rattle.tree_core.specs.Versions.{Version}
 use Rattle.catalogue_core.specs.Describing.{HasAllPlaces}
 use Rattle.catalogue_core.specs.Merging.{Catalogue}
+use Rattle.office_tables.specs.Numbered.{HasNumbered}
 use Rattle.office_tables.specs.Schema as tables
 use Rattle.catalogue_rows.specs.Rows.{ElementRow, element_row}
 use Rattle.catalogue_rows.specs.Shows.{ShowsCatalogue, element_cells, elements_of}
@@ -18,6 +19,6 @@ pub record ShowsValues (db : Database) (o : OfficeRow) (c : Catalogue) : Type 0 
 
 -- these rows tell the texts of the unit with this number, which has a place for each
 pub record TellsTexts (unit : ℕ) (db : Database) (values : Description) (xs : List ElementRow) : Type 0 where
-  pub rows : db.trees tables.element.tree ≡ map element_row xs
+  pub rows : HasNumbered element_row (db.trees tables.element.tree) xs
   pub places : length values.texts ≡ 25
   pub are : IsPermutation (element_cells values) (elements_of unit xs)

@@ -1,11 +1,12 @@
 //! The row of the office: its settings, its day and its next unit number.
 
-ghost use Rattle.std.specs.Prelude.{◌≡◌, ◌<◌, ◌^◌, ℕ, List, [], ◌∷◌, length, OnOk, IfOk};
+ghost use Rattle.std.specs.Prelude.{◌≡◌, ℕ, List, [], ◌∷◌, length, OnOk, IfOk};
 ghost use Rattle.isad_core.specs.declared.values.BoxKey.{BoxKey};
 ghost use Rattle.sqlite.specs.Held.{state};
 ghost use Rattle.sqlite.specs.State.{HasCleanDisk};
 ghost use Rattle.tree_core.specs.Versions.{Version};
 ghost use Rattle.catalogue_core.specs.Units.{«Unit» as Described};
+ghost use Rattle.isad_core.specs.Limits.{IsNumber};
 ghost use Rattle.office_tables.specs.Asking.{Reads};
 ghost use Rattle.office_tables.specs.Changing.{Leaves};
 ghost use Rattle.office_tables.specs.Counting.{capped};
@@ -47,7 +48,7 @@ pub struct OfficeRow {
 /// Writes the number of the next new unit.
 pub fn set_next_unit<S: Alter>(conn: &mut Connection<S>, next: u64) -> Result<(), StoreFault>
     requires inside { InOffice (state S.Store conn.old) }
-    requires small { next < 2 ^ 63 }
+    requires small { IsNumber next }
     ensures leaves { Leaves (state S.Store conn.old) (state S.Store conn.new) result }
     ensures rows { HasCleanDisk (state S.Store conn.new)
         → (version : Version) (o : OfficeRow) → ShowsOffice version (state S.Store conn.old).now.trees o

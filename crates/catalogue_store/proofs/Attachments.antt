@@ -63,7 +63,7 @@ same_order a b = grind (arith, ints)
 units_sorted : (ys : List HousingRow) → IsSorted by_housing ys → IsSorted nat_cmp (map (λ (h : HousingRow). h.unit) ys)
 units_sorted ys up = λ k d low high.
     let unit = λ (h : HousingRow). h.unit in
-    let e : HousingRow = record { row = pos 0; unit = d; ord = 0; container = 0 } in
+    let e : HousingRow = record { unit = d; ord = 0; container = 0 } in
     let long = length-map ys unit in
     let high' : k + 1 < length ys = omega arith in
     let low' : k < length ys = omega arith in

@@ -9,13 +9,14 @@ use Rattle.tree_core.specs.Forest.{Forest, Empty}
 use Rattle.office_tables.specs.Creation.{HasMade}
 use Rattle.tree_core.specs.Versions.{Version}
 use Rattle.office_tables.specs.Schema.{schema, desk_tables}
-use Rattle.catalogue_rows.specs.Rows.{office_row}
+use Rattle.catalogue_rows.specs.Rows.{office_row, element_row, housing_row}
 use Rattle.catalogue_rows.specs.Shows.{Shows}
 use Rattle.office_tables.specs.Step.{PutsRow}
+use Rattle.office_tables.proofs.numbered.OwnNumbers.{none_there}
 use Rattle.catalogue_rows.specs.declared.office.OfficeRow.{OfficeRow}
 
-pub shows_beginning : (v : Version) (shows : Trees → Forest ℕ → Type 0) → ((old new : Trees) (f : Forest ℕ) → new 24 ≡ old 24 → shows old f → shows new f)
-    → (start mid new : Database) (o : OfficeRow) → HasMade desk_tables (schema v) start mid → new.schema ≡ mid.schema → PutsRow 13 (office_row v o) mid new → shows mid.trees Empty
+pub shows_beginning : (v : Version) (shows : Trees → Forest ℕ → Type 0) → ((old new : Trees) (f : Forest ℕ) → new tables.link.tree ≡ old tables.link.tree → shows old f → shows new f)
+    → (start mid new : Database) (o : OfficeRow) → HasMade desk_tables (schema v) start mid → new.schema ≡ mid.schema → PutsRow tables.office.tree (office_row v o) mid new → shows mid.trees Empty
     → Shows shows v new o (record { forest = Empty; containers = []; next = o.next_unit })
 shows_beginning v shows same start mid new o made schema_is puts placed =
     let none = made.empty in
@@ -26,14 +27,14 @@ shows_beginning v shows same start mid new o made schema_is puts placed =
         office = puts.rows ∙ ap (put_row (office_row v o)) none.0;
         next = refl;
         units = record { units = []; rows = kept tables.unit.tree refl refl ∙ none.1.0; rise = tt; are = IsPermutation-refl [] };
-        elements = record { elements = []; rows = kept tables.element.tree refl refl ∙ none.1.1.0; rise = tt; are = tt; others = tt };
+        elements = record { elements = []; rows = none_there element_row (new.trees 16) (kept tables.element.tree refl refl ∙ none.1.1.0); are = tt; others = tt };
         containers = kept tables.container.tree refl refl ∙ none.1.1.1.0;
-        housings = record { housings = []; rows = kept tables.housing.tree refl refl ∙ none.1.1.1.1.0; rise = tt; are = tt; others = tt };
+        housings = record { housings = []; rows = none_there housing_row (new.trees 20) (kept tables.housing.tree refl refl ∙ none.1.1.1.1.0); are = tt; others = tt };
       };
       shown = same mid.trees new.trees Empty (kept tables.link.tree refl refl) placed;
     }
 
-pub desk_kept : (v : Version) (start mid new : Database) (o : OfficeRow) → HasMade desk_tables (schema v) start mid → PutsRow 13 (office_row v o) mid new → KeepsRows desk_tables start.trees new.trees
+pub desk_kept : (v : Version) (start mid new : Database) (o : OfficeRow) → HasMade desk_tables (schema v) start mid → PutsRow tables.office.tree (office_row v o) mid new → KeepsRows desk_tables start.trees new.trees
 desk_kept v start mid new o made puts =
     let kept = made.kept in
     let only = puts.only in

@@ -1,5 +1,5 @@
 -- The worked catalogue is within the limits, and its tables show it.
-use Rattle.std.proofs.Common.{◌≡◌, ℕ, zero, suc, [], ◌∷◌, true, Option, None, replicate, codes, lit≤, IfSome, IsUtf8, refl, arith}
+use Rattle.std.proofs.Common.{◌≡◌, map, ℕ, zero, suc, [], ◌∷◌, true, Option, None, replicate, codes, lit≤, IfSome, IsUtf8, refl, arith}
 use Rattle.std.specs.List.{AllByRecursion, IsDistinct}
 use Rattle.std.specs.Str.{is_utf8, chars}
 use lib.Utf8.{encode}
@@ -62,14 +62,13 @@ worked_shown = record {
     next = refl;
     units = record { units = fonds ∷ series ∷ []; rows = refl; rise = ((refl, tt), (tt, tt)); are = IsPermutation-refl _ };
     elements = record {
-      elements = element_rows;
-      rows = refl;
-      rise = ((refl, (refl, (refl, tt))), ((refl, (refl, tt)), ((refl, tt), (tt, tt))));
+      elements = map (λ e. e.1) element_rows;
+      rows = record { numbered = element_rows; are = refl; rise = ((refl, (refl, (refl, tt))), ((refl, (refl, tt)), ((refl, tt), (tt, tt)))); tell = IsPermutation-refl _ };
       are = (IsPermutation-refl _, (IsPermutation-refl _, tt));
       others = (refl, (refl, (refl, (refl, tt))));
     };
     containers = refl;
-    housings = record { housings = housing_rows; rows = refl; rise = (tt, tt); are = (IsPermutation-refl _, (IsPermutation-refl _, tt)); others = (refl, tt) };
+    housings = record { housings = map (λ h. h.1) housing_rows; rows = record { numbered = housing_rows; are = refl; rise = (tt, tt); tell = IsPermutation-refl _ }; are = (IsPermutation-refl _, (IsPermutation-refl _, tt)); others = (refl, tt) };
   };
   shown = record {
     links = link_rows;

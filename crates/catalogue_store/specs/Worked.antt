@@ -1,5 +1,5 @@
 -- A catalogue of two units, written out, and tables that show it.
-use Rattle.std.specs.Prelude.{pos, ◌==◌, true, false, if◌then◌else◌, List, [], ◌∷◌, Some, None, codes, map, replicate}
+use Rattle.std.specs.Prelude.{ℤ, pos, ◌==◌, true, false, if◌then◌else◌, List, [], ◌∷◌, Some, None, codes, map, replicate}
 use Rattle.sqlite.specs.Effect.{Database}
 use Rattle.sqlite.specs.Tree.{Trees}
 use Rattle.isad_core.specs.declared.values.BoxKey.{BoxKey}
@@ -8,7 +8,7 @@ use Rattle.tree_core.specs.declared.rows.Link.{Link}
 use Rattle.catalogue_core.specs.Merging.{Catalogue}
 use Rattle.catalogue_rows.specs.Rows.{office_row, unit_row, ElementRow, element_row, container_row, HousingRow, housing_row, link_row}
 use Rattle.tree_core.specs.Versions.{Links}
-use Rattle.office_tables.specs.Schema.{schema}
+use Rattle.office_tables.specs.Schema.{schema, office, unit, element, container, housing, link}
 use Rattle.catalogue_core.specs.Units.{Unit}
 use Rattle.catalogue_rows.specs.declared.office.OfficeRow.{OfficeRow}
 
@@ -47,13 +47,13 @@ worked = record { forest = Node fonds (Node series Empty Empty) Empty; container
 abbrev pub settings : OfficeRow
 settings = record { country = codes "GB"; repo = codes "0999"; seats = 2; daily = 3; hands = 1; run_size = 2; day = pos 19783; next_unit = 3 }
 
-abbrev pub element_rows : List ElementRow
+abbrev pub element_rows : List (ℤ × ElementRow)
 element_rows =
-    record { row = pos 1; unit = 1; k = 1; value = codes "HUL" } ∷ record { row = pos 2; unit = 1; k = 2; value = codes "Hull Dock Company" }
-    ∷ record { row = pos 3; unit = 2; k = 2; value = codes "Minutes" } ∷ record { row = pos 4; unit = 2; k = 5; value = codes "2 m" } ∷ []
+    (pos 1, record { unit = 1; k = 1; value = codes "HUL" }) ∷ (pos 2, record { unit = 1; k = 2; value = codes "Hull Dock Company" })
+    ∷ (pos 3, record { unit = 2; k = 2; value = codes "Minutes" }) ∷ (pos 4, record { unit = 2; k = 5; value = codes "2 m" }) ∷ []
 
-abbrev pub housing_rows : List HousingRow
-housing_rows = record { row = pos 1; unit = 1; ord = 1; container = 1 } ∷ []
+abbrev pub housing_rows : List (ℤ × HousingRow)
+housing_rows = (pos 1, record { unit = 1; ord = 1; container = 1 }) ∷ []
 
 abbrev pub link_rows : List Link
 link_rows = record { id = 1; parent = None; ord = 1 } ∷ record { id = 2; parent = Some 1; ord = 1 } ∷ []

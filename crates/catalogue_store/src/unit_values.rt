@@ -16,8 +16,9 @@ ghost use Rattle.catalogue_core.specs.Merging.{box_number};
 ghost use Rattle.office_tables.specs.Asking.{Reads};
 ghost use Rattle.office_tables.specs.Calls.{Tells};
 ghost use Rattle.office_tables.specs.Faults.{Excused};
+ghost use Rattle.office_tables.specs.Numbered.{HoldsNumbered};
 ghost use Rattle.office_tables.specs.Schema as tables;
-ghost use Rattle.office_tables.specs.Step.{InOffice, Holds};
+ghost use Rattle.office_tables.specs.Step.{InOffice};
 ghost use Rattle.catalogue_rows.specs.Rows.{HousingRow, housing_row};
 ghost use Rattle.catalogue_rows.specs.Shows.{ShowsContainers, element_cells, housing_cells};
 ghost use Rattle.catalogue_rows.specs.Shows.{element_number as number_of_place, housings_of as containers_among};
@@ -111,10 +112,11 @@ fn containers_of<S: Alter>(
     requires small { IsNumber unit }
     ensures reads { Reads (state S.Store conn.old) (state S.Store conn.new) result }
     ensures numbers { HasCleanDisk (state S.Store conn.new) → (xs : List HousingRow)
-        → Holds tables.housing housing_row (state S.Store conn.old) xs → (boxes : List BoxKey) (values : Description)
+        → HoldsNumbered tables.housing housing_row (state S.Store conn.old) xs
+        → (boxes : List BoxKey) (values : Description)
         → IsPermutation (housing_cells boxes values) (containers_among unit xs)
         → IfOk result (λ numbers. numbers ≡ map (box_number boxes) values.boxes) }
-    ensures faults { (xs : List HousingRow) → Holds tables.housing housing_row (state S.Store conn.old) xs
+    ensures faults { (xs : List HousingRow) → HoldsNumbered tables.housing housing_row (state S.Store conn.old) xs
         → Excused (state S.Store conn.old) (state S.Store conn.new) result }
 {
     let found = housings_of(alloc, conn, unit)?;

@@ -24,3 +24,6 @@ pub mod ToldCalls
 pub mod BoxRows
 pub mod PlaceRows
 pub mod QueueCalls
+pub mod PickingRows
+pub mod PickingLists
+pub mod PickingCalls

@@ -18,8 +18,10 @@ use Rattle.office_tables.proofs.Causes.{still_unlimited}
 use Rattle.office_tables.proofs.LaterCauses.{last_cause}
 use Rattle.office_tables.proofs.Touching.{touched_again, touched_wider}
 use Rattle.desk_store.specs.Opening.{ShowsHouse, IsLegibleHouse, opened}
-use Rattle.desk_store.specs.Rows.{seat_cells, run_line_cells, permit_cells}
-use Rattle.desk_store.specs.Shows.{AreByNumber, HasNumbered, ShowsDesk}
+use Rattle.desk_store.specs.Rows.{seat_cells, run_line_cells}
+use Rattle.office_tables.specs.Permits.{permit_cells}
+use Rattle.desk_store.specs.Shows.{ShowsDesk}
+use Rattle.office_tables.specs.Numbered.{AreByNumber, HasNumbered}
 use Rattle.desk_store.proofs.Frames.{with_seats}
 
 -- another row of the office is nothing to the desk

@@ -32,7 +32,7 @@ use Rattle.desk_store.specs.Holdings.{waits_for}
 use Rattle.desk_store.specs.Rows.{order_cells}
 use Rattle.desk_store.specs.declared.orders.WaitingOrder.{WaitingOrder}
 use Rattle.desk_store.proofs.CardRows.{by_order, in_order}
-use Rattle.desk_store.proofs.CountOf.{counting, count_finds, count_faults}
+use Rattle.office_tables.proofs.CountOf.{counting, count_finds, count_faults}
 
 -- it waits, and for this container
 abbrev for_the_container : List Term

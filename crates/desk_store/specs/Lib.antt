@@ -9,3 +9,4 @@ pub mod Runs
 pub mod Permits
 pub mod Opening
 pub mod Stacks
+pub mod Picking

@@ -10,7 +10,8 @@ use Rattle.office_tables.specs.Schema as tables
 use Rattle.office_tables.specs.Shared.{box_cells}
 use Rattle.desk_store.specs.Orders.{IsQueue}
 use Rattle.desk_store.specs.Runs.{lines_of, IsCandidate}
-use Rattle.desk_store.specs.Shows.{AreCounted, ShowsDesk, IsLegible}
+use Rattle.desk_store.specs.Shows.{ShowsDesk, IsLegible}
+use Rattle.office_tables.specs.Numbered.{AreCounted}
 use Rattle.desk_store.specs.declared.queues.ContainerQueue.{ContainerQueue}
 use Rattle.desk_store.specs.declared.runs.Brought.{Brought}
 

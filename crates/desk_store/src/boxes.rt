@@ -12,7 +12,7 @@ ghost use Rattle.office_tables.specs.Faults.{Excused};
 ghost use Rattle.office_tables.specs.Schema as tables;
 ghost use Rattle.office_tables.specs.Shared.{box_cells};
 ghost use Rattle.office_tables.specs.Step.{InOffice, Holds};
-ghost use Rattle.desk_store.specs.Shows.{AreCounted};
+ghost use Rattle.office_tables.specs.Numbered.{AreCounted};
 ghost use Rattle.desk_store.specs.Stacks.{ShowsStacks, IsLegibleStacks, box_with};
 
 use isad_core::BoxKey;

@@ -12,7 +12,7 @@ ghost use Rattle.office_tables.specs.Shared.{OfficeCells, office_cells};
 ghost use Rattle.office_tables.specs.Step.{InOffice, Holds, HasRows, OnlyTouches};
 ghost use Rattle.desk_store.specs.Opening.{ShowsHouse, IsLegibleHouse, opened};
 ghost use Rattle.desk_store.specs.Rows.{seat_cells};
-ghost use Rattle.desk_store.specs.Shows.{AreByNumber};
+ghost use Rattle.office_tables.specs.Numbered.{AreByNumber};
 
 use isad_core::Day;
 use office_tables::value::day;

@@ -11,7 +11,8 @@ ghost use Rattle.office_tables.specs.Schema as tables;
 ghost use Rattle.office_tables.specs.Step.{InOffice, Holds};
 ghost use Rattle.desk_store.specs.Orders.{holding_of, IsAt};
 ghost use Rattle.desk_store.specs.Rows.{holding_cells};
-ghost use Rattle.desk_store.specs.Shows.{AreByNumber, IsKnownPlace, ShowsRoom, IsLegible};
+ghost use Rattle.desk_store.specs.Shows.{IsKnownPlace, ShowsRoom, IsLegible};
+ghost use Rattle.office_tables.specs.Numbered.{AreByNumber};
 ghost use Rattle.desk_store.specs.Stacks.{ShowsStacks, IsLegibleStacks, box_with, IsQueued};
 
 use crate::boxes::box_of;

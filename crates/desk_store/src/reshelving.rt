@@ -11,7 +11,8 @@ ghost use Rattle.office_tables.specs.Schema as tables;
 ghost use Rattle.office_tables.specs.Step.{InOffice, Holds};
 ghost use Rattle.desk_store.specs.Holdings.{at_desk_of};
 ghost use Rattle.desk_store.specs.Rows.{holding_cells};
-ghost use Rattle.desk_store.specs.Shows.{AreByNumber, ShowsRoom, IsLegible};
+ghost use Rattle.desk_store.specs.Shows.{ShowsRoom, IsLegible};
+ghost use Rattle.office_tables.specs.Numbered.{AreByNumber};
 
 use crate::waiting::is_awaited;
 use office_tables::{StoreFault, find};

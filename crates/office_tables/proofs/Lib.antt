@@ -42,3 +42,4 @@ pub mod CountOf
 pub mod CallEnds
 pub mod ReadEnds
 pub mod CellTexts
+pub mod WriteEnds

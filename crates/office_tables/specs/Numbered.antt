@@ -2,6 +2,8 @@
 use Rattle.std.specs.Prelude.{◌≡◌, ℕ, suc, ℤ, pos, List, [], ◌∷◌, map, IsPermutation, ⊤}
 use Rattle.std.specs.Ordering.{int_cmp}
 use Rattle.sqlite.specs.Order.{Row}
+use Rattle.sqlite.specs.State.{State}
+use Rattle.sqlite.specs.Table.{Table}
 use Rattle.office_tables.specs.Order.{Rises}
 
 -- the rows have the numbers from n on, without a gap
@@ -22,3 +24,7 @@ pub record HasNumbered {R : Type 0} (cells : ℤ × R → Row) (there : List Row
   pub are : there ≡ map cells numbered
   pub rise : Rises (λ a b. int_cmp a.0 b.0) numbered
   pub tell : IsPermutation rows (map (λ n. n.1) numbered)
+
+-- the same of a table of the state
+abbrev pub HoldsNumbered : {R : Type 0} → Table → (ℤ × R → Row) → State → List R → Type 0
+HoldsNumbered table cells s = HasNumbered cells (s.now.trees table.tree)

@@ -1,14 +1,16 @@
 -- Rows with numbers of their own that tell nothing: one more, and those that are left.
-use Rattle.std.proofs.Common.{◌≡◌, ℤ, List, [], ◌∷◌, ◌++◌, map, filter, Bool, false, not, refl, ap, subst, ◌∙◌}
+use Rattle.std.proofs.Common.{◌≡◌, ◌<◌, ◌+◌, ℤ, List, [], ◌∷◌, ◌++◌, map, filter, length, Bool, false, not, Ordering, refl, ap, subst, ◌∙◌, arith}
 use Rattle.std.specs.List.{AllByRecursion, list_any}
-use Rattle.std.specs.List.Sorted.{IsPermutation}
+use Rattle.std.specs.List.Sorted.{IsPermutation, IsSorted}
 use Rattle.std.proofs.lemmas.Bool.{or_parts, or_from}
-use Rattle.std.proofs.lemmas.List.Sorted.{IsPermutation-sym, IsPermutation-trans, IsPermutation-cons, IsPermutation-map, IsPermutation-append_comm}
+use Rattle.std.proofs.lemmas.List.{length-map, get_or-map}
+use Rattle.std.proofs.lemmas.List.Sorted.{IsPermutation-refl, IsPermutation-sym, IsPermutation-trans, IsPermutation-cons, IsPermutation-map, IsPermutation-append_comm}
 use Rattle.sqlite.specs.declared.types.Value.TheVariants.{Int}
 use Rattle.sqlite.specs.Order.{Row}
 use Rattle.sqlite.specs.Edit.{is_taken}
 use Rattle.sqlite.specs.Tree.{rowid, put_row}
 use Rattle.sqlite_trees.proofs.ListLemmas.{map-map, filter-map, IsPermutation-filter, ascending-filter, all-permutation, all-map, all_from_map}
+use Rattle.office_tables.specs.Order.{IsOrdered}
 use Rattle.office_tables.specs.Put.{put_by}
 use Rattle.office_tables.proofs.Puts.{put_rows, put_rises, put_more, fresh_key}
 use Rattle.office_tables.specs.Numbered.{HasNumbered}
@@ -41,14 +43,38 @@ module _ {R : Type 0} (cells : ℤ × R → Row) where
   pub all_told : (there : List Row) (rows : List R) (has : HasNumbered cells there rows) (P : R → Type 0) → AllByRecursion (λ (x : ℤ × R). P x.1) has.numbered → AllByRecursion P rows
   all_told there rows has P all = all-permutation P (map told has.numbered) rows (IsPermutation-sym rows (map told has.numbered) has.tell) (all-map P told has.numbered all)
 
-  -- what is told of those that the test finds, in whatever order they are read
+  -- an empty table
+  pub none_there : (there : List Row) → there ≡ [] → HasNumbered cells there []
+  none_there there none = record { numbered = []; are = none; rise = tt; tell = IsPermutation-refl [] }
+
+  -- the table is the same
+  pub still_numbered : (there now : List Row) (rows : List R) → now ≡ there → HasNumbered cells there rows → HasNumbered cells now rows
+  still_numbered there now rows same has = record { numbered = has.numbered; are = same ∙ has.are; rise = has.rise; tell = has.tell }
+
+  -- those that the test finds, in whatever order they are read
+  pub kept_permuted : (there : List Row) (rows : List R) (has : HasNumbered cells there rows) (p : R → Bool) (ys : List (ℤ × R)) → IsPermutation (filter (λ (x : ℤ × R). p x.1) has.numbered) ys → IsPermutation (filter p rows) (map told ys)
+  kept_permuted there rows has p ys same =
+      IsPermutation-trans (filter p rows) (map told (filter (λ (x : ℤ × R). p x.1) has.numbered)) (map told ys)
+      (subst (IsPermutation (filter p rows)) (filter-map p told has.numbered) (IsPermutation-filter p rows (map told has.numbered) has.tell))
+      (IsPermutation-map told (filter (λ (x : ℤ × R). p x.1) has.numbered) ys same)
+
+  -- what is told of them
   pub told_permuted : {T : Type 0} (f : R → T) (there : List Row) (rows : List R) (has : HasNumbered cells there rows) (p : R → Bool) (ys : List (ℤ × R)) → IsPermutation (filter (λ (x : ℤ × R). p x.1) has.numbered) ys
       → IsPermutation (map f (filter p rows)) (map (λ (x : ℤ × R). f x.1) ys)
   told_permuted f there rows has p ys same =
-      IsPermutation-trans (map f (filter p rows)) (map (λ (x : ℤ × R). f x.1) (filter (λ (x : ℤ × R). p x.1) has.numbered)) (map (λ (x : ℤ × R). f x.1) ys)
-      (subst (IsPermutation (map f (filter p rows))) (ap (map f) (filter-map p told has.numbered) ∙ map-map f told (filter (λ (x : ℤ × R). p x.1) has.numbered))
-      (IsPermutation-map f (filter p rows) (filter p (map told has.numbered)) (IsPermutation-filter p rows (map told has.numbered) has.tell)))
-      (IsPermutation-map (λ (x : ℤ × R). f x.1) (filter (λ (x : ℤ × R). p x.1) has.numbered) ys same)
+      subst (IsPermutation (map f (filter p rows))) (map-map f told ys) (IsPermutation-map f (filter p rows) (map told ys) (kept_permuted there rows has p ys same))
+
+  sorted_told : (cmp : R → R → Ordering) (ys : List (ℤ × R)) → IsSorted (λ x y. cmp x.1 y.1) ys → IsSorted cmp (map told ys)
+  sorted_told cmp [] sorted = λ k d low high. absurd (omega (arith, high))
+  sorted_told cmp (y ∷ ys) sorted = λ k d low high.
+      let within : k + 1 < length (y ∷ ys) = rw (length-map (y ∷ ys) told) at high in
+      let before : k < length (y ∷ ys) = omega (arith, within) in
+      rw (get_or-map told (y ∷ ys) (k + 1) y d within, get_or-map told (y ∷ ys) k y d before) (sorted k y low within)
+
+  -- those that the test finds, in their order
+  pub kept_ordered : (cmp : R → R → Ordering) (there : List Row) (rows : List R) (has : HasNumbered cells there rows) (p : R → Bool) (ys : List (ℤ × R)) → IsOrdered (λ x y. cmp x.1 y.1) (filter (λ (x : ℤ × R). p x.1) has.numbered) ys
+      → IsOrdered cmp (filter p rows) (map told ys)
+  kept_ordered cmp there rows has p ys at = (kept_permuted there rows has p ys at.0, sorted_told cmp ys at.1)
 
   -- those that the test does not find
   pub those_left : (there now : List Row) (rows : List R) (has : HasNumbered cells there rows) (p : R → Bool) → now ≡ map cells (filter (λ (x : ℤ × R). not (p x.1)) has.numbered) → HasNumbered cells now (filter (λ r. not (p r)) rows)

@@ -9,11 +9,11 @@ pub change-requires : goal.change-requires
 change-requires g c = ours clear_elements_text 1 clear_elements_command (state g.S.Store c.args.conn.now) refl clear_elements_means c.requires.inside
 
 pub returns-clause-rows : goal.returns-clause-rows
-returns-clause-rows g c clean xs stored up =
+returns-clause-rows g c clean xs at_first =
     let old = state g.S.Store c.args.conn.now in
     let new = state g.S.Store c.change.new.conn in
     let at = c.requires.inside (early old new _ c.change.ensures.leaves.crash clean) in
-    clear_elements_leaves old new c.args.unit at.0 at.1 xs stored up c.change.result (rw c.number.ensures at (c.change.ensures.ran clean))
+    clear_elements_leaves old new c.args.unit at.0 at.1 xs at_first c.change.result (rw c.number.ensures at (c.change.ensures.ran clean))
 
 pub returns-clause-only : goal.returns-clause-only
 returns-clause-only g c clean =
@@ -23,7 +23,7 @@ returns-clause-only g c clean =
     clear_elements_only old new c.args.unit at.0 at.1 c.change.result (rw c.number.ensures at (c.change.ensures.ran clean))
 
 pub returns-clause-faults : goal.returns-clause-faults
-returns-clause-faults g c xs stored up clean free =
+returns-clause-faults g c clean free =
     let old = state g.S.Store c.args.conn.now in
     let new = state g.S.Store c.change.new.conn in
     let at = c.requires.inside (early old new _ c.change.ensures.leaves.crash clean) in

@@ -1,5 +1,5 @@
 use Rattle.office_tables.specs.Schema as tables
-use Rattle.std.proofs.Common.{◌≡◌, List, [], ◌∷◌, ap, sym, subst, option_copied, false, nat_eq, ◌&&◌}
+use Rattle.std.proofs.Common.{◌≡◌, ℤ, List, [], ◌∷◌, ap, sym, subst, option_copied, false, nat_eq, ◌&&◌}
 use Rattle.std.specs.List.{list_any}
 use Rattle.sqlite.specs.Held.{state}
 use Rattle.sqlite.specs.Edit.{next_rowid}
@@ -17,7 +17,7 @@ returns-in-Some-clause-adds g c clean xs at =
     let b = state g.S.Store c.insert_element.new.conn in
     let value = c.in-Some.text.now in
     let unit = c.args.unit in
-    let row : ElementRow = record { row = next_rowid (a.now.trees tables.element.tree); unit = unit; k = c.element_number.result; value = value } in
+    let row : ℤ × ElementRow = (next_rowid (a.now.trees tables.element.tree), record { unit = unit; k = c.element_number.result; value = value }) in
     let e : text_cells c.args.place (option_copied c.args.text) ≡ (element_number c.args.place, value) ∷ [] = ap (λ t. text_cells c.args.place (option_copied t)) c.in-Some.is in
     on_ok_then c.insert_element.result (PutsRow tables.element.tree (element_row row) a.now b.now) ((ys : List ElementRow) × AreElements b.now.trees ys × WithTexts unit (text_cells c.args.place (option_copied c.args.text)) xs ys)
     (λ puts.

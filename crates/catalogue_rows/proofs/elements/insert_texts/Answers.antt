@@ -1,11 +1,12 @@
 use Rattle.office_tables.specs.Schema as tables
-use Rattle.std.proofs.Common.{rules, arith, refl, false, nat_eq, ◌&&◌, Option, length, get_or, ◌≡◌, ◌<◌, ◌+◌, ◌∙◌, List, [], ◌∷◌, ◌++◌, ap, sym, subst, option_copied}
+use Rattle.std.proofs.Common.{rules, map, take, arith, refl, false, nat_eq, ◌&&◌, Option, length, get_or, ◌≡◌, ◌<◌, ◌+◌, ◌∙◌, List, [], ◌∷◌, ◌++◌, ap, sym, subst, option_copied}
 use Rattle.std.specs.List.{list_any}
+use Rattle.std.proofs.lemmas.List.{take_all}
 use Rattle.sqlite.specs.Held.{state}
 use Rattle.isad_core.specs.Texts.{Bytes}
 use Rattle.catalogue_rows.specs.Adding.{WithTexts, cell_of, text_cells}
 use Rattle.catalogue_rows.specs.Rows.{ElementRow}
-use Rattle.catalogue_rows.specs.Shows.{element_number}
+use Rattle.catalogue_rows.specs.Shows.{element_number, texts_from}
 use Rattle.office_tables.proofs.Calls.{early, goes_then}
 use Rattle.office_tables.proofs.Touching.{touched_again}
 use Rattle.catalogue_rows.proofs.Parts.{cells_then}
@@ -67,3 +68,11 @@ returns-in_err-insert_text-clause-faults g c known xs at none long clean free =
 pub returns-then-place-ge25-clause-faults : goal.returns-then-place-ge25-clause-faults
 returns-then-place-ge25-clause-faults g c known xs at none long clean free =
     absurd (omega (arith, c.if-place-ge25.true, c.loop-text-test.true, c.loop-text.invariant.0, ap length c.as_slice-text-items.ensures, long))
+
+pub returns-clause-adds : goal.returns-clause-adds
+returns-clause-adds g c clean xs at =
+    let texts = c.args.values.now.texts in
+    let i = c.loop-text.text-index in
+    let got = c.loop-text.invariant.1.1.1.1 clean xs at in
+    let all : take i texts ≡ texts = take_all i texts (omega (arith, c.loop-text-test.false, ap length c.as_slice-text-items.ensures)) in
+    (got.0, got.1, subst (λ l. WithTexts c.args.unit (map (λ t. (element_number t.0, t.1)) (texts_from 0 l)) xs got.0) all got.2)

@@ -1,15 +1,17 @@
 use Rattle.office_tables.specs.Schema as tables
-use Rattle.std.proofs.Common.{rules, refl, false, nat_eq, ◌&&◌, ◌^◌, ◌≡◌, ◌<◌, ◌+◌, ◌∙◌, List, [], ◌∷◌, ◌++◌, length, get_or, take, ap, sym, subst, arith}
-use Rattle.std.proofs.lemmas.List.{take_more, length-take-le}
+use Rattle.std.proofs.Common.{rules, append-nil, refl, false, nat_eq, ◌&&◌, ◌^◌, ◌≡◌, ◌<◌, ◌+◌, ◌∙◌, List, [], ◌∷◌, ◌++◌, length, get_or, take, ap, sym, subst, arith}
+use Rattle.std.proofs.lemmas.List.{take_more, take_all, length-take-le}
 use Rattle.std.specs.List.{list_any}
+use Rattle.std.proofs.lemmas.List.Sorted.{IsPermutation-refl}
+use Rattle.isad_core.specs.Boxes.{distinct}
 use Rattle.sqlite.specs.Held.{state}
 use Rattle.isad_core.specs.declared.values.BoxKey.{BoxKey}
 use Rattle.catalogue_rows.specs.Adding.{AreHoused, WithHousings, housing_cell}
 use Rattle.catalogue_core.specs.Describing.{with_boxes}
 use Rattle.catalogue_core.specs.Merging.{box_number}
 use Rattle.catalogue_rows.specs.Rows.{HousingRow}
-use Rattle.office_tables.proofs.Calls.{early, goes_then}
-use Rattle.office_tables.proofs.Touching.{touched_again}
+use Rattle.office_tables.proofs.Calls.{early, goes_nowhere, goes_then}
+use Rattle.office_tables.proofs.Touching.{touched_again, nothing_touched}
 use Rattle.catalogue_rows.proofs.Parts.{cells_then}
 use Rattle.catalogue_rows.proofs.HousingLemmas.{boxes_more, cells_in, housing_more}
 use Rattle.office_tables.proofs.Causes.{cause_then, still_unlimited}
@@ -77,3 +79,30 @@ returns-in_err-house-clause-faults g c known boxes xs at small once none clean f
     let why = c.in_err-house.ensures.faults here now housed.0 housed.1 few place_free number_free clean (still_unlimited a b so_far.on free) in
     let whole = cause_then a b d so_far.on before _ why in
     search (rules, whole)
+
+pub loop-key-init : goal.loop-key-init
+loop-key-init g c =
+    let a = state g.S.Store c.args.conn.now in (
+      refl,
+      (
+        c.requires.inside,
+        (
+          goes_nowhere a c.requires.inside,
+          (
+            λ clean. nothing_touched (tables.container.tree ∷ tables.housing.tree ∷ []) a.now,
+            λ clean boxes xs at.
+                let same : with_boxes boxes [] ≡ boxes = ap distinct (append-nil boxes) ∙ at.apart in
+                (xs, subst (λ cs. AreHoused a.now.trees cs xs) (sym same) at, record { more = []; are = IsPermutation-refl xs; tell = IsPermutation-refl []; theirs = tt }),
+          ),
+        ),
+      ),
+    )
+
+pub returns-clause-adds : goal.returns-clause-adds
+returns-clause-adds g c clean boxes xs at =
+    let d = state g.S.Store c.loop-key.conn in
+    let told = c.args.values.now.boxes in
+    let i = c.loop-key.key-index in
+    let got = c.loop-key.invariant.1.1.1.1 clean boxes xs at in
+    let all : take i told ≡ told = take_all i told (omega (arith, c.loop-key-test.false, ap length c.as_slice-key-items.ensures)) in
+    subst (λ l. (ys : List HousingRow) × AreHoused d.now.trees (with_boxes boxes l) ys × WithHousings c.args.unit (cells_in (with_boxes boxes l) l) xs ys) all got

@@ -1,12 +1,13 @@
 use Rattle.office_tables.specs.Schema as tables
-use Rattle.std.proofs.Common.{map, filter, not, nat_eq, refl, ◌∙◌}
+use Rattle.std.proofs.Common.{[], ◌∷◌, filter, not, nat_eq, refl, ◌∙◌}
 use Rattle.sqlite.specs.Held.{state}
 use Rattle.catalogue_rows.specs.Adding.{AreElements, AreHoused}
 use Rattle.catalogue_rows.specs.Rows.{ElementRow, HousingRow, housing_row}
-use Rattle.office_tables.specs.Step.{Goes, HasRows}
-use Rattle.office_tables.proofs.Calls.{early, on_ok_then}
+use Rattle.office_tables.specs.Numbered.{HoldsNumbered}
+use Rattle.office_tables.specs.Step.{Goes, OnlyTouches}
+use Rattle.office_tables.proofs.Calls.{early, on_ok_both}
 use Rattle.office_tables.proofs.Outcomes.{on_ok_by}
-use Rattle.catalogue_store.proofs.Telling.{same_elements, same_housed, elements_rise, housings_rise}
+use Rattle.catalogue_store.proofs.Telling.{same_elements, same_housed}
 use Rattle.catalogue_store.proofs.describing.clear.Goals as goal
 
 pub returns-clause-clears : goal.returns-clause-clears
@@ -19,14 +20,14 @@ returns-clause-clears g c clean boxes xs hs texts housed =
     let housings = filter (λ (x : HousingRow). not (nat_eq unit x.unit)) hs in
     on_ok_by c.clear_housings.result (Goes b d) (AreElements d.now.trees elements × AreHoused d.now.trees boxes housings)
     (λ last.
-    let first = c.in_ok-clear_elements.ensures.rows (early b d _ last.on.crash clean) xs texts.rows texts.rise in
-    let kept = first.only in
+    let before = early b d _ last.on.crash clean in
+    let there : AreElements b.now.trees elements = record { rows = c.in_ok-clear_elements.ensures.rows before xs texts.rows } in
+    let kept = c.in_ok-clear_elements.ensures.only before in
     let here = same_housed a.now.trees b.now.trees boxes hs (kept tables.container.tree refl refl) (kept tables.housing.tree refl refl) housed in
-    let there : AreElements b.now.trees elements = record { rows = first.are; rise = elements_rise unit xs texts.rise } in
-    on_ok_then c.clear_housings.result (HasRows 20 (map housing_row housings) b.now d.now) (AreElements d.now.trees elements × AreHoused d.now.trees boxes housings)
-    (λ then. (
-      same_elements b.now.trees d.now.trees elements (then.only tables.element.tree refl refl) there,
-      record { containers = then.only tables.container.tree refl refl ∙ here.containers; apart = here.apart; rows = then.are; rise = housings_rise unit hs here.rise },
+    on_ok_both c.clear_housings.result (HoldsNumbered tables.housing housing_row d housings) (OnlyTouches (tables.housing.tree ∷ []) b.now d.now) (AreElements d.now.trees elements × AreHoused d.now.trees boxes housings)
+    (λ left only. (
+      same_elements b.now.trees d.now.trees elements (only tables.element.tree refl refl) there,
+      record { containers = only tables.container.tree refl refl ∙ here.containers; apart = here.apart; rows = left },
     ))
-    (c.clear_housings.ensures.rows clean hs here.rows here.rise))
+    (c.clear_housings.ensures.rows clean hs here.rows) (c.clear_housings.ensures.only clean))
     c.clear_housings.ensures.leaves.goes

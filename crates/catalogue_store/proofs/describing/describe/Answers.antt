@@ -1,5 +1,5 @@
 use Rattle.office_tables.specs.Schema as tables
-use Rattle.std.proofs.Common.{List, refl, [], ◌∷◌}
+use Rattle.std.proofs.Common.{rules, List, refl, [], ◌∷◌}
 use Rattle.sqlite.specs.Held.{state}
 use Rattle.catalogue_rows.specs.Adding.{AreHoused, IsDescribed, WithHousings}
 use Rattle.catalogue_core.specs.Describing.{with_boxes}
@@ -8,6 +8,9 @@ use Rattle.catalogue_rows.specs.Shows.{housing_cells}
 use Rattle.office_tables.specs.Step.{Goes, OnlyTouches}
 use Rattle.office_tables.proofs.Calls.{early, on_ok_both}
 use Rattle.office_tables.proofs.Outcomes.{on_ok_by}
+use Rattle.office_tables.proofs.Causes.{still_unlimited}
+use Rattle.office_tables.proofs.LaterCauses.{last_cause}
+use Rattle.catalogue_rows.proofs.Untold.{unit_still}
 use Rattle.catalogue_store.proofs.Telling.{same_elements, same_housed}
 use Rattle.catalogue_store.proofs.describing.describe.Goals as goal
 
@@ -36,3 +39,20 @@ returns-clause-tells g c clean boxes xs hs texts housed =
     })
     (c.insert_housings.ensures.adds clean boxes hs here) (c.insert_housings.ensures.only clean))
     c.insert_housings.ensures.goes
+
+pub returns-in_err-insert_texts-clause-faults : goal.returns-in_err-insert_texts-clause-faults
+returns-in_err-insert_texts-clause-faults g c clean free known boxes xs hs texts housed small once long none other =
+    let why = c.in_err-insert_texts.ensures.faults known xs texts none long clean free in
+    search (rules, why)
+
+pub returns-clause-faults : goal.returns-clause-faults
+returns-clause-faults g c clean free known boxes xs hs texts housed small once long none other =
+    let a = state g.S.Store c.args.conn.now in
+    let b = state g.S.Store c.insert_texts.new.conn in
+    let d = state g.S.Store c.insert_housings.new.conn in
+    let went = c.in_ok-insert_texts.ensures.goes in
+    last_cause a b d went.on c.insert_housings.result c.insert_housings.ensures.cut clean (λ before.
+    let kept = c.in_ok-insert_texts.ensures.only before in
+    let unit_there = unit_still a.now.trees b.now.trees c.args.unit (kept tables.unit.tree refl refl) known in
+    let here = same_housed a.now.trees b.now.trees boxes hs (kept tables.container.tree refl refl) (kept tables.housing.tree refl refl) housed in
+    c.insert_housings.ensures.faults unit_there boxes hs here small once other clean (still_unlimited a b went.on free))

@@ -1,5 +1,5 @@
 use Rattle.office_tables.specs.Schema as tables
-use Rattle.std.proofs.Common.{[], ◌∷◌, filter, not, nat_eq, refl, sym, ◌∙◌}
+use Rattle.std.proofs.Common.{rules, [], ◌∷◌, filter, not, nat_eq, refl, sym, ◌∙◌}
 use Rattle.std.proofs.lemmas.List.Sorted.{list_any-IsPermutation}
 use Rattle.tree_core.specs.Forest.{nodes}
 use Rattle.sqlite.specs.Held.{state}
@@ -14,7 +14,7 @@ use Rattle.office_tables.proofs.Outcomes.{on_ok_by}
 use Rattle.catalogue_store.proofs.Telling.{elements_shown, housed_shown, same_elements, same_housed}
 use Rattle.office_tables.proofs.Touching.{touched_then}
 use Rattle.catalogue_store.proofs.Valued.{shows_valued}
-use Rattle.office_tables.proofs.Causes.{still_unlimited}
+use Rattle.office_tables.proofs.Causes.{cause_then, still_unlimited}
 use Rattle.office_tables.proofs.LaterCauses.{last_cause}
 use Rattle.catalogue_rows.proofs.Untold.{none_left, unit_valued}
 use Rattle.catalogue_store.proofs.describing.replace_values.Goals as goal
@@ -59,7 +59,7 @@ returns-clause-shows g c clean o k it knows there =
     let texts = same_elements a.now.trees b.now.trees xs (kept tables.element.tree refl refl) (elements_shown v a.now o k at) in
     let housed = same_housed a.now.trees b.now.trees k.containers hs (kept tables.container.tree refl refl) (kept tables.housing.tree refl refl) (housed_shown v a.now o k at knows) in
     let cleared = c.in_ok-clear.ensures.clears before_d k.containers xs hs texts housed in
-    let still = c.in_ok-clear.ensures.only before_d xs hs texts.rows texts.rise housed.rows housed.rise in
+    let still = c.in_ok-clear.ensures.only before_d in
     on_ok_both c.describe.result (IsDescribed unit values k.containers elements housings e.now.trees) (OnlyTouches (16 ∷ 18 ∷ 20 ∷ []) d.now e.now) result
     (λ made only.
     let all : OnlyTouches (14 ∷ 16 ∷ 20 ∷ 16 ∷ 18 ∷ 20 ∷ []) a.now e.now = touched_then (14 ∷ 16 ∷ 20 ∷ []) (16 ∷ 18 ∷ 20 ∷ []) a.now d.now e.now (touched_then (14 ∷ []) (16 ∷ 20 ∷ []) a.now b.now d.now kept still) only in
@@ -94,8 +94,19 @@ returns-clause-faults g c clean free o k it kept knows there once long =
     let texts = same_elements a.now.trees b.now.trees xs (only tables.element.tree refl refl) (elements_shown v a.now o k at) in
     let housed = same_housed a.now.trees b.now.trees k.containers hs (only tables.container.tree refl refl) (only tables.housing.tree refl refl) (housed_shown v a.now o k at knows) in
     let cleared = c.in_ok-clear.ensures.clears before_d k.containers xs hs texts housed in
-    let still = c.in_ok-clear.ensures.only before_d xs hs texts.rows texts.rise housed.rows housed.rise in
+    let still = c.in_ok-clear.ensures.only before_d in
     let listed = sym (list_any-IsPermutation (has_id unit) (nodes k.forest) at.units.units at.units.are) ∙ there in
     let known = unit_valued d.now.trees unit c.args.values.now at.units.units (still tables.unit.tree refl refl ∙ level.are) listed in
     c.describe.ensures.faults clean (still_unlimited a d went.on free) known k.containers elements housings cleared.0 cleared.1 kept.few_boxes once long
     (none_left (λ (x : ElementRow). nat_eq unit x.unit) xs) (none_left (λ (x : HousingRow). nat_eq unit x.unit) hs))
+
+pub returns-in_err-clear-clause-faults : goal.returns-in_err-clear-clause-faults
+returns-in_err-clear-clause-faults g c clean free o k it kept knows there once long =
+    let a = state g.S.Store c.args.conn.now in
+    let b = state g.S.Store c.set_level.new.conn in
+    let d = state g.S.Store c.clear.new.conn in
+    let went = c.in_ok-set_level.ensures.leaves.goes in
+    let before = early b d _ c.in_err-clear.ensures.cut.crash clean in
+    let why = c.in_err-clear.ensures.faults clean (still_unlimited a b went.on free) in
+    let whole = cause_then a b d went.on before _ why in
+    search (rules, whole)

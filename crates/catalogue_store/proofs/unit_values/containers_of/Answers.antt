@@ -1,4 +1,4 @@
-use Rattle.std.proofs.Common.{◌≡◌, ℕ, map, ap, sym, ◌∙◌}
+use Rattle.std.proofs.Common.{rules, ◌≡◌, ℕ, map, ap, sym, ◌∙◌}
 use Rattle.sqlite_trees.proofs.ListLemmas.{map-map}
 use Rattle.catalogue_rows.specs.Adding.{housing_cell}
 use Rattle.catalogue_rows.specs.Rows.{HousingRow}
@@ -16,3 +16,8 @@ returns-clause-numbers g c clean xs stored boxes values tell =
     let all : map (λ (h : Housing). h.container) c.in_ok-found.found.items ≡ map second (map housing_cell got.0) =
     ap (map (λ (h : Housing). h.container)) got.2 ∙ map-map (λ (h : Housing). h.container) read got.0 ∙ sym (map-map second housing_cell got.0) in
     c.in_ok-numbers_in.ensures ∙ ap (map (λ (h : Housing). h.container)) c.deref.ensures.value ∙ all ∙ ap (map second) cells ∙ numbers_told boxes values
+
+pub returns-in_err-found-clause-faults : goal.returns-in_err-found-clause-faults
+returns-in_err-found-clause-faults g c xs at clean free =
+    let why = c.in_err-found.ensures.faults xs at clean free in
+    search (rules, why)

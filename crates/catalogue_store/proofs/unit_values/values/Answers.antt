@@ -19,6 +19,8 @@ use Rattle.catalogue_rows.proofs.FoundUnits.{none_found, one_found}
 use Rattle.catalogue_store.proofs.MarkCauses.{legible_units}
 use Rattle.catalogue_store.proofs.UnitTold.{texts_told, containers_told, boxes_known}
 use Rattle.catalogue_store.proofs.ValueCauses.{legible_elements}
+use Rattle.office_tables.proofs.numbered.OwnNumbers.{still_numbered}
+use Rattle.catalogue_rows.specs.Rows.{housing_row}
 use Rattle.catalogue_store.proofs.unit_values.values.Goals as goal
 
 pub returns-in_err-levels : goal.returns-in_err-levels
@@ -79,7 +81,7 @@ returns-in_err-containers g c =
           (same_fault c.from_residual-in_err-containers.result e handed.0 handed.1) looked c.in_err-containers.ensures.reads.cut
           (λ o k it knows kept at_d clean free.
           let at = it.catalogue.housings in
-          c.in_err-containers.ensures.faults at.housings (ap (λ (db : Database). db.trees tables.housing.tree) (looked.same at_d) ∙ at.rows) clean free);
+          c.in_err-containers.ensures.faults at.housings (still_numbered housing_row _ _ at.housings (ap (λ (db : Database). db.trees tables.housing.tree) (looked.same at_d)) at.rows) clean free);
     }
 
 pub returns-in_err-boxes : goal.returns-in_err-boxes
@@ -103,7 +105,7 @@ returns-in_err-boxes g c =
           let found = one_found a.now.trees k.forest at.units c.args.unit got.0 got.1.0 c.pop.new.self.items c.in-Some.level (sym got.2 ∙ c.in-Some.ensures.items) in
           let u = found.0 in
           let housed = containers_told a.now o k it c.args.unit u found.1 found.2 in
-          let numbers = c.in_ok-containers.ensures.numbers at_e at.housings.housings (ap (λ (db : Database). db.trees tables.housing.tree) (looked_d.same at_d) ∙ at.housings.rows) k.containers u.values housed in
+          let numbers = c.in_ok-containers.ensures.numbers at_e at.housings.housings (still_numbered housing_row _ _ at.housings.housings (ap (λ (db : Database). db.trees tables.housing.tree) (looked_d.same at_d)) at.housings.rows) k.containers u.values housed in
           let there : ShowsContainers e.now.trees k.containers = ap (λ (db : Database). db.trees tables.container.tree) (looked.same at_e) ∙ at.containers in
           c.in_err-boxes.ensures.faults k.containers there kept.boxes kept.few_boxes u.values.boxes (boxes_known a.now o k it c.args.unit u found.1 found.2 knows) (c.as_slice.ensures ∙ numbers) clean free);
     }
@@ -131,7 +133,7 @@ returns g c =
             let told = subst (λ (db : Database). TellsTexts c.args.unit db u.values at.elements.elements) (sym (looked_b.same at_b)) (texts_told a.now o k it c.args.unit u found.1 found.2) in
             let texts = c.in_ok-texts.ensures.tells.answers at_d u.values at.elements.elements told in
             let housed = containers_told a.now o k it c.args.unit u found.1 found.2 in
-            let numbers = c.in_ok-containers.ensures.numbers at_e at.housings.housings (ap (λ (db : Database). db.trees tables.housing.tree) (looked_d.same at_d) ∙ at.housings.rows) k.containers u.values housed in
+            let numbers = c.in_ok-containers.ensures.numbers at_e at.housings.housings (still_numbered housing_row _ _ at.housings.housings (ap (λ (db : Database). db.trees tables.housing.tree) (looked_d.same at_d)) at.housings.rows) k.containers u.values housed in
             let there : ShowsContainers e.now.trees k.containers = ap (λ (db : Database). db.trees tables.container.tree) (looked_e.same at_e) ∙ at.containers in
             let boxes = c.in_ok-boxes.ensures.boxes clean k.containers there u.values.boxes (c.as_slice.ensures ∙ numbers) in
             rw (found.4, texts, boxes, numbers, found.3) refl;

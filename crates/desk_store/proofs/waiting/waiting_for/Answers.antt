@@ -8,7 +8,7 @@ use Rattle.office_tables.proofs.RowReads.{asks}
 use Rattle.office_tables.proofs.Sorted.{only_order}
 use Rattle.desk_store.specs.Holdings.{waits_for}
 use Rattle.desk_store.proofs.CardRows.{by_order, by_order_total}
-use Rattle.desk_store.proofs.Counted.{counted_rises}
+use Rattle.office_tables.proofs.numbered.Counted.{counted_rises}
 use Rattle.desk_store.proofs.WaitingRows.{waiting_text, waiting_command, waiting_means, waiting_finds, waiting_faults, waiting_of}
 use Rattle.desk_store.proofs.waiting.waiting_for.Goals as goal
 
