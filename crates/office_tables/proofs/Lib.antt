@@ -36,4 +36,4 @@ pub mod SelectOf
 pub mod Fresh
 pub mod OnlyOf
 pub mod CallEnds
-pub mod ReadEnds
+pub mod StepEnds

@@ -9,7 +9,7 @@ use Rattle.office_tables.proofs.CallEnds.{same_fault}
 use Rattle.office_tables.proofs.Calls.{early, cut_then, looks_then}
 use Rattle.office_tables.specs.Faults.{IsUnlimited}
 use Rattle.office_tables.proofs.Causes.{cause_then, still_unlimited}
-use Rattle.office_tables.proofs.ReadEnds.{read_not, read_only}
+use Rattle.office_tables.proofs.StepEnds.{read_not, read_only}
 use Rattle.catalogue_store.proofs.ValueCauses.{box_at}
 use Rattle.catalogue_store.proofs.unit_values.boxes_of.Goals as goal
 
