@@ -1,4 +1,5 @@
 pub mod Units
+pub mod CatalogueRows
 pub mod Merging
 pub mod Publishing
 pub mod Finding

@@ -32,13 +32,17 @@ use Rattle.sqlite_sql.specs.declared.ops.BinaryOp.TheVariants.{Compare}
 use Rattle.sqlite_sql.specs.declared.ops.CompareOp.TheVariants.{Eq}
 use Rattle.sqlite_tied.specs.Compute.{everything}
 use Rattle.sqlite_value.specs.Keys.{joined, first_key, plain}
+use Rattle.desk_core.specs.DeskRows.{PermitRow}
+use Rattle.office_tables.specs.Numbered.{HasNumbered}
 use Rattle.office_tables.specs.Order.{Rises}
+use Rattle.office_tables.specs.Permits.{permit_cells}
 use Rattle.catalogue_rows.specs.Removals.{without, AreRemoved}
-use Rattle.catalogue_rows.specs.Rows.{unit_row, by_number, ElementRow, element_row, HousingRow, housing_row, PermitRow, permit_row}
+use Rattle.catalogue_rows.specs.Rows.{unit_row, by_number, ElementRow, element_row, HousingRow, housing_row}
 use Rattle.tree_core.specs.Versions.{Version, Links, Spans}
 use Rattle.office_tables.specs.Schema.{schema, unit, element, housing, permit, to_unit}
 use Rattle.office_tables.specs.Step.{OnlyTouches}
 use Rattle.catalogue_core.specs.Units.{Unit}
+use Rattle.office_tables.proofs.numbered.OwnNumbers.{those_left}
 use Rattle.office_tables.proofs.Cascades.{IsCascade, three_works, cascade_rows, cascade_apart}
 use Rattle.catalogue_rows.proofs.ElementStatements.{element_alone}
 use Rattle.catalogue_rows.proofs.HousingStatements.{housing_alone}
@@ -195,10 +199,11 @@ module _ (old new : Database) (id : ℕ) (units : List Unit) (u : Unit) (v : Ver
         to_new tables.housing.tree refl refl ∙ to_second tables.housing.tree refl refl
         ∙ cascade_rows (schema v) Enforced (work_on housing 1 u) housing_row (λ h. h.row) (λ _. refl) it.next first xs at rise (λ h. nat_eq u.id h.unit) (λ h. child_is housing 1 u h.unit (housing_row h) refl) cascade.2
         ∙ ap (map housing_row) (same_test_as (λ (h : HousingRow). h.unit) xs);
-    permits = λ xs from rise.
-        let at = to_second tables.permit.tree refl refl ∙ to_first tables.permit.tree refl refl ∙ to_next tables.permit.tree refl refl ∙ from in
-        cascade_rows (schema v) Enforced (work_on permit 2 u) permit_row (λ p. p.row) (λ _. refl) second new.trees xs at rise (λ p. nat_eq u.id p.unit) (λ p. child_is permit 2 u p.unit (permit_row p) refl) cascade.4
-        ∙ ap (map permit_row) (same_test_as (λ (p : PermitRow). p.unit) xs);
+    permits = λ xs has.
+        let at = to_second tables.permit.tree refl refl ∙ to_first tables.permit.tree refl refl ∙ to_next tables.permit.tree refl refl ∙ has.are in
+        subst (HasNumbered permit_cells (new.trees 10)) (same_test_as (λ (p : PermitRow). p.unit) xs)
+        (those_left permit_cells (old.trees 10) (new.trees 10) xs has (λ (p : PermitRow). nat_eq u.id p.unit)
+        (cascade_rows (schema v) Enforced (work_on permit 2 u) permit_cells (λ p. p.0) (λ _. refl) second new.trees has.numbered at has.rise (λ p. nat_eq u.id p.1.unit) (λ p. child_is permit 2 u p.1.unit (permit_cells p) refl) cascade.4));
     only = touched_wider (14 ∷ 20 ∷ 16 ∷ 10 ∷ []) (10 ∷ 14 ∷ 16 ∷ 20 ∷ []) old new refl
         (touched_then (14 ∷ 20 ∷ []) (16 ∷ 10 ∷ []) old (record old { trees = first }) new
         (touched_then (14 ∷ []) (20 ∷ []) old (record old { trees = it.next }) (record old { trees = first }) to_next to_first)

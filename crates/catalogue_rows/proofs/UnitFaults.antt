@@ -1,5 +1,5 @@
 -- Why the DELETE of a unit fails: what tells of the unit goes with it, and each other row keeps its unit.
-use Rattle.std.proofs.Common.{◌≡◌, ◌≢◌, ◌||◌, ◌&&◌, inl, inr, ℕ, pos, List, [], ◌∷◌, map, filter, length, nat_eq, true, false, Ok, Err, None, Some, refl, sym, ap, ap₂, subst, ◌∙◌, arith}
+use Rattle.std.proofs.Common.{ℤ, ◌≡◌, ◌≢◌, ◌||◌, ◌&&◌, inl, inr, ℕ, pos, List, [], ◌∷◌, map, filter, length, nat_eq, true, false, Ok, Err, None, Some, refl, sym, ap, ap₂, subst, ◌∙◌, arith}
 use Rattle.std.proofs.Math.Nat.{le_refl}
 use Rattle.std.proofs.lemmas.Bool.{and_parts, cases_Bool, cases_eq}
 use Rattle.std.proofs.lemmas.List.Sorted.{length_permutation}
@@ -31,18 +31,22 @@ use Rattle.sqlite_rules.proofs.ActionLemmas.{no_works}
 use Rattle.sqlite_rules.proofs.ListLemmas.{all_has}
 use Rattle.sqlite_rules.proofs.RuleLemmas.{refers_same}
 use Rattle.sqlite_tied.specs.Compute.{everything}
-use Rattle.sqlite_trees.proofs.ListLemmas.{all_of, all-map, all_from_map, ascending-filter}
+use Rattle.sqlite_trees.proofs.ListLemmas.{all_of, all-map, all_from_map, all_weaker, ascending-filter}
 use Rattle.sqlite_value.specs.Keys.{joined, first_key, plain}
 use Rattle.tree_core.proofs.Lists.{list_any-map}
+use Rattle.desk_core.specs.DeskRows.{PermitRow}
+use Rattle.office_tables.specs.Numbered.{HasNumbered}
+use Rattle.office_tables.specs.Permits.{permit_cells}
 use Rattle.office_tables.specs.Faults.{fault_of, IsUnlimited, HasCause}
 use Rattle.catalogue_rows.specs.Removals.{without, AreRemoved, IsTold}
-use Rattle.catalogue_rows.specs.Rows.{unit_row, ElementRow, element_row, HousingRow, housing_row, PermitRow, permit_row}
+use Rattle.catalogue_rows.specs.Rows.{unit_row, ElementRow, element_row, HousingRow, housing_row}
 use Rattle.tree_core.specs.Versions.{Version, Links, Spans}
 use Rattle.office_tables.specs.Schema.{schema, place_table, unit, element, housing, permit, to_unit}
 use Rattle.catalogue_core.specs.Units.{Unit}
 use Rattle.office_tables.proofs.Causes.{none_refuse, sums_nothing}
 use Rattle.catalogue_rows.proofs.ElementStatements.{element_alone, element_fits}
 use Rattle.catalogue_rows.proofs.HousingStatements.{housing_alone, housing_fits}
+use Rattle.office_tables.proofs.numbered.OwnNumbers.{all_numbered, all_told}
 use Rattle.office_tables.proofs.DeleteCauses.{IsLeaf, delete_cause}
 use Rattle.office_tables.specs.Meaning.{Means}
 use Rattle.catalogue_rows.proofs.FoundUnits.{none_left, empty}
@@ -67,8 +71,7 @@ told_after gone old new told removed = record {
   housing_rows = removed.housings told.housings told.housing_rows told.housings_rise;
   housings_rise = ascending-filter _ _ told.housings told.housings_rise;
   permits = without (λ (p : PermitRow). p.unit) gone told.permits;
-  permit_rows = removed.permits told.permits told.permit_rows told.permits_rise;
-  permits_rise = ascending-filter _ _ told.permits told.permits_rise;
+  permit_rows = removed.permits told.permits told.permit_rows;
 }
 
 unit_key : (v : Version) (place : ℕ) → parent_key (schema v).tables (to_unit place) ≡ Some (14, 0 ∷ [], plain)
@@ -100,6 +103,23 @@ module _ (v : Version) (place : ℕ) where
       ∙ still_listed (number x) gone units apart (sym (parent_of old units was (row x) (number x) (tells x)) ∙ (and_parts _ _ h).0)))
       (all_from_map P row xs (subst (AllByRecursion P) before all))))
 
+  -- the same of rows with numbers of their own
+  numbered_left : {R : Type 0} (cells : ℤ × R → Row) (number : R → ℕ) → ((x : ℤ × R) → column (cells x) place ≡ Int (pos (number x.1))) → (gone : List ℕ) (old new : Trees) (units : List Unit)
+      → old 14 ≡ map unit_row units → new 14 ≡ map unit_row (without id_of gone units) → (tree : ℕ) (xs : List R) → HasNumbered cells (old tree) xs → HasNumbered cells (new tree) (without number gone xs)
+      → AllByRecursion (λ r. (has_parent (schema v).tables old r (to_unit place) && true) ≡ true) (old tree) → AllByRecursion (λ r. (has_parent (schema v).tables new r (to_unit place) && true) ≡ true) (new tree)
+  numbered_left {R} cells number tells gone old new units was now tree xs before after all =
+      let P = λ (r : Row). (has_parent (schema v).tables old r (to_unit place) && true) ≡ true in
+      let Q = λ (r : Row). (has_parent (schema v).tables new r (to_unit place) && true) ≡ true in
+      let named = λ (us : List Unit) (x : R). list_any (λ (u : Unit). nat_eq (number x) u.id) us ≡ true in
+      let those : AllByRecursion (named units) xs = all_told cells (old tree) xs before (named units)
+      (all_weaker (λ x. P (cells x)) (λ x. named units x.1) (λ x h. sym (parent_of old units was (cells x) (number x.1) (tells x)) ∙ (and_parts _ _ h).0) before.numbered
+      (all_from_map P cells before.numbered (subst (AllByRecursion P) before.are all))) in
+      let left : AllByRecursion (named (without id_of gone units)) (without number gone xs) =
+      all_kept (named units) (named (without id_of gone units)) (λ x. list_any (nat_eq (number x)) gone) xs (λ x apart h. still_listed (number x) gone units apart h) those in
+      subst (AllByRecursion Q) (sym after.are) (all-map Q cells after.numbered
+      (all_weaker (λ (x : ℤ × R). named (without id_of gone units) x.1) (λ x. Q (cells x)) (λ x h. ap (λ b. b && true) (parent_of new (without id_of gone units) now (cells x) (number x.1) (tells x) ∙ h)) after.numbered
+      (all_numbered cells (new tree) (without number gone xs) after (named (without id_of gone units)) left)))
+
 -- each row that is left has its parents
 parents_left : (v : Version) (old new : Database) (gone : List ℕ) → IsTold old.trees → Keeps ForeignKey (schema v) old.trees → AreRemoved gone old new → Refers All (schema v) new.trees
 parents_left v old new gone told keeps removed =
@@ -116,7 +136,7 @@ parents_left v old new gone told keeps removed =
               (
                 free 8,
                 (
-                  children_left v 2 permit_row (λ p. p.unit) (λ _. refl) gone old.trees new.trees told.units told.unit_rows now 10 told.permits told.permit_rows (removed.permits told.permits told.permit_rows told.permits_rise) keeps.1.1.1.1.1.1.0,
+                  numbered_left v 2 permit_cells (λ p. p.unit) (λ _. refl) gone old.trees new.trees told.units told.unit_rows now 10 told.permits told.permit_rows (removed.permits told.permits told.permit_rows) keeps.1.1.1.1.1.1.0,
                   (
                     free 13,
                     (

@@ -4,8 +4,11 @@ use Rattle.std.specs.List.{IsDistinct, list_any}
 use Rattle.std.specs.Ordering.{int_cmp}
 use Rattle.sqlite.specs.Tree.{Trees}
 use Rattle.sqlite.specs.Effect.{Database}
+use Rattle.desk_core.specs.DeskRows.{PermitRow}
+use Rattle.office_tables.specs.Numbered.{HasNumbered}
 use Rattle.office_tables.specs.Order.{Rises}
-use Rattle.catalogue_rows.specs.Rows.{unit_row, by_number, ElementRow, element_row, HousingRow, housing_row, PermitRow, permit_row}
+use Rattle.office_tables.specs.Permits.{permit_cells}
+use Rattle.catalogue_rows.specs.Rows.{unit_row, by_number, ElementRow, element_row, HousingRow, housing_row}
 use Rattle.office_tables.specs.Step.{OnlyTouches}
 use Rattle.catalogue_core.specs.Units.{Unit}
 
@@ -23,7 +26,7 @@ pub record AreRemoved (ids : List ℕ) (old new : Database) : Type 0 where
   pub units : (xs : List Unit) → old.trees 14 ≡ map unit_row xs → Rises by_number xs → new.trees 14 ≡ map unit_row (without (λ u. u.id) ids xs)
   pub elements : (xs : List ElementRow) → old.trees 16 ≡ map element_row xs → Rises (λ a b. int_cmp a.row b.row) xs → new.trees 16 ≡ map element_row (without (λ e. e.unit) ids xs)
   pub housings : (xs : List HousingRow) → old.trees 20 ≡ map housing_row xs → Rises (λ a b. int_cmp a.row b.row) xs → new.trees 20 ≡ map housing_row (without (λ h. h.unit) ids xs)
-  pub permits : (xs : List PermitRow) → old.trees 10 ≡ map permit_row xs → Rises (λ a b. int_cmp a.row b.row) xs → new.trees 10 ≡ map permit_row (without (λ p. p.unit) ids xs)
+  pub permits : (xs : List PermitRow) → HasNumbered permit_cells (old.trees 10) xs → HasNumbered permit_cells (new.trees 10) (without (λ p. p.unit) ids xs)
   pub only : OnlyTouches (10 ∷ 14 ∷ 16 ∷ 20 ∷ []) old new
 
 -- what the tables of the units, and of all that goes with a unit, have as rows
@@ -38,5 +41,4 @@ pub record IsTold (db : Trees) : Type 0 where
   pub housing_rows : db 20 ≡ map housing_row housings
   pub housings_rise : Rises (λ a b. int_cmp a.row b.row) housings
   pub permits : List PermitRow
-  pub permit_rows : db 10 ≡ map permit_row permits
-  pub permits_rise : Rises (λ a b. int_cmp a.row b.row) permits
+  pub permit_rows : HasNumbered permit_cells (db 10) permits

@@ -81,18 +81,6 @@ housing_row h = Int h.row ∷ Int (pos h.unit) ∷ Int (pos h.ord) ∷ Int (pos 
 abbrev pub by_housing : HousingRow → HousingRow → Ordering
 by_housing a b = ordering_then (int_cmp (pos a.unit) (pos b.unit)) (int_cmp (pos a.ord) (pos b.ord))
 
--- ---- permits, whose rows have a number of their own that tells nothing
-
--- a reader's permit for a unit, up to a day
-pub record PermitRow : Type 0 where
-  pub row : ℤ
-  pub ticket : ℕ
-  pub unit : ℕ
-  pub until : ℤ
-
-abbrev pub permit_row : PermitRow → Row
-permit_row p = Int p.row ∷ Int (pos p.ticket) ∷ Int (pos p.unit) ∷ Int p.until ∷ []
-
 -- ---- places
 
 abbrev pub link_row : Link → Row

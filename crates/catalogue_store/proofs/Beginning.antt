@@ -14,8 +14,8 @@ use Rattle.catalogue_rows.specs.Shows.{Shows}
 use Rattle.office_tables.specs.Step.{PutsRow}
 use Rattle.catalogue_rows.specs.declared.office.OfficeRow.{OfficeRow}
 
-pub shows_beginning : (v : Version) (shows : Trees → Forest ℕ → Type 0) → ((old new : Trees) (f : Forest ℕ) → new 24 ≡ old 24 → shows old f → shows new f)
-    → (start mid new : Database) (o : OfficeRow) → HasMade desk_tables (schema v) start mid → new.schema ≡ mid.schema → PutsRow 13 (office_row v o) mid new → shows mid.trees Empty
+pub shows_beginning : (v : Version) (shows : Trees → Forest ℕ → Type 0) → ((old new : Trees) (f : Forest ℕ) → new tables.link.tree ≡ old tables.link.tree → shows old f → shows new f)
+    → (start mid new : Database) (o : OfficeRow) → HasMade desk_tables (schema v) start mid → new.schema ≡ mid.schema → PutsRow tables.office.tree (office_row v o) mid new → shows mid.trees Empty
     → Shows shows v new o (record { forest = Empty; containers = []; next = o.next_unit })
 shows_beginning v shows same start mid new o made schema_is puts placed =
     let none = made.empty in
@@ -33,7 +33,7 @@ shows_beginning v shows same start mid new o made schema_is puts placed =
       shown = same mid.trees new.trees Empty (kept tables.link.tree refl refl) placed;
     }
 
-pub desk_kept : (v : Version) (start mid new : Database) (o : OfficeRow) → HasMade desk_tables (schema v) start mid → PutsRow 13 (office_row v o) mid new → KeepsRows desk_tables start.trees new.trees
+pub desk_kept : (v : Version) (start mid new : Database) (o : OfficeRow) → HasMade desk_tables (schema v) start mid → PutsRow tables.office.tree (office_row v o) mid new → KeepsRows desk_tables start.trees new.trees
 desk_kept v start mid new o made puts =
     let kept = made.kept in
     let only = puts.only in

@@ -1,4 +1,5 @@
 -- Texts and containers, as other tables change.
+use Rattle.office_tables.specs.Schema as tables
 use Rattle.std.proofs.Common.{◌≡◌, ℕ, List, filter, not, Less, nat_eq, ◌∙◌}
 use Rattle.std.specs.Ordering.{int_cmp}
 use Rattle.sqlite.specs.Tree.{Trees}
@@ -15,10 +16,10 @@ use Rattle.catalogue_rows.specs.Shows.{ShowsCatalogue}
 use Rattle.catalogue_rows.specs.declared.office.OfficeRow.{OfficeRow}
 use Rattle.sqlite.specs.Effect.{Database}
 
-pub same_elements : (old new : Trees) (xs : List ElementRow) → new 16 ≡ old 16 → AreElements old xs → AreElements new xs
+pub same_elements : (old new : Trees) (xs : List ElementRow) → new tables.element.tree ≡ old tables.element.tree → AreElements old xs → AreElements new xs
 same_elements old new xs same at = record { rows = same ∙ at.rows; rise = at.rise }
 
-pub same_housed : (old new : Trees) (boxes : List BoxKey) (hs : List HousingRow) → new 18 ≡ old 18 → new 20 ≡ old 20 → AreHoused old boxes hs → AreHoused new boxes hs
+pub same_housed : (old new : Trees) (boxes : List BoxKey) (hs : List HousingRow) → new tables.container.tree ≡ old tables.container.tree → new tables.housing.tree ≡ old tables.housing.tree → AreHoused old boxes hs → AreHoused new boxes hs
 same_housed old new boxes hs containers housings at = record { containers = containers ∙ at.containers; apart = at.apart; rows = housings ∙ at.rows; rise = at.rise }
 
 pub elements_rise : (unit : ℕ) (xs : List ElementRow) → Rises (λ (a b : ElementRow). int_cmp a.row b.row) xs → Rises (λ (a b : ElementRow). int_cmp a.row b.row) (filter (λ x. not (nat_eq unit x.unit)) xs)
@@ -34,7 +35,7 @@ elements_shown v db o c at = record { rows = at.elements.rows; rise = at.element
 pub housed_shown : (v : Version) (db : Database) (o : OfficeRow) (c : Catalogue) → (at : ShowsCatalogue v db o c) → KnowsItsContainers c → AreHoused db.trees c.containers at.housings.housings
 housed_shown v db o c at knows = record { containers = at.containers; apart = knows.apart; rows = at.housings.rows; rise = at.housings.rise }
 
-pub same_described : (old new : Trees) (unit : ℕ) (values : Values) (boxes : List BoxKey) (xs : List ElementRow) (hs : List HousingRow) → new 16 ≡ old 16 → new 18 ≡ old 18 → new 20 ≡ old 20
+pub same_described : (old new : Trees) (unit : ℕ) (values : Values) (boxes : List BoxKey) (xs : List ElementRow) (hs : List HousingRow) → new tables.element.tree ≡ old tables.element.tree → new tables.container.tree ≡ old tables.container.tree → new tables.housing.tree ≡ old tables.housing.tree
     → IsDescribed unit values boxes xs hs old → IsDescribed unit values boxes xs hs new
 same_described old new unit values boxes xs hs texts containers housings it = record {
   elements = it.elements;

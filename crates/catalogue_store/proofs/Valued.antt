@@ -1,4 +1,5 @@
 -- What the tables show after a unit takes other values.
+use Rattle.office_tables.specs.Schema as tables
 use Rattle.std.proofs.Common.{◌≡◌, ℕ, List, map, filter, true, false, not, inl, inr, if◌then◌else◌, nat_eq, refl, sym, subst, ◌∙◌}
 use Rattle.std.specs.List.{AllByRecursion, list_any, list_all}
 use Rattle.std.specs.List.Sorted.{IsPermutation}
@@ -26,9 +27,9 @@ use Rattle.catalogue_rows.proofs.Statuses.{nodes_each, each_each, all_map, kept_
 -- what tells the unit's values in the tables is what tells these, and all else is as it was
 pub record HasValued (old new : Database) (unit : ℕ) (values : Values) (units : List Unit) (elements : List ElementRow) (housings : List HousingRow) (boxes : List BoxKey) : Type 0 where
   pub schema : new.schema ≡ old.schema
-  pub office : new.trees 13 ≡ old.trees 13
-  pub places : new.trees 24 ≡ old.trees 24
-  pub units_are : new.trees 14 ≡ map unit_row (map (λ (u : Unit). if has_id unit u then record u { values = values } else u) units)
+  pub office : new.trees tables.office.tree ≡ old.trees tables.office.tree
+  pub places : new.trees tables.link.tree ≡ old.trees tables.link.tree
+  pub units_are : new.trees tables.unit.tree ≡ map unit_row (map (λ (u : Unit). if has_id unit u then record u { values = values } else u) units)
   pub described : IsDescribed unit values boxes (filter (λ x. not (nat_eq unit x.unit)) elements) (filter (λ x. not (nat_eq unit x.unit)) housings) new.trees
 
 module _ (unit : ℕ) (values : Values) where
@@ -71,7 +72,7 @@ module _ (unit : ℕ) (values : Values) where
       (λ apart. IsPermutation-trans (housing_cells more u.values) (housings_of u.id xs) (housings_of u.id ys) h (others_cells (λ (h : HousingRow). h.unit) housing_cell unit u.id (housing_cells more values) xs ys apart told)))
       (nodes f) still)
 
-  pub shows_valued : (v : Version) (shows : Trees → Forest ℕ → Type 0) → ((old new : Trees) (f : Forest ℕ) → new 24 ≡ old 24 → shows old f → shows new f)
+  pub shows_valued : (v : Version) (shows : Trees → Forest ℕ → Type 0) → ((old new : Trees) (f : Forest ℕ) → new tables.link.tree ≡ old tables.link.tree → shows old f → shows new f)
       → (old new : Database) (o : OfficeRow) (c : Catalogue) (it : Shows shows v old o c) → KnowsItsContainers c → has (has_id unit) c.forest ≡ true
       → HasValued old new unit values it.catalogue.units.units it.catalogue.elements.elements it.catalogue.housings.housings c.containers → Shows shows v new o (with_values unit values c)
   shows_valued v shows same old new o c it knows there wrote =

@@ -19,12 +19,13 @@ use Rattle.office_tables.proofs.Calls.{cut_then}
 use Rattle.office_tables.proofs.Causes.{still_unlimited}
 use Rattle.office_tables.proofs.LaterCauses.{next_cause}
 use Rattle.desk_store.specs.Readers.{is_live, live_orders, held_with, seat_of, placed_on, card_of}
-use Rattle.desk_store.specs.Shows.{AreCounted, ShowsDesk, ShowsRoom, IsLegible}
+use Rattle.desk_store.specs.Shows.{ShowsDesk, ShowsRoom, IsLegible}
+use Rattle.office_tables.specs.Numbered.{AreCounted}
 use Rattle.desk_store.specs.declared.cards.LiveOrder.{LiveOrder}
 use Rattle.desk_store.specs.declared.cards.ReaderCard.{ReaderCard}
 use Rattle.desk_store.specs.declared.readers.NamedReader.{NamedReader}
 use Rattle.desk_store.specs.declared.seating.TakenSeat.{TakenSeat}
-use Rattle.desk_store.proofs.Counted.{counted_within}
+use Rattle.office_tables.proofs.numbered.Counted.{counted_within}
 use Rattle.desk_store.proofs.ReaderRows.{named}
 use Rattle.desk_store.proofs.SeatRows.{taken}
 

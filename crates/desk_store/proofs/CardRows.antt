@@ -42,9 +42,9 @@ use Rattle.office_tables.specs.Step.{Holds}
 use Rattle.office_tables.specs.declared.fault.StoreFault.{StoreFault}
 use Rattle.office_tables.proofs.Tests.{both, same_number, eq_ints}
 use Rattle.desk_store.specs.Rows.{order_cells}
-use Rattle.desk_store.specs.Shows.{AreCounted}
-use Rattle.desk_store.proofs.CountOf.{counting, count_finds, count_faults}
-use Rattle.desk_store.proofs.LastOf.{last_of, last_finds, last_faults}
+use Rattle.office_tables.specs.Numbered.{AreCounted}
+use Rattle.office_tables.proofs.CountOf.{counting, count_finds, count_faults}
+use Rattle.office_tables.proofs.LastOf.{last_of, last_finds, last_faults}
 
 -- ---- how many orders there are
 

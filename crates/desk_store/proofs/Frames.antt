@@ -5,8 +5,10 @@ use Rattle.sqlite.specs.Order.{Row}
 use Rattle.isad_core.specs.Limits.{most_orders, most_tickets, most_runs}
 use Rattle.desk_core.specs.DeskRows.{Desk, ReaderRow, SeatRow, OrderRow, HoldingRow, RunRow, RunLineRow, PermitRow}
 use Rattle.office_tables.specs.Step.{OnlyTouches}
-use Rattle.desk_store.specs.Rows.{reader_cells, seat_cells, order_cells, holding_cells, run_cells, run_line_cells, permit_cells}
-use Rattle.desk_store.specs.Shows.{AreCounted, AreByNumber, HasNumbered, ShowsDesk}
+use Rattle.desk_store.specs.Rows.{reader_cells, seat_cells, order_cells, holding_cells, run_cells, run_line_cells}
+use Rattle.office_tables.specs.Permits.{permit_cells}
+use Rattle.desk_store.specs.Shows.{ShowsDesk}
+use Rattle.office_tables.specs.Numbered.{AreCounted, AreByNumber, HasNumbered}
 
 has_again : {R : Type 0} (cells : ℤ × R → Row) (there now : List Row) (rows : List R) → now ≡ there → HasNumbered cells there rows → HasNumbered cells now rows
 has_again cells there now rows same has = subst (λ l. HasNumbered cells l rows) (sym same) has

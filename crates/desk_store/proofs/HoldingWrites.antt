@@ -41,7 +41,8 @@ use Rattle.office_tables.specs.Step.{Goes, Holds, HasRows, OnlyTouches, PutsRow}
 use Rattle.office_tables.specs.declared.fault.StoreFault.{StoreFault}
 use Rattle.desk_store.specs.Holdings.{put_down, with_place}
 use Rattle.desk_store.specs.Rows.{holding_cells}
-use Rattle.desk_store.specs.Shows.{AreByNumber, ShowsDesk, ShowsRoom, IsLegible}
+use Rattle.desk_store.specs.Shows.{ShowsDesk, ShowsRoom, IsLegible}
+use Rattle.office_tables.specs.Numbered.{AreByNumber}
 use Rattle.office_tables.proofs.Calls.{early, goes_then, cut_then, on_ok_then, on_err_then}
 use Rattle.office_tables.proofs.Casts.{cast_int, cast_null, cast_maybe}
 use Rattle.office_tables.proofs.Causes.{still_unlimited}
@@ -56,7 +57,7 @@ use Rattle.office_tables.proofs.Tests.{only, same_number}
 use Rattle.office_tables.proofs.Touching.{touched_again}
 use Rattle.desk_store.proofs.Frames.{with_holdings}
 use Rattle.office_tables.proofs.OnlyOf.{delete_only}
-use Rattle.desk_store.proofs.PutAgain.{put_gone}
+use Rattle.office_tables.proofs.numbered.PutAgain.{put_gone}
 
 -- ---- a container has no row any more
 

@@ -1,9 +1,6 @@
 pub mod Creations
 pub mod SeatRows
 pub mod Frames
-pub mod Counted
-pub mod LastOf
-pub mod CountOf
 pub mod CardRows
 pub mod ReaderRows
 pub mod ReaderCalls
@@ -11,12 +8,12 @@ pub mod CardCalls
 pub mod OrderReads
 pub mod SeatCalls
 pub mod OrderWrites
-pub mod PutAgain
 pub mod HoldingWrites
-pub mod OwnNumbers
 pub mod PermitRows
 pub mod PermitCalls
 pub mod RunRows
 pub mod RunCalls
 pub mod LoanRows
 pub mod LoanCalls
+pub mod OpeningRows
+pub mod OpeningCalls

@@ -14,11 +14,12 @@ use Rattle.office_tables.specs.declared.fault.StoreFault.{StoreFault}
 use Rattle.office_tables.specs.declared.fault.StoreFault.TheVariants.{Memory}
 use Rattle.office_tables.proofs.Calls.{cut_after}
 use Rattle.desk_store.specs.Holdings.{ticket_of, loan_by, issued_by}
-use Rattle.desk_store.specs.Shows.{AreCounted, ShowsRoom, IsLegible}
+use Rattle.desk_store.specs.Shows.{ShowsRoom, IsLegible}
+use Rattle.office_tables.specs.Numbered.{AreCounted}
 use Rattle.desk_store.specs.declared.holdings.Loan.{Loan}
 use Rattle.desk_store.specs.declared.lending.HoldingLine.{HoldingLine}
 use Rattle.desk_store.proofs.CardCalls.{first_told}
-use Rattle.desk_store.proofs.Counted.{counted_within}
+use Rattle.office_tables.proofs.numbered.Counted.{counted_within}
 use Rattle.desk_store.proofs.LoanRows.{line_of}
 
 find_none : (o n : ℕ) (xs : List OrderRow) → AllByRecursion (λ (x : OrderRow). x.id < n) xs → n ≤ o → find (λ (x : OrderRow). nat_eq o x.id) xs ≡ None

@@ -40,7 +40,8 @@ use Rattle.office_tables.specs.Step.{Holds, HasRows, OnlyTouches, PutsRow}
 use Rattle.office_tables.specs.declared.fault.StoreFault.{StoreFault}
 use Rattle.desk_store.specs.Orders.{state_number, with_order, with_order_state, IsNextOrder}
 use Rattle.desk_store.specs.Rows.{order_cells}
-use Rattle.desk_store.specs.Shows.{AreCounted, ShowsRoom, IsLegible}
+use Rattle.desk_store.specs.Shows.{ShowsRoom, IsLegible}
+use Rattle.office_tables.specs.Numbered.{AreCounted}
 use Rattle.desk_store.specs.declared.orders.OrderState.{OrderState}
 use Rattle.office_tables.proofs.Calls.{on_ok_then}
 use Rattle.office_tables.proofs.Casts.{cast_int, cast_null}
@@ -51,7 +52,7 @@ use Rattle.office_tables.proofs.Puts.{put_rows}
 use Rattle.office_tables.proofs.Tests.{only, same_number}
 use Rattle.office_tables.proofs.UpdateCauses.{KeepsTable}
 use Rattle.office_tables.proofs.UpdateOf.{changing, update_leaves, update_faults}
-use Rattle.desk_store.proofs.Counted.{counted_again, counted_free, counted_more, counted_rises, put_end}
+use Rattle.office_tables.proofs.numbered.Counted.{counted_again, counted_free, counted_more, counted_rises, put_end}
 use Rattle.desk_store.proofs.Frames.{with_orders}
 use Rattle.office_tables.proofs.OnlyOf.{update_only}
 

@@ -29,10 +29,11 @@ use Rattle.office_tables.proofs.LaterCauses.{last_cause}
 use Rattle.office_tables.proofs.Puts.{has_at}
 use Rattle.office_tables.proofs.Rows.{had}
 use Rattle.desk_store.specs.Permits.{by_unit, is_permit, without_permit, with_permit, revoked, HasUnitRow}
-use Rattle.desk_store.specs.Rows.{permit_cells}
-use Rattle.desk_store.specs.Shows.{HasNumbered, ShowsDesk, ShowsRoom, IsLegible}
+use Rattle.office_tables.specs.Permits.{permit_cells}
+use Rattle.desk_store.specs.Shows.{ShowsDesk, ShowsRoom, IsLegible}
+use Rattle.office_tables.specs.Numbered.{HasNumbered}
 use Rattle.desk_store.proofs.Frames.{with_permits}
-use Rattle.desk_store.proofs.OwnNumbers.{one_more, told_permuted}
+use Rattle.office_tables.proofs.numbered.OwnNumbers.{one_more, told_permuted}
 use Rattle.desk_store.proofs.PermitRows.{by_ticket, permit_of, told_of}
 
 -- ---- what is told

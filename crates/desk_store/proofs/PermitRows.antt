@@ -38,8 +38,8 @@ use Rattle.office_tables.specs.Schema.{schema, to_unit, unit, permit}
 use Rattle.office_tables.specs.Step.{OnlyTouches, PutsRow}
 use Rattle.office_tables.specs.declared.fault.StoreFault.{StoreFault}
 use Rattle.desk_store.specs.Permits.{is_permit, without_permit, HasUnitRow}
-use Rattle.desk_store.specs.Rows.{permit_cells}
-use Rattle.desk_store.specs.Shows.{HasNumbered}
+use Rattle.office_tables.specs.Permits.{permit_cells}
+use Rattle.office_tables.specs.Numbered.{HasNumbered}
 use Rattle.desk_store.specs.declared.granting.Permit.{Permit}
 use Rattle.office_tables.proofs.Calls.{on_ok_then}
 use Rattle.office_tables.proofs.Casts.{cast_int, cast_null}
@@ -51,7 +51,7 @@ use Rattle.office_tables.proofs.SelectOf.{asking, select_finds, select_faults}
 use Rattle.office_tables.proofs.Steps.{is_referred_to}
 use Rattle.office_tables.proofs.Tests.{only, both, same_number, by_two_ints}
 use Rattle.office_tables.proofs.OnlyOf.{delete_only}
-use Rattle.desk_store.proofs.OwnNumbers.{none_numbered, all_numbered, those_left}
+use Rattle.office_tables.proofs.numbered.OwnNumbers.{none_numbered, all_numbered, those_left}
 
 -- ---- a permit for a unit that has its row
 

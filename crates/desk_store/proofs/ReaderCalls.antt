@@ -25,7 +25,7 @@ use Rattle.office_tables.proofs.Puts.{put_rows}
 use Rattle.desk_store.specs.Readers.{next_ticket, with_reader}
 use Rattle.desk_store.specs.Rows.{reader_cells}
 use Rattle.desk_store.specs.Shows.{ShowsDesk, ShowsRoom, IsLegible}
-use Rattle.desk_store.proofs.Counted.{counted_more, counted_free, put_end}
+use Rattle.office_tables.proofs.numbered.Counted.{counted_more, counted_free, put_end}
 use Rattle.desk_store.proofs.Frames.{with_readers}
 
 -- where there is a next ticket, it is one more than those that were given

@@ -44,7 +44,8 @@ use Rattle.office_tables.specs.Step.{Holds, HasRows, OnlyTouches, PutsRow}
 use Rattle.office_tables.specs.declared.fault.StoreFault.{StoreFault}
 use Rattle.desk_store.specs.Readers.{renewed}
 use Rattle.desk_store.specs.Rows.{reader_cells}
-use Rattle.desk_store.specs.Shows.{AreCounted, IsLegibleReader}
+use Rattle.desk_store.specs.Shows.{IsLegibleReader}
+use Rattle.office_tables.specs.Numbered.{AreCounted}
 use Rattle.desk_store.specs.declared.readers.NamedReader.{NamedReader}
 use Rattle.office_tables.proofs.Casts.{cast_int, cast_null}
 use Rattle.office_tables.proofs.Fresh.{not_there}
@@ -54,8 +55,8 @@ use Rattle.office_tables.proofs.SelectOf.{asking, select_finds, select_faults}
 use Rattle.office_tables.proofs.Tests.{only, same_number, by_one_int}
 use Rattle.office_tables.proofs.UpdateCauses.{KeepsTable}
 use Rattle.office_tables.proofs.UpdateOf.{changing, update_leaves, update_faults}
-use Rattle.desk_store.proofs.Counted.{counted_rises}
-use Rattle.desk_store.proofs.LastOf.{last_of, last_finds, last_faults}
+use Rattle.office_tables.proofs.numbered.Counted.{counted_rises}
+use Rattle.office_tables.proofs.LastOf.{last_of, last_finds, last_faults}
 use Rattle.office_tables.proofs.OnlyOf.{update_only}
 
 -- ---- a new reader

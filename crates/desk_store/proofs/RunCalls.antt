@@ -26,9 +26,10 @@ use Rattle.office_tables.proofs.Puts.{put_rows}
 use Rattle.office_tables.proofs.Touching.{touched_again, touched_wider}
 use Rattle.desk_store.specs.Rows.{run_cells, run_line_cells}
 use Rattle.desk_store.specs.Runs.{next_run, line_of, with_run, MayRun}
-use Rattle.desk_store.specs.Shows.{HasNumbered, ShowsDesk, ShowsRoom, IsLegible}
+use Rattle.desk_store.specs.Shows.{ShowsDesk, ShowsRoom, IsLegible}
+use Rattle.office_tables.specs.Numbered.{HasNumbered}
 use Rattle.desk_store.specs.declared.holdings.FirstOrder.{FirstOrder}
-use Rattle.desk_store.proofs.Counted.{counted_more, counted_free, put_end}
+use Rattle.office_tables.proofs.numbered.Counted.{counted_more, counted_free, put_end}
 use Rattle.desk_store.proofs.Frames.{with_runs}
 
 -- ---- the lines

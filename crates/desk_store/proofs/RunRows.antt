@@ -37,7 +37,7 @@ use Rattle.office_tables.specs.Schema.{schema, run, run_line}
 use Rattle.office_tables.specs.Step.{Holds, OnlyTouches, PutsRow}
 use Rattle.office_tables.specs.declared.fault.StoreFault.{StoreFault}
 use Rattle.desk_store.specs.Rows.{run_cells, run_line_cells}
-use Rattle.desk_store.specs.Shows.{AreCounted, HasNumbered}
+use Rattle.office_tables.specs.Numbered.{AreCounted, HasNumbered}
 use Rattle.desk_store.specs.declared.runs.TakenLine.{TakenLine}
 use Rattle.office_tables.proofs.Calls.{on_ok_then}
 use Rattle.office_tables.proofs.Casts.{cast_int, cast_null}
@@ -46,8 +46,8 @@ use Rattle.office_tables.proofs.InsertCauses.{IsWelcome}
 use Rattle.office_tables.proofs.InsertOf.{insert_puts, insert_faults}
 use Rattle.office_tables.proofs.SelectOf.{asking, select_finds, select_faults}
 use Rattle.office_tables.proofs.Tests.{only, both, same_number, by_two_ints}
-use Rattle.desk_store.proofs.LastOf.{last_of, last_finds, last_faults}
-use Rattle.desk_store.proofs.OwnNumbers.{none_numbered, one_at_end, told_permuted}
+use Rattle.office_tables.proofs.LastOf.{last_of, last_finds, last_faults}
+use Rattle.office_tables.proofs.numbered.OwnNumbers.{none_numbered, one_at_end, told_permuted}
 
 -- ---- the last run
 

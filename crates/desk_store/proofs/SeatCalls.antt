@@ -17,7 +17,8 @@ use Rattle.office_tables.proofs.Calls.{on_ok_then}
 use Rattle.office_tables.proofs.Puts.{put_rows, put_rises}
 use Rattle.desk_store.specs.Rows.{seat_cells}
 use Rattle.desk_store.specs.Seats.{MayTake, with_seat}
-use Rattle.desk_store.specs.Shows.{AreByNumber, ShowsRoom, IsLegible}
+use Rattle.desk_store.specs.Shows.{ShowsRoom, IsLegible}
+use Rattle.office_tables.specs.Numbered.{AreByNumber}
 use Rattle.desk_store.proofs.Frames.{with_seats}
 
 abbrev seat_key : SeatRow → ℤ

@@ -36,7 +36,7 @@ use Rattle.office_tables.specs.Schema.{schema, seat}
 use Rattle.office_tables.specs.Step.{Holds, HasRows, OnlyTouches, PutsRow}
 use Rattle.office_tables.specs.declared.fault.StoreFault.{StoreFault}
 use Rattle.desk_store.specs.Rows.{seat_cells}
-use Rattle.desk_store.specs.Shows.{AreByNumber}
+use Rattle.office_tables.specs.Numbered.{AreByNumber}
 use Rattle.desk_store.specs.declared.seating.TakenSeat.{TakenSeat}
 use Rattle.office_tables.proofs.Casts.{cast_int, cast_null}
 use Rattle.office_tables.proofs.DeleteOf.{removing, delete_leaves, delete_faults}

@@ -7,3 +7,4 @@ pub mod Orders
 pub mod Holdings
 pub mod Runs
 pub mod Permits
+pub mod Opening

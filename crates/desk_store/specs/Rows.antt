@@ -4,7 +4,7 @@ use Rattle.std.specs.Prelude.{ℤ, pos, [], ◌∷◌, option_map}
 use Rattle.sqlite.specs.declared.types.Value.TheVariants.{Null, Int, Text}
 use Rattle.sqlite.specs.Order.{Row}
 use Rattle.sqlite.specs.Values.{or_null}
-use Rattle.desk_core.specs.DeskRows.{ReaderRow, SeatRow, OrderRow, HoldingRow, RunRow, RunLineRow, PermitRow}
+use Rattle.desk_core.specs.DeskRows.{ReaderRow, SeatRow, OrderRow, HoldingRow, RunRow, RunLineRow}
 
 abbrev pub reader_cells : ReaderRow → Row
 reader_cells r = Int (pos r.ticket) ∷ Null ∷ Text r.name ∷ Int r.until ∷ []
@@ -21,10 +21,6 @@ holding_cells h = Int (pos h.container) ∷ Null ∷ Int (pos h.place) ∷ or_nu
 abbrev pub run_cells : RunRow → Row
 run_cells r = Int (pos r.id) ∷ Null ∷ Int r.day ∷ []
 
--- the rows of these two have a number of their own that tells nothing
-
+-- the rows have a number of their own that tells nothing
 abbrev pub run_line_cells : ℤ × RunLineRow → Row
 run_line_cells (n, l) = Int n ∷ Int (pos l.run) ∷ Int (pos l.container) ∷ Int (pos l.order_no) ∷ Int (pos l.ticket) ∷ []
-
-abbrev pub permit_cells : ℤ × PermitRow → Row
-permit_cells (n, p) = Int n ∷ Int (pos p.ticket) ∷ Int (pos p.unit) ∷ Int p.until ∷ []

@@ -1,34 +1,14 @@
 -- When the tables show a desk: each has the rows that its part of the desk names, and no others.
-use Rattle.std.specs.Prelude.{◌≡◌, ℕ, suc, ℤ, pos, ◌≤◌, ◌<◌, ◌^◌, List, [], ◌∷◌, length, map, IsPermutation, IsUtf8, true, ⊤}
+use Rattle.std.specs.Prelude.{◌≡◌, ◌≤◌, ◌<◌, ◌^◌, length, map, IsUtf8, true, ⊤}
 use Rattle.std.specs.List.{AllByRecursion}
-use Rattle.std.specs.Ordering.{int_cmp}
 use Rattle.sqlite.specs.Tree.{Trees}
 use Rattle.sqlite.specs.Effect.{Database}
-use Rattle.sqlite.specs.Order.{Row}
 use Rattle.isad_core.specs.Days.{is_day_number}
 use Rattle.isad_core.specs.Limits.{most_orders, most_tickets, most_runs}
 use Rattle.desk_core.specs.DeskRows.{Desk, ReaderRow, SeatRow, OrderRow, HoldingRow, RunRow, PermitRow}
-use Rattle.office_tables.specs.Order.{Rises}
-use Rattle.desk_store.specs.Rows.{reader_cells, seat_cells, order_cells, holding_cells, run_cells, run_line_cells, permit_cells}
-
--- the rows have the numbers from n on, without a gap
-abbrev pub AreCountedFrom : {R : Type 0} → (R → ℕ) → ℕ → List R → Type 0
-AreCountedFrom number n [] = ⊤
-AreCountedFrom number n (row ∷ rows) = (number row ≡ n) × AreCountedFrom number (suc n) rows
-
-abbrev pub AreCounted : {R : Type 0} → (R → ℕ) → List R → Type 0
-AreCounted number = AreCountedFrom number 1
-
--- the rows stand in the order of their numbers
-abbrev pub AreByNumber : {R : Type 0} → (R → ℕ) → List R → Type 0
-AreByNumber number = Rises (λ a b. int_cmp (pos (number a)) (pos (number b)))
-
--- the table has these rows, in whatever order, each with a number of its own
-pub record HasNumbered {R : Type 0} (cells : ℤ × R → Row) (there : List Row) (rows : List R) : Type 0 where
-  pub numbered : List (ℤ × R)
-  pub are : there ≡ map cells numbered
-  pub rise : Rises (λ a b. int_cmp a.0 b.0) numbered
-  pub tell : IsPermutation rows (map (λ n. n.1) numbered)
+use Rattle.office_tables.specs.Numbered.{AreCounted, AreByNumber, HasNumbered}
+use Rattle.desk_store.specs.Rows.{reader_cells, seat_cells, order_cells, holding_cells, run_cells, run_line_cells}
+use Rattle.office_tables.specs.Permits.{permit_cells}
 
 -- Tickets, orders and runs are numbered from 1 as they come, up to the most that there may ever be. Seats and holdings stand by
 -- the numbers of the seats and of the containers.

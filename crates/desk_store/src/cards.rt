@@ -15,7 +15,8 @@ ghost use Rattle.office_tables.specs.Schema as tables;
 ghost use Rattle.office_tables.specs.Step.{InOffice, Holds};
 ghost use Rattle.desk_store.specs.Readers.{is_live, live_orders, placed_on, card_of};
 ghost use Rattle.desk_store.specs.Rows.{order_cells};
-ghost use Rattle.desk_store.specs.Shows.{AreCounted, ShowsRoom, IsLegible};
+ghost use Rattle.desk_store.specs.Shows.{ShowsRoom, IsLegible};
+ghost use Rattle.office_tables.specs.Numbered.{AreCounted};
 
 use crate::readers::{MOST_TICKETS, NamedReader, readers_with};
 use crate::seating::{TakenSeat, seats_with};

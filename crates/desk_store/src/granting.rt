@@ -14,8 +14,9 @@ ghost use Rattle.office_tables.specs.Schema as tables;
 ghost use Rattle.office_tables.specs.Step.{InOffice, OnlyTouches, PutsRow};
 ghost use Rattle.desk_store.specs.Permits.{permits_of, by_unit, is_permit, without_permit, with_permit, revoked};
 ghost use Rattle.desk_store.specs.Permits.{HasUnitRow};
-ghost use Rattle.desk_store.specs.Rows.{permit_cells};
-ghost use Rattle.desk_store.specs.Shows.{HasNumbered, ShowsRoom, IsLegible};
+ghost use Rattle.office_tables.specs.Permits.{permit_cells};
+ghost use Rattle.desk_store.specs.Shows.{ShowsRoom, IsLegible};
+ghost use Rattle.office_tables.specs.Numbered.{HasNumbered};
 
 use isad_core::Day;
 use office_tables::answer::FromRow;

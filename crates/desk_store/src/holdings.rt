@@ -12,7 +12,8 @@ ghost use Rattle.office_tables.specs.Schema as tables;
 ghost use Rattle.office_tables.specs.Step.{InOffice, Holds, HasRows, OnlyTouches, PutsRow};
 ghost use Rattle.desk_store.specs.Holdings.{by_order, with_place};
 ghost use Rattle.desk_store.specs.Rows.{holding_cells};
-ghost use Rattle.desk_store.specs.Shows.{AreByNumber, ShowsRoom, IsLegible};
+ghost use Rattle.desk_store.specs.Shows.{ShowsRoom, IsLegible};
+ghost use Rattle.office_tables.specs.Numbered.{AreByNumber};
 
 use desk_core::Place;
 use office_tables::value::{number, number_or_null};

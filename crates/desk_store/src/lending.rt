@@ -11,7 +11,8 @@ ghost use Rattle.office_tables.specs.Schema as tables;
 ghost use Rattle.office_tables.specs.Step.{InOffice, Holds};
 ghost use Rattle.desk_store.specs.Holdings.{issued_of, loan_by, ticket_of};
 ghost use Rattle.desk_store.specs.Rows.{holding_cells, order_cells};
-ghost use Rattle.desk_store.specs.Shows.{AreByNumber, AreCounted, ShowsRoom, IsLegible};
+ghost use Rattle.desk_store.specs.Shows.{ShowsRoom, IsLegible};
+ghost use Rattle.office_tables.specs.Numbered.{AreByNumber, AreCounted};
 
 use crate::holdings::Loan;
 use office_tables::answer::FromRow;

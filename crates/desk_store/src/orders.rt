@@ -13,7 +13,8 @@ ghost use Rattle.office_tables.specs.Schema as tables;
 ghost use Rattle.office_tables.specs.Step.{InOffice, Holds};
 ghost use Rattle.desk_store.specs.Orders.{state_number, order_with, IsThere};
 ghost use Rattle.desk_store.specs.Rows.{order_cells};
-ghost use Rattle.desk_store.specs.Shows.{AreCounted, IsLegibleOrder, ShowsRoom, IsLegible};
+ghost use Rattle.desk_store.specs.Shows.{IsLegibleOrder, ShowsRoom, IsLegible};
+ghost use Rattle.office_tables.specs.Numbered.{AreCounted};
 
 use isad_core::Day;
 use office_tables::answer::FromRow;

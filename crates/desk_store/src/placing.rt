@@ -12,7 +12,8 @@ ghost use Rattle.office_tables.specs.Schema as tables;
 ghost use Rattle.office_tables.specs.Step.{InOffice, Holds, HasRows, OnlyTouches, PutsRow};
 ghost use Rattle.desk_store.specs.Orders.{state_number, with_order, with_order_state, IsNextOrder};
 ghost use Rattle.desk_store.specs.Rows.{order_cells};
-ghost use Rattle.desk_store.specs.Shows.{AreCounted, ShowsRoom, IsLegible};
+ghost use Rattle.desk_store.specs.Shows.{ShowsRoom, IsLegible};
+ghost use Rattle.office_tables.specs.Numbered.{AreCounted};
 
 use crate::orders::OrderState;
 use isad_core::Day;

@@ -15,7 +15,8 @@ ghost use Rattle.office_tables.specs.Schema as tables;
 ghost use Rattle.office_tables.specs.Step.{InOffice, Holds, HasRows, OnlyTouches, PutsRow};
 ghost use Rattle.desk_store.specs.Readers.{next_ticket, with_reader, renewed, with_last_day};
 ghost use Rattle.desk_store.specs.Rows.{reader_cells};
-ghost use Rattle.desk_store.specs.Shows.{AreCounted, IsLegibleReader, ShowsDesk, ShowsRoom, IsLegible};
+ghost use Rattle.desk_store.specs.Shows.{IsLegibleReader, ShowsDesk, ShowsRoom, IsLegible};
+ghost use Rattle.office_tables.specs.Numbered.{AreCounted};
 
 use isad_core::{Day, Text};
 use office_tables::answer::FromRow;

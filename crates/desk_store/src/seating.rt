@@ -14,7 +14,8 @@ ghost use Rattle.office_tables.specs.Schema as tables;
 ghost use Rattle.office_tables.specs.Step.{InOffice, Holds, HasRows, OnlyTouches, PutsRow};
 ghost use Rattle.desk_store.specs.Rows.{seat_cells};
 ghost use Rattle.desk_store.specs.Seats.{taken_seats, with_seat, MayTake};
-ghost use Rattle.desk_store.specs.Shows.{AreByNumber, ShowsRoom, IsLegible};
+ghost use Rattle.desk_store.specs.Shows.{ShowsRoom, IsLegible};
+ghost use Rattle.office_tables.specs.Numbered.{AreByNumber};
 ghost use Rattle.desk_store.specs.declared.seating.TakenSeat.{TakenSeat};
 
 use office_tables::answer::FromRow;

@@ -3,7 +3,7 @@ use Rattle.std.proofs.Common.{◌≡◌, ℕ, ◌≤◌, Bool, true, ◌&&◌, O
 use Rattle.std.proofs.lemmas.Int.{ints}
 use Rattle.std.specs.Prelude.{ℤ, pos, neg_ℤ, nat_eq, nat_le, int_le, ◌≤ℤ◌, is_some, option_map}
 use Rattle.std.specs.List.{list_any}
-use Rattle.std.proofs.lemmas.Bool.{eqb-true, eq-eqb, cases_eq, le-leb, and_from, and_parts, leb-true}
+use Rattle.std.proofs.lemmas.Bool.{eq-eqb, cases_eq, le-leb, and_from, and_parts, leb-true}
 use Rattle.isad_core.specs.Days.{IsDayNumber, is_day_number}
 use Rattle.tree_core.specs.Forest.{nodes}
 use Rattle.tree_core.proofs.Lists.{list_any-map}
@@ -14,7 +14,8 @@ use Rattle.catalogue_core.specs.Finding.{has_unit}
 use Rattle.catalogue_core.specs.Sources.{is_between}
 use Rattle.office_rows.specs.DeskRows.{ReaderRow, reader_row, OrderRow, order_row, order_rows, RunRow, run_row}
 use Rattle.tree_core.specs.Versions.{Version}
-use Rattle.office_rows.specs.Reading.{UnitRow, unit_row, ContainerRow, container_row, tables}
+use Rattle.catalogue_core.specs.CatalogueRows.{UnitRow, unit_row, ContainerRow, container_row}
+use Rattle.office_rows.specs.Reading.{tables}
 use Rattle.office_rows.specs.DeskCauses.{is_registered, is_container_there, is_unit_there}
 use Rattle.office_core.proofs.Words.{other_number}
 use Rattle.office_rows.proofs.Members.{any_same}

@@ -11,7 +11,8 @@ use Rattle.catalogue_core.specs.Members.{StandsIn}
 use Rattle.office_core.specs.Rules.{is_name}
 use Rattle.catalogue_core.specs.Sources.{is_between}
 use Rattle.office_rows.specs.DeskRows.{ReaderRow, reader_from, SeatRow, OrderRow, PermitRow}
-use Rattle.office_rows.specs.Reading.{ContainerRow, box_from, Rows, state_of}
+use Rattle.catalogue_core.specs.CatalogueRows.{ContainerRow, box_from}
+use Rattle.office_rows.specs.Reading.{Rows, state_of}
 use Rattle.office_rows.specs.DeskCauses.{are_numbered_from, is_registered, is_unit_there, is_container_there, is_good_reader, is_good_seat, is_good_permit, are_good_readers, are_twice, is_of_the_day, is_good_order, are_good_orders}
 use Rattle.office_rows.proofs.Members.{test_in}
 use Rattle.office_rows.proofs.NumberedRows.{known_numbered, numbered-map}

@@ -9,7 +9,8 @@ use Rattle.tree_core.specs.Versions.{Version}
 use Rattle.catalogue_core.specs.Units.{has_id}
 use Rattle.office_core.specs.State.{State}
 use Rattle.office_core.specs.Soundness.{IsSound}
-use Rattle.office_rows.specs.Reading.{UnitRow, unit_row, ContainerRow, Rows, tables, state_of}
+use Rattle.catalogue_core.specs.CatalogueRows.{UnitRow, unit_row, ContainerRow}
+use Rattle.office_rows.specs.Reading.{Rows, tables, state_of}
 use Rattle.office_rows.specs.CatalogueCauses.{catalogue_tests, IsCatalogueOf}
 use Rattle.office_rows.specs.DeskCauses.{are_numbered_from, readers_are_bad, orders_are_bad, holdings_are_bad, runs_are_bad, day_is_broken}
 use Rattle.office_rows.specs.DeskJudged.{HasNoDeskCause, HasGoodCatalogue, SoundTablesPass, PassingRowsAreSound}

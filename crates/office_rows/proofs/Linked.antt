@@ -6,7 +6,7 @@ use Rattle.tree_core.specs.Links.{siblings, rows_below, HoldsLinks}
 use Rattle.tree_core.specs.Steps.{Fits}
 use Rattle.tree_core.specs.declared.rows.Link.{Link}
 use Rattle.tree_core.proofs.Lookups.{fits_all}
-use Rattle.office_rows.specs.Reading.{grow, linked, places_said, LinkRows}
+use Rattle.catalogue_core.specs.CatalogueRows.{grow, linked, places_said, LinkRows}
 
 linked_fits : (fuel : ℕ) (links : List Link) (p : Option ℕ) (k : ℕ) (f : Forest ℕ) → Fits links p k f → size f < fuel → linked fuel links p k ≡ f
 linked_fits zero links p k f h l = absurd (omega (arith, l))

@@ -8,7 +8,7 @@ use Rattle.tree_core.specs.Spans.{number}
 use Rattle.tree_core.specs.declared.rows.Span.{Span}
 use Rattle.catalogue_core.proofs.DistinctLists.{all_so}
 use Rattle.catalogue_core.proofs.EachOf.{all_append}
-use Rattle.office_rows.specs.Reading.{nested, places_said, SpanRows}
+use Rattle.catalogue_core.specs.CatalogueRows.{nested, places_said, SpanRows}
 use Rattle.office_rows.proofs.ReadBack.{filter_parts}
 
 -- the first numbers of a forest that is numbered from k

@@ -12,7 +12,8 @@ use Rattle.office_core.specs.Words.{numbered, numbers_to, stands}
 use Rattle.office_core.specs.State.{Line, Run, Permit, State}
 use Rattle.office_rows.specs.DeskRows.{rows_from, SeatRow, seat_rows_from, run_row, RunLineRow, run_line_row, lines_from, PermitRow, permit_row, permit_rows}
 use Rattle.tree_core.specs.Versions.{Version}
-use Rattle.office_rows.specs.Reading.{seats_said, line_from, run_from, permits_said, container_row, box_from, SaysAllButUnits}
+use Rattle.catalogue_core.specs.CatalogueRows.{container_row, box_from}
+use Rattle.office_rows.specs.Reading.{seats_said, line_from, run_from, permits_said, SaysAllButUnits}
 use Rattle.office_rows.proofs.TableLaws.{rows_back, reads_back}
 use Rattle.office_core.specs.SoundDesk.{AreGoodPermits, IsSoundDesk}
 use Rattle.office_core.proofs.Words.{same_number, other_number, stands-push, numbered_within}

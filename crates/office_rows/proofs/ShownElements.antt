@@ -18,7 +18,8 @@ use Rattle.office_core.specs.Words.{numbered, stands}
 use Rattle.office_rows.specs.DeskRows.{rows_from}
 use Rattle.catalogue_core.specs.Sources.{is_between}
 use Rattle.catalogue_core.specs.GoodCatalogues.{is_good_text, IsGoodUnit}
-use Rattle.office_rows.specs.Reading.{ElementRow, after_level, element_rows_from, ContainerRow, container_row, HousingRow, housing_row, housings_of, Rows, tables, number_of}
+use Rattle.catalogue_core.specs.CatalogueRows.{ElementRow, after_level, element_rows_from, ContainerRow, container_row, HousingRow, housing_row, housings_of}
+use Rattle.office_rows.specs.Reading.{Rows, tables, number_of}
 use Rattle.office_rows.specs.DeskCauses.{are_numbered_from}
 use Rattle.office_rows.specs.CatalogueCauses.{unit_numbers, is_good_element, is_good_housing, are_good_container_rows, is_same_element, is_same_container, is_same_place, is_housed_alike}
 use Rattle.office_rows.specs.Judged.{IsSoundCatalogue}

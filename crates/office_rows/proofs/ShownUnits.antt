@@ -29,7 +29,8 @@ use Rattle.catalogue_core.specs.Sources.{is_source, is_between}
 use Rattle.catalogue_core.specs.Moves.{height}
 use Rattle.office_core.specs.Soundness.{is_country, is_repository}
 use Rattle.catalogue_core.specs.GoodCatalogues.{IsSomeDay, IsGoodUnit, is_same_unit}
-use Rattle.office_rows.specs.Reading.{OfficeRow, UnitRow, unit_row, number_of, place_rows, tables, state_of}
+use Rattle.catalogue_core.specs.CatalogueRows.{OfficeRow, UnitRow, unit_row, place_rows}
+use Rattle.office_rows.specs.Reading.{number_of, tables, state_of}
 use Rattle.office_rows.specs.CatalogueCauses.{is_good_office, are_good_places, is_some_day, is_good_unit_row, unit_numbers, place_numbers, all_stand_in, are_good_units, is_named_alike}
 use Rattle.office_rows.specs.Judged.{IsSoundCatalogue}
 use Rattle.office_core.proofs.Words.{same_number}

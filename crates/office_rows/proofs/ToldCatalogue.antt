@@ -27,7 +27,8 @@ use Rattle.catalogue_core.specs.Moves.{height}
 use Rattle.office_core.specs.Soundness.{is_country, is_repository, AreGoodSettings}
 use Rattle.catalogue_core.specs.GoodCatalogues.{IsSomeDay, IsGoodUnit, AreGoodUnits, is_same_unit}
 use Rattle.office_core.specs.Laws.{numbers_from}
-use Rattle.office_rows.specs.Reading.{OfficeRow, UnitRow, unit_row, number_of, ElementRow, ContainerRow, HousingRow, Rows, place_rows, state_of, box_from, text_said, boxes_said, places_said, unit_said, unit_from, housings_of}
+use Rattle.catalogue_core.specs.CatalogueRows.{OfficeRow, UnitRow, unit_row, ElementRow, ContainerRow, HousingRow, place_rows, box_from, text_said, places_said, housings_of}
+use Rattle.office_rows.specs.Reading.{number_of, Rows, state_of, boxes_said, unit_said, unit_from}
 use Rattle.office_rows.specs.DeskCauses.{are_numbered_from}
 use Rattle.office_rows.specs.CatalogueCauses.{is_good_office, are_good_places, is_some_day, is_good_unit_row, unit_numbers, place_numbers, all_stand_in, are_good_units, is_good_element, is_good_housing, are_good_container_rows, office_is_bad, places_are_bad, units_are_bad, elements_are_bad, containers_are_bad, is_named_alike, MeetsCatalogueKeys, ArePlacesOf, IsCatalogueOf}
 use Rattle.office_rows.specs.Causes.{catalogue_cause}

@@ -9,7 +9,7 @@ use Rattle.catalogue_core.specs.Merging.{box_number, number_in}
 use Rattle.tree_core.proofs.Lists.{In}
 use Rattle.office_core.specs.Words.{numbered}
 use Rattle.office_rows.specs.DeskRows.{rows_from}
-use Rattle.office_rows.specs.Reading.{ContainerRow, container_row, box_from}
+use Rattle.catalogue_core.specs.CatalogueRows.{ContainerRow, container_row, box_from}
 use Rattle.office_rows.specs.DeskCauses.{are_numbered_from}
 use Rattle.office_rows.specs.CatalogueCauses.{is_same_container}
 use Rattle.catalogue_core.proofs.Imported.{same_box}

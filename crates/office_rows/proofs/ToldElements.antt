@@ -18,7 +18,8 @@ use Rattle.office_core.specs.Laws.{numbers_from}
 use Rattle.office_core.specs.Words.{stands}
 use Rattle.catalogue_core.specs.Sources.{is_between}
 use Rattle.catalogue_core.specs.GoodCatalogues.{is_good_text}
-use Rattle.office_rows.specs.Reading.{ElementRow, after_level, element_rows_from, Rows, text_said, unit_said}
+use Rattle.catalogue_core.specs.CatalogueRows.{ElementRow, after_level, element_rows_from, text_said}
+use Rattle.office_rows.specs.Reading.{Rows, unit_said}
 use Rattle.office_rows.specs.CatalogueCauses.{is_same_element, is_good_element}
 use Rattle.office_rows.proofs.UnitRows.{found_kept}
 use Rattle.office_rows.proofs.RowsByNumber.{in_filter, flat_map_same, flat_map_reordered, grouped, one_kept, in_numbers, own_apart}

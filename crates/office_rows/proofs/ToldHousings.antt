@@ -21,7 +21,8 @@ use Rattle.catalogue_core.specs.Merging.{box_number}
 use Rattle.office_core.specs.Laws.{numbers_from}
 use Rattle.office_core.specs.Words.{numbered}
 use Rattle.office_rows.specs.DeskRows.{rows_from}
-use Rattle.office_rows.specs.Reading.{HousingRow, housing_row, Rows, box_from, box_at, boxes_from, boxes_said, housings_of, unit_said}
+use Rattle.catalogue_core.specs.CatalogueRows.{HousingRow, housing_row, box_from, housings_of}
+use Rattle.office_rows.specs.Reading.{Rows, box_at, boxes_from, boxes_said, unit_said}
 use Rattle.office_rows.specs.CatalogueCauses.{is_same_place, is_housed_alike}
 use Rattle.office_rows.proofs.RowsByNumber.{in_map, in_filter, flat_map_same, flat_map_reordered, grouped, found_by, one_kept, in_numbers, numbers_length, numbers_apart, own_apart}
 use Rattle.office_rows.proofs.ToldUnits.{said_id, said_boxes}

@@ -17,7 +17,7 @@ use Rattle.tree_core.proofs.NumberingWalk.{ids-number}
 use Rattle.tree_core.proofs.Linking.{held_without_fault}
 use Rattle.tree_core.proofs.Reading.{shown_without_fault}
 use Rattle.tree_core.specs.Versions.{Version, Links, Spans}
-use Rattle.office_rows.specs.Reading.{PlaceRows, LinkRows, SpanRows, place_rows, places_said}
+use Rattle.catalogue_core.specs.CatalogueRows.{PlaceRows, LinkRows, SpanRows, place_rows, places_said}
 use Rattle.office_rows.specs.CatalogueCauses.{are_good_places, place_numbers, ArePlacesOf}
 use Rattle.office_rows.proofs.Judging.{nothing_there}
 use Rattle.office_rows.proofs.Nested.{spans_say}

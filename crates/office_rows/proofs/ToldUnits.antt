@@ -10,7 +10,8 @@ use Rattle.tree_core.proofs.EachLemmas.{nodes-each}
 use Rattle.tree_core.proofs.Members.{permutation_from_members}
 use Rattle.catalogue_core.specs.Units.{Unit}
 use Rattle.office_core.specs.Laws.{numbers_from}
-use Rattle.office_rows.specs.Reading.{UnitRow, unit_row, Rows, box_from, text_said, boxes_said, values_said, unit_from, unit_said}
+use Rattle.catalogue_core.specs.CatalogueRows.{UnitRow, unit_row, box_from, text_said}
+use Rattle.office_rows.specs.Reading.{Rows, boxes_said, values_said, unit_from, unit_said}
 use Rattle.office_rows.specs.CatalogueCauses.{unit_numbers}
 use Rattle.office_rows.proofs.RowsByNumber.{From, in_map, found_by}
 

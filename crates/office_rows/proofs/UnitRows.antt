@@ -6,7 +6,7 @@ use Rattle.std.specs.Str.{bytes_eq}
 use Rattle.std.proofs.lemmas.Slice.Eq.{bytes_eq-Decides}
 use Rattle.std.proofs.lemmas.List.Sorted.{IsPermutation-refl}
 use Rattle.std.specs.List.{list_all, flat_map, list_any, AllByRecursion, IsDistinct, cons_option}
-use Rattle.std.proofs.lemmas.Bool.{cases_Bool, cases_lt, lt-ltb, le-ltb, false≢true, or_cases, and_parts}
+use Rattle.std.proofs.lemmas.Bool.{false≢true, or_cases, and_parts}
 use Rattle.std.proofs.lemmas.List.Concat.{flat_map-cons}
 use Rattle.isad_core.specs.Texts.{Bytes}
 use Rattle.isad_core.specs.declared.values.BoxKey.{BoxKey}
@@ -22,7 +22,8 @@ use Rattle.office_core.specs.Words.{numbered}
 use Rattle.office_core.specs.Laws.{numbers_from}
 use Rattle.office_rows.specs.DeskRows.{rows_from}
 use Rattle.tree_core.specs.Versions.{Version, Links, Spans}
-use Rattle.office_rows.specs.Reading.{UnitRow, unit_row, number_of, ElementRow, after_level, element_rows_from, HousingRow, housing_row, box_at, boxes_from, boxes_said, text_said, Rows, tables, container_row, box_from, values_said, unit_from, unit_said, places_said, place_rows, SaysUnits}
+use Rattle.catalogue_core.specs.CatalogueRows.{UnitRow, unit_row, ElementRow, after_level, element_rows_from, HousingRow, housing_row, text_said, container_row, box_from, places_said, place_rows}
+use Rattle.office_rows.specs.Reading.{number_of, box_at, boxes_from, boxes_said, Rows, tables, values_said, unit_from, unit_said, SaysUnits}
 use Rattle.office_rows.proofs.TableLaws.{rows_back}
 use Rattle.office_rows.proofs.Nested.{spans_say}
 use Rattle.office_rows.proofs.Linked.{links_say}

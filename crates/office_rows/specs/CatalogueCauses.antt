@@ -18,7 +18,8 @@ use Rattle.office_core.specs.State.{State}
 use Rattle.catalogue_core.specs.Sources.{is_source, is_between}
 use Rattle.catalogue_core.specs.Moves.{height}
 use Rattle.office_core.specs.Soundness.{is_country, is_repository}
-use Rattle.office_rows.specs.Reading.{OfficeRow, UnitRow, ElementRow, ContainerRow, HousingRow, PlaceRows, LinkRows, SpanRows, Rows, tables, state_of, box_from, housings_of}
+use Rattle.catalogue_core.specs.CatalogueRows.{OfficeRow, UnitRow, ElementRow, ContainerRow, HousingRow, PlaceRows, LinkRows, SpanRows, box_from, housings_of}
+use Rattle.office_rows.specs.Reading.{Rows, tables, state_of}
 use Rattle.office_rows.specs.DeskCauses.{are_numbered_from}
 
 -- ---- 1: the office

@@ -3,7 +3,8 @@ use Rattle.std.specs.Prelude.{◌≡◌, ℕ, zero, suc, pos, List, [], ◌∷�
 use Rattle.tree_core.specs.declared.rows.Link.{Link}
 use Rattle.tree_core.specs.Worked.{link, span}
 use Rattle.tree_core.specs.Versions.{Links, Spans}
-use Rattle.office_rows.specs.Reading.{Rows, LinkRows, SpanRows, ElementRow, ContainerRow, HousingRow}
+use Rattle.catalogue_core.specs.CatalogueRows.{LinkRows, SpanRows, ElementRow, ContainerRow, HousingRow}
+use Rattle.office_rows.specs.Reading.{Rows}
 use Rattle.office_rows.specs.Causes.{cause}
 use Rattle.office_rows.specs.DeskCausesRows.{sound as office_rows, plans, many_units}
 

@@ -10,7 +10,8 @@ use Rattle.office_core.specs.State.{State, containers, is_seated, held, opens, o
 use Rattle.office_core.specs.Rules.{is_name}
 use Rattle.catalogue_core.specs.Sources.{is_between}
 use Rattle.office_rows.specs.DeskRows.{ReaderRow, SeatRow, OrderRow, HoldingRow, RunRow, RunLineRow, PermitRow}
-use Rattle.office_rows.specs.Reading.{UnitRow, ContainerRow, Rows, state_of}
+use Rattle.catalogue_core.specs.CatalogueRows.{UnitRow, ContainerRow}
+use Rattle.office_rows.specs.Reading.{Rows, state_of}
 
 -- ---- keys
 

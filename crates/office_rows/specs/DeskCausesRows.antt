@@ -2,7 +2,8 @@
 use Rattle.std.specs.Prelude.{◌≡◌, ℕ, ℤ, pos, neg_ℤ, true, false, Bool, List, [], ◌∷◌, map, Some, None, codes}
 use Rattle.tree_core.specs.Worked.{link}
 use Rattle.office_rows.specs.DeskRows.{ReaderRow, SeatRow, OrderRow, HoldingRow, RunLineRow, PermitRow}
-use Rattle.office_rows.specs.Reading.{Rows, LinkRows, UnitRow}
+use Rattle.catalogue_core.specs.CatalogueRows.{LinkRows, UnitRow}
+use Rattle.office_rows.specs.Reading.{Rows}
 use Rattle.office_core.specs.Laws.{numbers_from}
 use Rattle.office_core.specs.Worked.{february_1, march_1, march_2, year_end}
 use Rattle.office_rows.specs.Causes.{desk_tests}

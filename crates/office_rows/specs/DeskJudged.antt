@@ -6,7 +6,8 @@ use Rattle.isad_core.specs.Boxes.{distinct}
 use Rattle.office_core.specs.State.{State}
 use Rattle.catalogue_core.specs.Finding.{has_unit}
 use Rattle.tree_core.specs.Versions.{Version}
-use Rattle.office_rows.specs.Reading.{ContainerRow, Rows, tables, state_of}
+use Rattle.catalogue_core.specs.CatalogueRows.{ContainerRow}
+use Rattle.office_rows.specs.Reading.{Rows, tables, state_of}
 use Rattle.office_core.specs.SoundDesk.{IsSoundDesk}
 use Rattle.office_core.specs.Soundness.{IsSound, ArePermitsOfUnits}
 use Rattle.office_rows.specs.DeskCauses.{MeetsDeskKeys, are_numbered_from, is_unit_there, readers_are_bad, orders_are_bad, holdings_are_bad, runs_are_bad, day_is_broken}

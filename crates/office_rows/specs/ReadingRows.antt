@@ -6,7 +6,8 @@ use Rattle.tree_core.specs.Worked.{link, span}
 use Rattle.catalogue_core.specs.Units.{Unit}
 use Rattle.office_core.specs.State.{State}
 use Rattle.tree_core.specs.Versions.{Version, Links, Spans}
-use Rattle.office_rows.specs.Reading.{LinkRows, SpanRows, tables, state_of}
+use Rattle.catalogue_core.specs.CatalogueRows.{LinkRows, SpanRows}
+use Rattle.office_rows.specs.Reading.{tables, state_of}
 use Rattle.office_core.specs.Worked.{office, march_1, march_2, year_end}
 
 abbrev pub box : ℕ → BoxKey

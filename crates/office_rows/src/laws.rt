@@ -10,7 +10,8 @@ ghost use Rattle.tree_core.specs.Links.{HoldsLinks};
 ghost use Rattle.tree_core.specs.declared.rows.Link.{Link};
 ghost use Rattle.tree_core.specs.Versions.{Version};
 ghost use Rattle.office_rows.specs.Judged.{HasNoCatalogueCause, HasNoCause, SaysASoundState, SaysTheCatalogue};
-ghost use Rattle.office_rows.specs.Reading.{LinkRows, Rows, SaysAllButUnits, SpanRows, places_said, state_of, tables};
+ghost use Rattle.catalogue_core.specs.CatalogueRows.{LinkRows, SpanRows, places_said};
+ghost use Rattle.office_rows.specs.Reading.{Rows, SaysAllButUnits, state_of, tables};
 ghost use Rattle.office_core.specs.Soundness.{IsSound};
 
 /// The rows of a state with a sound desk say all of it but the units, in either version.

@@ -34,6 +34,10 @@ pub mod UpdateOf
 pub mod DeleteOf
 pub mod SelectOf
 pub mod Fresh
+pub mod numbered
 pub mod OnlyOf
+pub mod LastOf
+pub mod CountOf
 pub mod CallEnds
 pub mod StepEnds
+pub mod WriteEnds

@@ -13,3 +13,6 @@ pub mod Meaning
 pub mod Changing
 pub mod Asking
 pub mod Calls
+pub mod Numbered
+pub mod Permits
+pub mod Shared

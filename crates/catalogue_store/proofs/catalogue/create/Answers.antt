@@ -1,3 +1,4 @@
+use Rattle.office_tables.specs.Schema as tables
 use Rattle.std.proofs.Common.{rules, []}
 use Rattle.sqlite.specs.Held.{state}
 use Rattle.sqlite.specs.Change.{KeepsRows}
@@ -77,7 +78,7 @@ returns-clause-shows g c start making clean =
     let on3 = continues_then a0 a2 a3 on2 step3.0 in
     let inside : InTransaction g.P.Places.version a3 = λ clean. ((step3.1 clean).0.schema_is, (step3.1 clean).1) in
     let a4 = state g.S.Store c.insert_office.new.conn in
-    on_ok_both c.insert_office.result (Goes a3 a4) (PutsRow 13 (office_row g.P.Places.version c.args.row.now) a3.now a4.now)
+    on_ok_both c.insert_office.result (Goes a3 a4) (PutsRow tables.office.tree (office_row g.P.Places.version c.args.row.now) a3.now a4.now)
     (Shows g.P.Places.shows g.P.Places.version a4.now c.args.row.now (record { forest = Empty; containers = []; next = c.args.row.now.next_unit }))
     (λ last puts.
     let clean3 = early a3 a4 _ last.on.crash clean in
@@ -97,7 +98,7 @@ returns-clause-desk g c start making clean =
     let on3 = continues_then a0 a2 a3 on2 step3.0 in
     let inside : InTransaction g.P.Places.version a3 = λ clean. ((step3.1 clean).0.schema_is, (step3.1 clean).1) in
     let a4 = state g.S.Store c.insert_office.new.conn in
-    on_ok_both c.insert_office.result (Goes a3 a4) (PutsRow 13 (office_row g.P.Places.version c.args.row.now) a3.now a4.now) (KeepsRows desk_tables start.trees a4.now.trees)
+    on_ok_both c.insert_office.result (Goes a3 a4) (PutsRow tables.office.tree (office_row g.P.Places.version c.args.row.now) a3.now a4.now) (KeepsRows desk_tables start.trees a4.now.trees)
     (λ last puts. desk_kept g.P.Places.version start a3.now a4.now c.args.row.now (step3.1 (early a3 a4 _ last.on.crash clean)).0 puts)
     (c.insert_office.ensures.leaves inside).goes (c.insert_office.ensures.puts inside clean)
 

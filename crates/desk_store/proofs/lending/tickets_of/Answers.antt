@@ -7,7 +7,7 @@ use Rattle.office_tables.proofs.Calls.{early}
 use Rattle.office_tables.proofs.RowReads.{asks}
 use Rattle.office_tables.proofs.Sorted.{only_order}
 use Rattle.desk_store.proofs.CardRows.{by_order, by_order_total}
-use Rattle.desk_store.proofs.Counted.{counted_rises}
+use Rattle.office_tables.proofs.numbered.Counted.{counted_rises}
 use Rattle.desk_store.proofs.LoanRows.{tickets_text, tickets_command, tickets_means, tickets_finds, tickets_faults}
 use Rattle.desk_store.proofs.lending.tickets_of.Goals as goal
 

@@ -6,7 +6,7 @@ use Rattle.desk_core.specs.DeskRows.{OrderRow}
 use Rattle.office_tables.proofs.Calls.{early}
 use Rattle.office_tables.proofs.RowReads.{asks}
 use Rattle.office_tables.proofs.Sorted.{only_order}
-use Rattle.desk_store.proofs.Counted.{counted_rises}
+use Rattle.office_tables.proofs.numbered.Counted.{counted_rises}
 use Rattle.desk_store.proofs.CardRows.{by_order, by_order_total}
 use Rattle.desk_store.proofs.OrderReads.{orders_with_text, orders_with_command, orders_with_means, orders_with_finds, orders_with_faults, entry_of}
 use Rattle.desk_store.proofs.orders.orders_with.Goals as goal

@@ -4,7 +4,7 @@ use Rattle.sqlite.specs.Held.{state}
 use Rattle.isad_core.specs.Limits.{most_tickets}
 use Rattle.desk_core.specs.DeskRows.{ReaderRow}
 use Rattle.office_tables.proofs.Calls.{on_ok_then}
-use Rattle.desk_store.proofs.Counted.{counted_again}
+use Rattle.office_tables.proofs.numbered.Counted.{counted_again}
 use Rattle.desk_store.proofs.Frames.{with_readers}
 use Rattle.desk_store.proofs.ReaderRows.{same_tickets}
 use Rattle.desk_store.proofs.readers.renew.Goals as goal

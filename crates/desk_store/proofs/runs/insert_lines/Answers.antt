@@ -6,7 +6,7 @@ use Rattle.office_tables.proofs.Calls.{early, goes_then}
 use Rattle.office_tables.proofs.Causes.{cause_then, still_unlimited}
 use Rattle.office_tables.proofs.Touching.{touched_again}
 use Rattle.desk_store.specs.Rows.{run_line_cells}
-use Rattle.desk_store.specs.Shows.{HasNumbered}
+use Rattle.office_tables.specs.Numbered.{HasNumbered}
 use Rattle.desk_store.proofs.ReaderCalls.{handed_on}
 use Rattle.desk_store.proofs.RunCalls.{free_line, line_more}
 use Rattle.desk_store.proofs.runs.insert_lines.Goals as goal

@@ -36,8 +36,8 @@ use Rattle.office_tables.proofs.Reading.{all_found}
 use Rattle.office_tables.proofs.RowReads.{all_caused}
 use Rattle.office_tables.proofs.Rows.{had, kept_all}
 use Rattle.office_tables.proofs.Sorted.{head_below}
-use Rattle.desk_store.specs.Shows.{AreCounted}
-use Rattle.desk_store.proofs.Counted.{counted_within, counted_last}
+use Rattle.office_tables.specs.Numbered.{AreCounted}
+use Rattle.office_tables.proofs.numbered.Counted.{counted_within, counted_last}
 
 abbrev descending : Key
 descending = record { collation = Binary; descending = true }

@@ -8,7 +8,7 @@ use Rattle.std.proofs.lemmas.Bool.Decides.{nat_tests}
 use Rattle.sqlite_trees.proofs.ListLemmas.{all_weaker}
 use Rattle.office_tables.specs.Order.{Rises}
 use Rattle.office_tables.specs.Put.{put_by}
-use Rattle.desk_store.proofs.Counted.{below_less}
+use Rattle.office_tables.proofs.numbered.Counted.{below_less}
 
 less_is : (a b : Bool) → cond a Less (cond b Greater Equal) ≡ Less → a ≡ true
 less_is true b h = refl

@@ -3,15 +3,15 @@ use Rattle.std.proofs.Common.{◌≡◌, ℤ, List, [], ◌∷◌, ◌++◌, map
 use Rattle.std.specs.List.{AllByRecursion, list_any}
 use Rattle.std.specs.List.Sorted.{IsPermutation}
 use Rattle.std.proofs.lemmas.Bool.{or_parts, or_from}
-use Rattle.std.proofs.lemmas.List.Sorted.{IsPermutation-trans, IsPermutation-cons, IsPermutation-map, IsPermutation-append_comm}
+use Rattle.std.proofs.lemmas.List.Sorted.{IsPermutation-sym, IsPermutation-trans, IsPermutation-cons, IsPermutation-map, IsPermutation-append_comm}
 use Rattle.sqlite.specs.declared.types.Value.TheVariants.{Int}
 use Rattle.sqlite.specs.Order.{Row}
 use Rattle.sqlite.specs.Edit.{is_taken}
 use Rattle.sqlite.specs.Tree.{rowid, put_row}
-use Rattle.sqlite_trees.proofs.ListLemmas.{map-map, filter-map, IsPermutation-filter, ascending-filter, all-permutation, all_from_map}
+use Rattle.sqlite_trees.proofs.ListLemmas.{map-map, filter-map, IsPermutation-filter, ascending-filter, all-permutation, all-map, all_from_map}
 use Rattle.office_tables.specs.Put.{put_by}
 use Rattle.office_tables.proofs.Puts.{put_rows, put_rises, put_more, fresh_key}
-use Rattle.desk_store.specs.Shows.{HasNumbered}
+use Rattle.office_tables.specs.Numbered.{HasNumbered}
 
 -- what no row is, none is in another order
 
@@ -37,6 +37,9 @@ module _ {R : Type 0} (cells : ℤ × R → Row) where
 
   pub all_numbered : (there : List Row) (rows : List R) (has : HasNumbered cells there rows) (P : R → Type 0) → AllByRecursion P rows → AllByRecursion (λ (x : ℤ × R). P x.1) has.numbered
   all_numbered there rows has P all = all_from_map P told has.numbered (all-permutation P rows (map told has.numbered) has.tell all)
+
+  pub all_told : (there : List Row) (rows : List R) (has : HasNumbered cells there rows) (P : R → Type 0) → AllByRecursion (λ (x : ℤ × R). P x.1) has.numbered → AllByRecursion P rows
+  all_told there rows has P all = all-permutation P (map told has.numbered) rows (IsPermutation-sym rows (map told has.numbered) has.tell) (all-map P told has.numbered all)
 
   -- what is told of those that the test finds, in whatever order they are read
   pub told_permuted : {T : Type 0} (f : R → T) (there : List Row) (rows : List R) (has : HasNumbered cells there rows) (p : R → Bool) (ys : List (ℤ × R)) → IsPermutation (filter (λ (x : ℤ × R). p x.1) has.numbered) ys

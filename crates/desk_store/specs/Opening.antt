@@ -1,0 +1,25 @@
+-- A new day begins.
+use Rattle.std.specs.Prelude.{◌≡◌, ℤ, [], ◌∷◌, ⊤}
+use Rattle.sqlite.specs.Effect.{Database}
+use Rattle.desk_core.specs.DeskRows.{Desk}
+use Rattle.office_tables.specs.Schema as tables
+use Rattle.office_tables.specs.Shared.{OfficeCells, office_cells}
+use Rattle.desk_store.specs.Seats.{all_free}
+use Rattle.desk_store.specs.Shows.{ShowsDesk, IsLegible}
+
+-- the desk, and what the office's row tells beside it
+pub record House : Type 0 where
+  pub office : OfficeCells
+  pub desk : Desk
+
+-- the tables show the desk, and the office's row is the only one of its table
+pub record ShowsHouse (db : Database) (beside : ⊤) (house : House) : Type 0 where
+  pub office : db.trees tables.office.tree ≡ office_cells house.office ∷ []
+  pub desk : ShowsDesk db.trees house.desk
+
+abbrev pub IsLegibleHouse : House → Type 0
+IsLegibleHouse house = IsLegible house.desk
+
+-- it is another day, and nobody sits; nothing else is changed
+abbrev pub opened : ℤ → House → House
+opened day house = record { office = record house.office { day = day }; desk = all_free house.desk }

@@ -1,0 +1,4 @@
+-- Rows that have numbers.
+pub mod Counted
+pub mod PutAgain
+pub mod OwnNumbers
