@@ -11,10 +11,10 @@ use Rattle.office_tables.specs.Faults.{IsUnlimited, HasCause}
 use Rattle.office_tables.specs.Step.{Continues, Goes, IsCut, Looks}
 use Rattle.office_tables.specs.declared.fault.StoreFault.{StoreFault}
 use Rattle.office_tables.proofs.CallEnds.{makes_not, tells_not}
-use Rattle.office_tables.proofs.Calls.{cut_after, cut_then, early, goes_then, looks_then}
+use Rattle.office_tables.proofs.Calls.{cut_after, cut_then, goes_then, looks_then}
 use Rattle.office_tables.proofs.Causes.{still_unlimited}
 use Rattle.office_tables.proofs.LaterCauses.{next_cause}
-use Rattle.office_tables.proofs.WriteCauses.{disk_then}
+use Rattle.office_tables.proofs.WriteEnds.{left_well, left_fault}
 
 -- ---- a call that reads
 
@@ -36,8 +36,8 @@ read_last a b c (Err e) looked last = read_not a c (Err e) e refl (cut_then a b 
 
 -- its last step leaves the transaction so, after others that went well
 pub leaves_last : {X : Type 0} (a b c : State) (r : Result X StoreFault) → Goes a b → Leaves b c r → Leaves a c r
-leaves_last a b c (Ok x) went last = let all = goes_then a b c went last.goes in record { crash = all.on.crash; goes = all; cut = tt; disk = λ clean. tt }
-leaves_last a b c (Err e) went last = let all = cut_then a b c went.on last.cut in record { crash = all.crash; goes = tt; cut = all; disk = λ clean. disk_then a b c went.on (early b c _ last.cut.crash clean) e (last.disk clean) }
+leaves_last a b c (Ok x) went last = left_well a c (goes_then a b c went last.goes)
+leaves_last a b c (Err e) went last = left_fault a b c went (Err e) e refl last
 
 -- ---- a call on tables that show a model, of which a later step fails
 
