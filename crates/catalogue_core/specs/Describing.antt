@@ -1,10 +1,10 @@
 -- Units with their values: added, given other values, and read.
-use Rattle.std.specs.Prelude.{◌≡◌, ℕ, ◌+◌, true, if◌then◌else◌, length, Option, List, ◌++◌}
+use Rattle.std.specs.Prelude.{◌≡◌, ℕ, ◌+◌, true, false, if◌then◌else◌, length, Option, List, ◌++◌}
 use Rattle.std.specs.List.{AllByRecursion, list_any, list_all}
 use Rattle.isad_core.specs.declared.values.Values.{Values}
 use Rattle.isad_core.specs.Boxes.{distinct, is_same}
-use Rattle.tree_core.specs.Forest.{nodes, each, add}
-use Rattle.catalogue_core.specs.Units.{Unit, has_id}
+use Rattle.tree_core.specs.Forest.{nodes, each, add, has, has_place}
+use Rattle.catalogue_core.specs.Units.{Unit, has_id, is_from}
 use Rattle.catalogue_core.specs.Merging.{Catalogue}
 use Rattle.isad_core.specs.declared.values.BoxKey.{BoxKey}
 
@@ -37,3 +37,30 @@ pub record KnowsItsContainers (c : Catalogue) : Type 0 where
 -- every description has a place for each of the 25 elements other than the level
 abbrev pub HasAllPlaces : Catalogue → Type 0
 HasAllPlaces c = AllByRecursion (λ u. length u.values.texts ≡ 25) (nodes c.forest)
+
+-- ---- what a unit needs that is added or described
+
+-- a new unit, after whose number the next ones follow
+abbrev pub with_numbered : Option ℕ → Unit → Catalogue → Catalogue
+with_numbered parent unit c = record (with_unit parent unit c) { next = unit.id + 1 }
+
+-- the values have a place for each text, and name no container twice
+pub record AreWhole (values : Values) : Type 0 where
+  pub places : length values.texts ≡ 25
+  pub once : distinct values.boxes ≡ values.boxes
+
+-- the place is there, in a catalogue that knows its containers
+pub record HasPlaceFor (parent : Option ℕ) (c : Catalogue) : Type 0 where
+  pub knows : KnowsItsContainers c
+  pub place : has_place has_id parent c.forest ≡ true
+
+-- the unit is there, in a catalogue that knows its containers
+pub record MayDescribe (id : ℕ) (c : Catalogue) : Type 0 where
+  pub knows : KnowsItsContainers c
+  pub there : has (has_id id) c.forest ≡ true
+
+-- no unit has its number, nor its number in its source, and its values are whole
+pub record IsNew (u : Unit) (c : Catalogue) : Type 0 where
+  pub number : has (has_id u.id) c.forest ≡ false
+  pub origin : has (is_from u.source u.legacy) c.forest ≡ false
+  pub whole : AreWhole u.values

@@ -17,12 +17,12 @@ use Rattle.tree_core.specs.Forest.{Forest, nodes, each, has, has_place, add}
 use Rattle.tree_core.proofs.EachLemmas.{add-each}
 use Rattle.tree_core.proofs.Lists.{eqb_comm}
 use Rattle.catalogue_rows.specs.Adding.{WithTexts, cell_of, WithHousings, housing_cell, IsDescribed}
-use Rattle.catalogue_core.specs.Describing.{with_boxes, with_unit, KnowsItsContainers}
+use Rattle.catalogue_core.specs.Describing.{with_boxes, with_numbered, KnowsItsContainers}
 use Rattle.catalogue_core.specs.Merging.{Catalogue}
 use Rattle.office_tables.specs.Put.{put_by}
 use Rattle.catalogue_rows.specs.Rows.{office_row, unit_row, by_number, ElementRow, HousingRow}
 use Rattle.tree_core.specs.Versions.{Version}
-use Rattle.catalogue_rows.specs.Shows.{Shows, ShowsUnits, element_cells, elements_of, housing_cells, housings_of}
+use Rattle.catalogue_rows.specs.Shows.{Shows, ShowsNumbered, ShowsUnits, element_cells, elements_of, housing_cells, housings_of}
 use Rattle.catalogue_core.specs.Units.{Unit, has_id}
 use Rattle.catalogue_rows.specs.declared.office.OfficeRow.{OfficeRow}
 use Rattle.catalogue_rows.proofs.Finding.{itself}
@@ -135,9 +135,9 @@ module _ (u : Unit) (parent : Option ℕ) (f : Forest Unit) (many : IsPermutatio
       (nodes f) others_apart still)
 
 pub shows_added : (v : Version) (shows : Trees → Forest ℕ → Type 0) (old new : Database) (o : OfficeRow) (c : Catalogue) (parent : Option ℕ) (u : Unit) (it : Shows shows v old o c)
-    → u.id ≡ c.next → has_place has_id parent c.forest ≡ true → KnowsItsContainers c → HasAdded shows v old new o c parent u it.catalogue.elements.elements it.catalogue.housings.housings
-    → Shows shows v new (record o { next_unit = c.next + 1 }) (with_unit parent u c)
-shows_added v shows old new o c parent u it next there knows wrote =
+    → has_place has_id parent c.forest ≡ true → KnowsItsContainers c → HasAdded shows v old new o c parent u it.catalogue.elements.elements it.catalogue.housings.housings
+    → ShowsNumbered shows v new o (with_numbered parent u c)
+shows_added v shows old new o c parent u it there knows wrote =
     let at = it.catalogue in
     let f = c.forest in
     let boxes = with_boxes c.containers u.values.boxes in
@@ -152,7 +152,7 @@ shows_added v shows old new o c parent u it next there knows wrote =
     record {
       catalogue = record {
         schema_is = wrote.schema ∙ at.schema_is;
-        office = wrote.office ∙ ap (λ n. office_row v (record o { next_unit = n + 1 }) ∷ []) next;
+        office = wrote.office;
         next = refl;
         units = record {
           units = put_by key u at.units.units;

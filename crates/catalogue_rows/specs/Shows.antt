@@ -12,6 +12,7 @@ use Rattle.tree_core.specs.Links.{ShowsLinks}
 use Rattle.tree_core.specs.declared.rows.Link.{Link}
 use Rattle.tree_core.specs.Versions.{Version}
 use Rattle.office_tables.specs.Schema.{schema}
+use Rattle.office_tables.specs.Schema as tables
 use Rattle.catalogue_core.specs.Units.{Unit, has_id}
 use Rattle.catalogue_core.specs.Merging.{Catalogue, box_number}
 use Rattle.office_tables.specs.Numbered.{HasNumbered}
@@ -106,3 +107,17 @@ pub record Shows (places : Trees → Forest ℕ → Type 0) (version : Version) 
 -- the same of the settings, beside the catalogue
 abbrev pub ShowsSettings : (Trees → Forest ℕ → Type 0) → Version → Database → Catalogue → OfficeRow → Type 0
 ShowsSettings places version db c o = Shows places version db o c
+
+-- the same, where the catalogue tells the number of the next unit
+abbrev pub ShowsNumbered : (Trees → Forest ℕ → Type 0) → Version → Database → OfficeRow → Catalogue → Type 0
+ShowsNumbered places version db o c = Shows places version db (record o { next_unit = c.next }) c
+
+-- ---- the trees of the catalogue's tables
+
+-- of those that tell units and containers
+abbrev pub described_trees : List ℕ
+described_trees = tables.unit.tree ∷ tables.element.tree ∷ tables.container.tree ∷ tables.housing.tree ∷ []
+
+-- of all, with the office's row and the places
+abbrev pub catalogue_trees : List ℕ
+catalogue_trees = tables.office.tree ∷ tables.link.tree ∷ described_trees

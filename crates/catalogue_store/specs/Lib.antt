@@ -1,6 +1,7 @@
 pub mod Worked
 pub mod Attaching
 pub mod Valuing
+pub mod Removing
 pub mod Offices
 pub use Rattle.catalogue_core.specs.Units
 pub use Rattle.catalogue_core.specs.Merging

@@ -42,4 +42,5 @@ pub mod CountOf
 pub mod CallEnds
 pub mod ReadEnds
 pub mod CellTexts
+pub mod StepEnds
 pub mod WriteEnds

@@ -28,7 +28,7 @@ returns-clause-tells g c clean boxes xs hs texts housed =
     let kept = c.in_ok-insert_texts.ensures.only before in
     let told = c.in_ok-insert_texts.ensures.adds before xs texts in
     let here = same_housed a.now.trees b.now.trees boxes hs (kept tables.container.tree refl refl) (kept tables.housing.tree refl refl) housed in
-    on_ok_both c.insert_housings.result ((ys : List HousingRow) × AreHoused d.now.trees all ys × WithHousings unit (housing_cells all values) hs ys) (OnlyTouches (18 ∷ 20 ∷ []) b.now d.now) (IsDescribed unit values boxes xs hs d.now.trees)
+    on_ok_both c.insert_housings.result ((ys : List HousingRow) × AreHoused d.now.trees all ys × WithHousings unit (housing_cells all values) hs ys) (OnlyTouches (tables.container.tree ∷ tables.housing.tree ∷ []) b.now d.now) (IsDescribed unit values boxes xs hs d.now.trees)
     (λ added still. record {
       elements = told.0;
       texts = same_elements b.now.trees d.now.trees told.0 (still tables.element.tree refl refl) told.1;
