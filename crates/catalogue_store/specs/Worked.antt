@@ -8,7 +8,7 @@ use Rattle.tree_core.specs.declared.rows.Link.{Link}
 use Rattle.catalogue_core.specs.Merging.{Catalogue}
 use Rattle.catalogue_rows.specs.Rows.{office_row, unit_row, ElementRow, element_row, container_row, HousingRow, housing_row, link_row}
 use Rattle.tree_core.specs.Versions.{Links}
-use Rattle.office_tables.specs.Schema.{schema, office, unit, element, container, housing, link}
+use Rattle.office_tables.specs.Schema.{schema}
 use Rattle.catalogue_core.specs.Units.{Unit}
 use Rattle.catalogue_rows.specs.declared.office.OfficeRow.{OfficeRow}
 

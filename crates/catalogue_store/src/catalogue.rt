@@ -1,6 +1,6 @@
 //! The calls on the whole catalogue.
 
-ghost use Rattle.std.specs.Prelude.{[], OnOk, OnErr, IfErr, ⊤};
+ghost use Rattle.std.specs.Prelude.{[], OnOk, ⊤};
 ghost use Rattle.sqlite.specs.Held.{state};
 ghost use Rattle.sqlite.specs.State.{HasCleanDisk};
 ghost use Rattle.sqlite.specs.Effect.{Database};
@@ -8,12 +8,11 @@ ghost use Rattle.sqlite.specs.Change.{KeepsRows};
 ghost use Rattle.isad_core.specs.Limits.{IsNumber};
 ghost use Rattle.tree_core.specs.Forest.{Empty};
 ghost use Rattle.office_tables.specs.Calls.{ShowsAlone, Tells};
-ghost use Rattle.office_tables.specs.Creation.{IsMaking};
-ghost use Rattle.office_tables.specs.Faults.{IsUnlimited, HasCause, BlamesDisk};
+ghost use Rattle.office_tables.specs.Creation.{IsMaking, LeavesMaking};
 ghost use Rattle.catalogue_core.specs.Finding.{Finds};
 ghost use Rattle.office_tables.specs.Schema.{desk_schema, desk_tables};
 ghost use Rattle.catalogue_rows.specs.Shows.{Shows, ShowsUnits};
-ghost use Rattle.office_tables.specs.Step.{InOffice, Continues, IsCut};
+ghost use Rattle.office_tables.specs.Step.{InOffice};
 ghost use Rattle.catalogue_core.specs.Units.{is_from};
 
 use crate::office::insert_office;
@@ -39,16 +38,8 @@ pub fn create<P: Places, S: Alter>(
     ensures desk { (start : Database) → IsMaking desk_tables desk_schema start (state S.Store conn.old)
         → HasCleanDisk (state S.Store conn.new)
         → OnOk result (KeepsRows desk_tables start.trees (state S.Store conn.new).now.trees) }
-    ensures goes { (start : Database) → IsMaking desk_tables desk_schema start (state S.Store conn.old)
-        → OnOk result (Continues (state S.Store conn.old) (state S.Store conn.new)) }
-    ensures disk { (start : Database) → IsMaking desk_tables desk_schema start (state S.Store conn.old)
-        → HasCleanDisk (state S.Store conn.new)
-        → IfErr result (BlamesDisk (state S.Store conn.old) (state S.Store conn.new)) }
-    ensures faults { (start : Database) → IsMaking desk_tables desk_schema start (state S.Store conn.old)
-        → HasCleanDisk (state S.Store conn.new) → IsUnlimited (state S.Store conn.old)
-        → IfErr result (HasCause (state S.Store conn.old) (state S.Store conn.new)) }
-    ensures cut { (start : Database) → IsMaking desk_tables desk_schema start (state S.Store conn.old)
-        → OnErr result (IsCut (state S.Store conn.old) (state S.Store conn.new)) }
+    ensures leaves { (start : Database) → IsMaking desk_tables desk_schema start (state S.Store conn.old)
+        → LeavesMaking (state S.Store conn.old) (state S.Store conn.new) result }
 {
     create_units(conn)?;
     create_containers(conn)?;

@@ -1,5 +1,5 @@
 -- What a definition makes.
-use Rattle.std.specs.Prelude.{◌≡◌, ℕ, ◌+◌, ◌^◌, nat_lt, true, false, List, [], ◌∷◌, ◌++◌, Ok, Some, codes, slice_get, drop, length, IsTrue}
+use Rattle.std.specs.Prelude.{◌≡◌, ℕ, ◌+◌, ◌^◌, nat_lt, true, false, List, [], ◌∷◌, ◌++◌, Result, Ok, Some, codes, slice_get, drop, length, IfErr, IsTrue, OnOk, OnErr}
 use Rattle.std.specs.List.{AllByRecursion, list_any, list_all}
 use Rattle.std.specs.Str.{is_utf8}
 use Rattle.sqlite.specs.Table.{Table}
@@ -17,6 +17,9 @@ use Rattle.sqlite.specs.Effect.{Database}
 use Rattle.sqlite.specs.Given.{IsPlain}
 use Rattle.sqlite.specs.Listing.{understood}
 use Rattle.sqlite.specs.State.{State, HasCleanDisk}
+use Rattle.office_tables.specs.Faults.{BlamesDisk, Excused}
+use Rattle.office_tables.specs.Step.{Continues, IsCut}
+use Rattle.office_tables.specs.declared.fault.StoreFault.{StoreFault}
 use Rattle.office_tables.specs.Text.{command_of, statement_of, IsAlone}
 use Rattle.sqlite_catalog.specs.Listing.{automatic, is_formed, is_fit}
 use Rattle.office_tables.specs.Schema.{reader, seat, orders, holding, run, run_line, permit, office, unit, element, container, housing, orders_by_state, orders_by_ticket, permit_by_unit, housing_by_container}
@@ -91,6 +94,14 @@ pub record HasMade (there : List Table) (after : Schema) (old new : Database) : 
 -- while the disk is clean, these tables are made beside what was there, and a transaction is open
 abbrev pub IsMaking : List Table → Schema → Database → State → Type 0
 IsMaking there after before s = HasCleanDisk s → HasMade there after before s.now × IsTrue s.in_transaction
+
+-- What a call leaves that makes tables: the transaction goes on, or it is cut. The call fails only for want of memory or by
+-- the disk, which is blamed for its own failures only.
+pub record LeavesMaking {X : Type 0} (old new : State) (r : Result X StoreFault) : Type 0 where
+  pub goes : OnOk r (Continues old new)
+  pub cut : OnErr r (IsCut old new)
+  pub disk : HasCleanDisk new → IfErr r (BlamesDisk old new)
+  pub faults : Excused old new r
 
 -- the desk's tables and the catalogue's, but for that of the places
 abbrev pub catalogue_schema : Schema
