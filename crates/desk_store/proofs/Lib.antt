@@ -27,3 +27,5 @@ pub mod QueueCalls
 pub mod PickingRows
 pub mod PickingLists
 pub mod PickingCalls
+pub mod BroughtRows
+pub mod BroughtCalls

@@ -13,7 +13,9 @@ use Rattle.desk_store.specs.Runs.{lines_of, IsCandidate}
 use Rattle.desk_store.specs.Shows.{ShowsDesk, IsLegible}
 use Rattle.office_tables.specs.Numbered.{AreCounted}
 use Rattle.desk_store.specs.declared.queues.ContainerQueue.{ContainerQueue}
+use Rattle.desk_core.specs.declared.run.Candidate.{Candidate}
 use Rattle.desk_store.specs.declared.runs.Brought.{Brought}
+use Rattle.desk_store.specs.declared.runs.TakenLine.{TakenLine}
 
 -- the containers that the catalogue knows, each under its number, and the desk
 pub record Stacks : Type 0 where
@@ -45,12 +47,16 @@ IsQueued c stacks (Some box) (Some q) = IsQueue c stacks.desk box.1 q
 
 -- ---- what a run brought
 
+-- what is told of a line of a run: the line, with what is written on its container
+abbrev pub IsToldLine : Stacks → TakenLine → Candidate → Type 0
+IsToldLine stacks l = IsCandidate stacks.boxes (record { run = 0; container = l.container; order_no = l.order; ticket = l.ticket })
+
 -- the run's day, and its lines in some order, each with what is written on its container
 pub record IsBrought (stacks : Stacks) (run : RunRow) (told : Brought) : Type 0 where
   pub day : told.day ≡ run.day
-  pub lines : List RunLineRow
-  pub are : IsPermutation (lines_of run.id stacks.desk) lines
-  pub tell : AllZip (IsCandidate stacks.boxes) lines told.lines
+  pub lines : List TakenLine
+  pub are : IsPermutation (map (λ (l : RunLineRow). record { container = l.container; order = l.order_no; ticket = l.ticket }) (lines_of run.id stacks.desk)) lines
+  pub tell : AllZip (IsToldLine stacks) lines told.lines
 
 -- what is told of a run that may have been made
 abbrev pub IsToldRun : Stacks → Option RunRow → Option Brought → Type 0
@@ -58,6 +64,11 @@ IsToldRun stacks None found = found ≡ None
 IsToldRun stacks (Some run) None = ⊥
 IsToldRun stacks (Some run) (Some told) = IsBrought stacks run told
 
+-- the container of a line is known
+abbrev pub IsKnownLine : TakenLine → Stacks → Type 0
+IsKnownLine l stacks = (box : ℕ × BoxKey) × (box_with l.container stacks ≡ Some box)
+
 -- the containers of a run's lines are known
 abbrev pub AreKnown : ℕ → Stacks → Type 0
-AreKnown n stacks = AllByRecursion (λ (l : RunLineRow). (box : BoxKey) × (box_with l.container stacks ≡ Some (l.container, box))) (lines_of n stacks.desk)
+AreKnown n stacks =
+    AllByRecursion (λ (l : RunLineRow). IsKnownLine (record { container = l.container; order = l.order_no; ticket = l.ticket }) stacks) (lines_of n stacks.desk)

@@ -3,6 +3,7 @@
 
 mod blank;
 mod boxes;
+mod brought;
 mod cards;
 mod granting;
 mod holdings;
@@ -20,6 +21,7 @@ mod seating;
 mod waiting;
 
 pub use blank::is_blank;
+pub use brought::run;
 pub use cards::{LiveOrder, ReaderCard, reader};
 pub use granting::{Permit, grant, permits, revoke};
 pub use holdings::{FirstOrder, Loan, set_place};

@@ -95,7 +95,8 @@ fn firsts(
     orders: &[FirstOrder],
 ) -> Result<Vec<FirstOrder>, AllocError>
     ensures { AreByNumber (λ (o : FirstOrder). o.order) orders.now
-        → IfOk result (λ firsts. firsts.items ≡ filter (λ o. is_earliest o orders.now && is_new known.keys o) orders.now) }
+        → IfOk result (λ firsts. firsts.items
+        ≡ filter (λ o. is_earliest o orders.now && is_new known.keys o) orders.now) }
 {
     let mut known = known;
     let mut firsts = Vec::new(alloc);

@@ -65,7 +65,8 @@ impl FromRow for PlaceEntry {
 impl PlaceEntry {
     /// The place, where it is one that there is.
     fn place(&self) -> Result<Place, StoreFault>
-        ensures place { IfOk result (IsAt (Some (record { container = 0; place = self.now.place; held_by = self.now.held_by }))) }
+        ensures place { IfOk result
+            (IsAt (Some (record { container = 0; place = self.now.place; held_by = self.now.held_by }))) }
         ensures known { IsKnownPlace self.now.place self.now.held_by → IsOk result }
     {
         match (self.place, self.held_by) {

@@ -9,8 +9,9 @@ use crate::tests::{Query, new_office, show_rows, two_units};
 use catalogue_store::StoreFault;
 use desk_core::Place;
 use desk_store::{
-    FirstOrder, OrderState, add_reader, append_order, end_order, grant, issued, order, permits,
-    reader, record_run, renew, revoke, seats, set_place, set_seat,
+    FirstOrder, OrderState, add_reader, append_order, at_desk, candidates, end_order, grant,
+    issued, open_day, order, permits, queue, reader, record_run, renew, revoke, run, seats,
+    set_place, set_seat,
 };
 use isad_core::{Day, Text};
 use sqlite::{Alter, Connection};
@@ -171,6 +172,48 @@ fn permitted<S: Alter>(
     Ok(())
 }
 
+/// Orders 1 to 4 wait for containers 2, 1, 2 and 3, and container 3 is at the desk: what a run may
+/// take, what is at the desk, and that nobody knows container 1 and run 1.
+#[tactic(auto, using(crate::proofs::Going::went_on, crate::proofs::Going::looked_on))]
+fn picked<S: Alter>(
+    alloc: Global,
+    conn: &mut Connection<S>,
+    text: &mut String,
+) -> Result<(), StoreFault>
+    requires inside { InTransaction Links (state S.Store conn.old) }
+{
+    append_order(conn, 1, 7, 2, day_after(0)?)?;
+    append_order(conn, 2, 7, 1, day_after(0)?)?;
+    append_order(conn, 3, 8, 2, day_after(0)?)?;
+    append_order(conn, 4, 8, 3, day_after(0)?)?;
+    set_place(conn, 3, Place::Desk)?;
+    for first in &candidates(alloc, conn)? {
+        let (container, order, ticket) = (first.container, first.order, first.ticket);
+        write!(text, "{container} {order} {ticket}\n")?;
+    }
+    for &(container, awaited) in &at_desk(alloc, conn)? {
+        write!(text, "{container} {awaited}\n")?;
+    }
+    let is_unknown = queue(alloc, conn, 1)?.is_none();
+    let is_unmade = run(alloc, conn, 1)?.is_none();
+    write!(text, "{is_unknown} {is_unmade}\n")?;
+    Ok(())
+}
+
+/// Bob sits, and the next day begins.
+#[tactic(auto, using(crate::proofs::Going::went_on))]
+fn opened<S: Alter>(
+    alloc: Global,
+    conn: &mut Connection<S>,
+    text: &mut String,
+) -> Result<(), StoreFault>
+    requires inside { InTransaction Links (state S.Store conn.old) }
+{
+    register(alloc, conn, "Bob", text)?;
+    set_seat(conn, 2, Some(1))?;
+    open_day(conn, day_after(1)?)
+}
+
 /// What is done in a new office.
 #[derive(Clone, Copy)]
 enum Act {
@@ -179,6 +222,8 @@ enum Act {
     End,
     Run,
     Permit,
+    Pick,
+    Open,
 }
 
 /// What the calls say and then the rows of these queries.
@@ -196,6 +241,8 @@ fn told<S: Alter>(
         Act::End => ended(alloc, conn, &mut text)?,
         Act::Run => brought(alloc, conn, &mut text)?,
         Act::Permit => permitted(alloc, conn, &mut text)?,
+        Act::Pick => picked(alloc, conn, &mut text)?,
+        Act::Open => opened(alloc, conn, &mut text)?,
     }
     for query in queries {
         show_rows(&mut text, conn, *query)?;
@@ -218,6 +265,10 @@ fn see(rt: &impl Abort, alloc: Global, cases: &[Case]) -> Result<(), Fail> {
     }
     Ok(())
 }
+
+const SEATS: Query = ("SELECT seat, ticket FROM seat ORDER BY seat", 2);
+
+const DAY: Query = ("SELECT seats, day, next_unit FROM office", 3);
 
 const READERS: Query = ("SELECT ticket, until FROM reader ORDER BY ticket", 2);
 
@@ -245,7 +296,7 @@ const PERMITS: Query = (
 
 #[test]
 fn the_desk_keeps_its_register(rt: HostRuntime) -> Result<(), Fail> {
-    let cases: [Case; 5] = [
+    let cases: [Case; 7] = [
         (Act::Sit, &[READERS], "1\n2\n2 1\n 1 19792\n 2 19783\n"),
         (
             Act::Card,
@@ -265,6 +316,8 @@ fn the_desk_keeps_its_register(rt: HostRuntime) -> Result<(), Fail> {
             "1\n1\n1 1 1\n 1 19784\n 1 2 2 1\n",
         ),
         (Act::Permit, &[PERMITS], "2 19792\n 1 2 19792\n"),
+        (Act::Pick, &[], "2 1 7\n1 2 7\n3 true\ntrue true\n"),
+        (Act::Open, &[SEATS, DAY], "1\n 2 19784 1\n"),
     ];
     see(&rt, rt.alloc(), &cases)
 }
