@@ -30,4 +30,4 @@ returns g c =
     let desk : IsMaking desk_tables desk_schema a2.now a2 = λ clean.
     let it = step.1 clean in
     (record { schema_is = it.0.schema_is; kept = (refl, (refl, (refl, (refl, (refl, (refl, (refl, tt))))))); empty = tt }, it.1) in
-    record { inside = inside_of a2 a3 c.create.result _ _ (c.create.ensures.goes a2.now desk) (c.create.ensures.shows a2.now desk) }
+    record { inside = inside_of a2 a3 c.create.result _ _ (c.create.ensures.leaves a2.now desk).goes (c.create.ensures.shows a2.now desk) }
