@@ -1,4 +1,5 @@
 -- Texts and containers of a unit that are added to their tables.
+use Rattle.office_tables.specs.Schema as tables
 use Rattle.std.specs.Prelude.{◌≡◌, ℕ, true, List, [], ◌∷◌, ◌++◌, map, Option, IsPermutation}
 use Rattle.std.specs.List.{AllByRecursion, list_any}
 use Rattle.sqlite.specs.Tree.{Trees}
@@ -22,7 +23,7 @@ pub record WithCells {A C : Type 0} (unit_of : A → ℕ) (cell_of : A → C) (u
 -- the unit has its row
 pub record HasUnit (db : Trees) (unit : ℕ) : Type 0 where
   pub units : List Unit
-  pub rows : db 14 ≡ map unit_row units
+  pub rows : db tables.unit.tree ≡ map unit_row units
   pub there : list_any (has_id unit) units ≡ true
 
 -- ---- texts
@@ -40,7 +41,7 @@ WithTexts = WithCells (λ (e : ElementRow). e.unit) cell_of
 
 -- the table's rows are these
 pub record AreElements (db : Trees) (xs : List ElementRow) : Type 0 where
-  pub rows : HasNumbered element_row (db 16) xs
+  pub rows : HasNumbered element_row (db tables.element.tree) xs
 
 -- ---- containers
 
@@ -55,7 +56,7 @@ WithHousings = WithCells (λ (h : HousingRow). h.unit) housing_cell
 pub record AreHoused (db : Trees) (boxes : List BoxKey) (xs : List HousingRow) : Type 0 where
   pub containers : ShowsContainers db boxes
   pub apart : distinct boxes ≡ boxes
-  pub rows : HasNumbered housing_row (db 20) xs
+  pub rows : HasNumbered housing_row (db tables.housing.tree) xs
 
 -- ---- both
 

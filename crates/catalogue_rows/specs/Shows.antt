@@ -1,4 +1,5 @@
 -- When the tables show a catalogue: each table has the rows that its part of the catalogue names, and no others.
+use Rattle.office_tables.specs.Schema as tables
 use Rattle.std.specs.Prelude.{◌≡◌, ℕ, zero, suc, ◌+◌, nat_eq, true, List, [], ◌∷◌, map, filter, Option, Some, None, IsPermutation}
 use Rattle.std.specs.List.{AllByRecursion}
 use Rattle.std.proofs.Common.{◌∙◌}
@@ -22,12 +23,12 @@ use Rattle.catalogue_rows.specs.declared.office.OfficeRow.{OfficeRow}
 
 -- one row tells the settings, the day and the next unit number
 abbrev pub ShowsOffice : Version → Trees → OfficeRow → Type 0
-ShowsOffice version db office = db 13 ≡ office_row version office ∷ []
+ShowsOffice version db office = db tables.office.tree ≡ office_row version office ∷ []
 
 -- a row for each unit, by its number
 pub record ShowsUnits (db : Trees) (f : Forest Unit) : Type 0 where
   pub units : List Unit
-  pub rows : db 14 ≡ map unit_row units
+  pub rows : db tables.unit.tree ≡ map unit_row units
   pub rise : Rises by_number units
   pub are : IsPermutation (nodes f) units
 
@@ -55,13 +56,13 @@ elements_of u elements = map (λ e. (e.k, e.value)) (filter (λ e. nat_eq u e.un
 -- a row for each text of each unit
 pub record ShowsElements (db : Trees) (f : Forest Unit) : Type 0 where
   pub elements : List ElementRow
-  pub rows : HasNumbered element_row (db 16) elements
+  pub rows : HasNumbered element_row (db tables.element.tree) elements
   pub are : AllByRecursion (λ u. IsPermutation (element_cells u.values) (elements_of u.id elements)) (nodes f)
   pub others : AllByRecursion (λ e. has (has_id e.unit) f ≡ true) elements
 
 -- a row for each container, numbered from 1
 abbrev pub ShowsContainers : Trees → List BoxKey → Type 0
-ShowsContainers db containers = db 18 ≡ map container_row (counted_from 1 containers)
+ShowsContainers db containers = db tables.container.tree ≡ map container_row (counted_from 1 containers)
 
 -- the containers of a description in its order, each by its place from 1 with its number
 abbrev pub housing_cells : List BoxKey → Values → List (ℕ × ℕ)
@@ -74,19 +75,19 @@ housings_of u housings = map (λ h. (h.ord, h.container)) (filter (λ h. nat_eq 
 -- a row for each container of each unit, at its place in the unit's order from 1
 pub record ShowsHousings (db : Trees) (f : Forest Unit) (containers : List BoxKey) : Type 0 where
   pub housings : List HousingRow
-  pub rows : HasNumbered housing_row (db 20) housings
+  pub rows : HasNumbered housing_row (db tables.housing.tree) housings
   pub are : AllByRecursion (λ u. IsPermutation (housing_cells containers u.values) (housings_of u.id housings)) (nodes f)
   pub others : AllByRecursion (λ h. has (has_id h.unit) f ≡ true) housings
 
 -- the link rows show a forest of unit numbers
 pub record ShowsLinkRows (db : Trees) (f : Forest ℕ) : Type 0 where
   pub links : List Link
-  pub rows : db 24 ≡ map link_row links
+  pub rows : db tables.link.tree ≡ map link_row links
   pub rise : Rises by_id links
   pub are : ShowsLinks f links
 
 -- and no other table tells of it
-pub same_link_rows : (old new : Trees) (f : Forest ℕ) → new 24 ≡ old 24 → ShowsLinkRows old f → ShowsLinkRows new f
+pub same_link_rows : (old new : Trees) (f : Forest ℕ) → new tables.link.tree ≡ old tables.link.tree → ShowsLinkRows old f → ShowsLinkRows new f
 same_link_rows old new f same it = record { links = it.links; rows = same ∙ it.rows; rise = it.rise; are = it.are }
 
 -- the catalogue's tables, but for the places

@@ -7,26 +7,27 @@ use Rattle.desk_core.specs.DeskRows.{Desk, ReaderRow, SeatRow, OrderRow, Holding
 use Rattle.office_tables.specs.Numbered.{AreCounted, AreByNumber, HasNumbered}
 use Rattle.desk_store.specs.Rows.{reader_cells, seat_cells, order_cells, holding_cells, run_cells, run_line_cells}
 use Rattle.office_tables.specs.Permits.{permit_cells}
+use Rattle.office_tables.specs.Schema as tables
 pub use Rattle.desk_core.specs.LegibleDesks.{IsLegibleReader, IsLegibleOrder, IsKnownPlace, IsLegibleHolding, IsLegible}
 
 -- Tickets, orders and runs are numbered from 1 as they come, up to the most that there may ever be. Seats and holdings stand by
 -- the numbers of the seats and of the containers.
 pub record ShowsDesk (db : Trees) (d : Desk) : Type 0 where
-  pub readers : db 0 ≡ map reader_cells d.readers
+  pub readers : db tables.reader.tree ≡ map reader_cells d.readers
   pub tickets : AreCounted (λ (r : ReaderRow). r.ticket) d.readers
   pub few_tickets : length d.readers ≤ most_tickets
-  pub seats : db 1 ≡ map seat_cells d.seats
+  pub seats : db tables.seat.tree ≡ map seat_cells d.seats
   pub seats_rise : AreByNumber (λ (s : SeatRow). s.seat) d.seats
-  pub orders : db 3 ≡ map order_cells d.orders
+  pub orders : db tables.orders.tree ≡ map order_cells d.orders
   pub order_numbers : AreCounted (λ (o : OrderRow). o.id) d.orders
   pub few_orders : length d.orders ≤ most_orders
-  pub holdings : db 6 ≡ map holding_cells d.holdings
+  pub holdings : db tables.holding.tree ≡ map holding_cells d.holdings
   pub holdings_rise : AreByNumber (λ (h : HoldingRow). h.container) d.holdings
-  pub runs : db 7 ≡ map run_cells d.runs
+  pub runs : db tables.run.tree ≡ map run_cells d.runs
   pub run_numbers : AreCounted (λ (r : RunRow). r.id) d.runs
   pub few_runs : length d.runs ≤ most_runs
-  pub run_lines : HasNumbered run_line_cells (db 8) d.run_lines
-  pub permits : HasNumbered permit_cells (db 10) d.permits
+  pub run_lines : HasNumbered run_line_cells (db tables.run_line.tree) d.run_lines
+  pub permits : HasNumbered permit_cells (db tables.permit.tree) d.permits
 
 -- the same of the database, beside nothing else
 abbrev pub ShowsRoom : Database → ⊤ → Desk → Type 0
