@@ -13,7 +13,7 @@ ghost use Rattle.office_tables.specs.Schema as tables;
 ghost use Rattle.office_tables.specs.Step.{InOffice, Holds};
 ghost use Rattle.desk_store.specs.Rows.{run_cells};
 ghost use Rattle.desk_store.specs.Runs.{run_with};
-ghost use Rattle.desk_store.specs.Shows.{AreCounted};
+ghost use Rattle.office_tables.specs.Numbered.{AreCounted};
 ghost use Rattle.desk_store.specs.Stacks.{ShowsStacks, IsLegibleStacks, AreKnown, IsToldRun, IsToldLine, IsKnownLine};
 
 use crate::boxes::box_of;
