@@ -36,7 +36,7 @@ use Rattle.office_tables.specs.Step.{Holds}
 use Rattle.office_tables.specs.declared.fault.StoreFault.{StoreFault}
 use Rattle.catalogue_rows.specs.Rows.{unit_row, by_number}
 use Rattle.office_tables.proofs.Queries.{plain_query}
-use Rattle.office_tables.proofs.SelectOf.{asking, select_finds, select_faults}
+use Rattle.office_tables.proofs.statements.SelectOf.{asking, select_finds, select_faults}
 use Rattle.catalogue_rows.proofs.UnitWrites.{with_its_number}
 use Rattle.office_tables.proofs.Tests.{only, both, same_number, same_bytes, by_one_int}
 

@@ -43,12 +43,12 @@ use Rattle.catalogue_rows.specs.Rows.{unit_row, by_number}
 use Rattle.office_tables.proofs.Casts.{cast_int, cast_null, cast_maybe}
 use Rattle.office_tables.proofs.Fresh.{any_mapped, not_there}
 use Rattle.office_tables.proofs.InsertCauses.{IsWelcome}
-use Rattle.office_tables.proofs.InsertOf.{insert_puts, insert_faults}
-use Rattle.office_tables.proofs.OnlyOf.{update_only}
+use Rattle.office_tables.proofs.statements.InsertOf.{insert_puts, insert_faults}
+use Rattle.office_tables.proofs.statements.OnlyOf.{update_only}
 use Rattle.office_tables.proofs.Queries.{plain_query}
 use Rattle.office_tables.proofs.Tests.{only, both, same_number, same_bytes}
 use Rattle.office_tables.proofs.UpdateCauses.{KeepsTable}
-use Rattle.office_tables.proofs.UpdateOf.{changing, update_leaves, update_faults}
+use Rattle.office_tables.proofs.statements.UpdateOf.{changing, update_leaves, update_faults}
 
 -- ---- a new unit
 

@@ -14,7 +14,7 @@ use Rattle.sqlite_value.specs.Keys.{ascending}
 use Rattle.sqlite_value.proofs.OrderLemmas.{value_cmp-Int}
 use Rattle.office_tables.specs.Asking.{Finds}
 use Rattle.office_tables.specs.Order.{IsOrdered}
-use Rattle.office_tables.proofs.SelectOf.{asking, select_finds, select_faults}
+use Rattle.office_tables.proofs.statements.SelectOf.{asking, select_finds, select_faults}
 use Rattle.office_tables.proofs.Tests.{flag, by_one_int}
 use Rattle.desk_store.specs.Readers.{is_live}
 use Rattle.desk_store.specs.declared.cards.OrderLine.{OrderLine}
@@ -43,8 +43,8 @@ use Rattle.office_tables.specs.declared.fault.StoreFault.{StoreFault}
 use Rattle.office_tables.proofs.Tests.{both, same_number, eq_ints}
 use Rattle.desk_store.specs.Rows.{order_cells}
 use Rattle.office_tables.specs.Numbered.{AreCounted}
-use Rattle.office_tables.proofs.CountOf.{counting, count_finds, count_faults}
-use Rattle.office_tables.proofs.LastOf.{last_of, last_finds, last_faults}
+use Rattle.office_tables.proofs.statements.CountOf.{counting, count_finds, count_faults}
+use Rattle.office_tables.proofs.statements.LastOf.{last_of, last_finds, last_faults}
 
 -- ---- how many orders there are
 

@@ -28,12 +28,12 @@ use Rattle.office_tables.specs.declared.fault.StoreFault.{StoreFault}
 use Rattle.desk_store.specs.Rows.{seat_cells}
 use Rattle.office_tables.specs.Numbered.{AreByNumber}
 use Rattle.office_tables.proofs.Casts.{cast_int, cast_null}
-use Rattle.office_tables.proofs.DeleteOf.{removing, delete_leaves, delete_faults}
+use Rattle.office_tables.proofs.statements.DeleteOf.{removing, delete_leaves, delete_faults}
 use Rattle.office_tables.proofs.Steps.{is_referred_to}
 use Rattle.office_tables.proofs.Tests.{only, same_number}
 use Rattle.office_tables.proofs.UpdateCauses.{KeepsTable}
-use Rattle.office_tables.proofs.UpdateOf.{changing, update_leaves, update_faults}
-use Rattle.office_tables.proofs.OnlyOf.{delete_only, update_only}
+use Rattle.office_tables.proofs.statements.UpdateOf.{changing, update_leaves, update_faults}
+use Rattle.office_tables.proofs.statements.OnlyOf.{delete_only, update_only}
 
 -- ---- all seats become free
 

@@ -47,14 +47,14 @@ use Rattle.office_tables.proofs.Calls.{on_ok_then}
 use Rattle.office_tables.proofs.Casts.{cast_int, cast_null}
 use Rattle.office_tables.proofs.Fresh.{not_there}
 use Rattle.office_tables.proofs.InsertCauses.{IsWelcome}
-use Rattle.office_tables.proofs.InsertOf.{insert_puts, insert_faults}
+use Rattle.office_tables.proofs.statements.InsertOf.{insert_puts, insert_faults}
 use Rattle.office_tables.proofs.Puts.{put_rows}
 use Rattle.office_tables.proofs.Tests.{only, same_number}
 use Rattle.office_tables.proofs.UpdateCauses.{KeepsTable}
-use Rattle.office_tables.proofs.UpdateOf.{changing, update_leaves, update_faults}
+use Rattle.office_tables.proofs.statements.UpdateOf.{changing, update_leaves, update_faults}
 use Rattle.office_tables.proofs.numbered.Counted.{counted_again, counted_free, counted_more, counted_rises, put_end}
 use Rattle.desk_store.proofs.Frames.{with_orders}
-use Rattle.office_tables.proofs.OnlyOf.{update_only}
+use Rattle.office_tables.proofs.statements.OnlyOf.{update_only}
 
 -- ---- a new order
 

@@ -43,14 +43,14 @@ use Rattle.office_tables.specs.Numbered.{HasNumbered}
 use Rattle.desk_store.specs.declared.granting.Permit.{Permit}
 use Rattle.office_tables.proofs.Calls.{on_ok_then}
 use Rattle.office_tables.proofs.Casts.{cast_int, cast_null}
-use Rattle.office_tables.proofs.DeleteOf.{removing, delete_leaves, delete_faults}
+use Rattle.office_tables.proofs.statements.DeleteOf.{removing, delete_leaves, delete_faults}
 use Rattle.office_tables.proofs.Fresh.{any_mapped, next_free}
 use Rattle.office_tables.proofs.InsertCauses.{IsWelcome}
-use Rattle.office_tables.proofs.InsertOf.{insert_puts, insert_faults}
-use Rattle.office_tables.proofs.SelectOf.{asking, select_finds, select_faults}
+use Rattle.office_tables.proofs.statements.InsertOf.{insert_puts, insert_faults}
+use Rattle.office_tables.proofs.statements.SelectOf.{asking, select_finds, select_faults}
 use Rattle.office_tables.proofs.Steps.{is_referred_to}
 use Rattle.office_tables.proofs.Tests.{only, both, same_number, by_two_ints}
-use Rattle.office_tables.proofs.OnlyOf.{delete_only}
+use Rattle.office_tables.proofs.statements.OnlyOf.{delete_only}
 use Rattle.office_tables.proofs.numbered.OwnNumbers.{none_numbered, all_numbered, those_left}
 
 -- ---- a permit for a unit that has its row

@@ -50,14 +50,14 @@ use Rattle.desk_store.specs.declared.readers.NamedReader.{NamedReader}
 use Rattle.office_tables.proofs.Casts.{cast_int, cast_null}
 use Rattle.office_tables.proofs.Fresh.{not_there}
 use Rattle.office_tables.proofs.InsertCauses.{IsWelcome}
-use Rattle.office_tables.proofs.InsertOf.{insert_puts, insert_faults}
-use Rattle.office_tables.proofs.SelectOf.{asking, select_finds, select_faults}
+use Rattle.office_tables.proofs.statements.InsertOf.{insert_puts, insert_faults}
+use Rattle.office_tables.proofs.statements.SelectOf.{asking, select_finds, select_faults}
 use Rattle.office_tables.proofs.Tests.{only, same_number, by_one_int}
 use Rattle.office_tables.proofs.UpdateCauses.{KeepsTable}
-use Rattle.office_tables.proofs.UpdateOf.{changing, update_leaves, update_faults}
+use Rattle.office_tables.proofs.statements.UpdateOf.{changing, update_leaves, update_faults}
 use Rattle.office_tables.proofs.numbered.Counted.{counted_rises}
-use Rattle.office_tables.proofs.LastOf.{last_of, last_finds, last_faults}
-use Rattle.office_tables.proofs.OnlyOf.{update_only}
+use Rattle.office_tables.proofs.statements.LastOf.{last_of, last_finds, last_faults}
+use Rattle.office_tables.proofs.statements.OnlyOf.{update_only}
 
 -- ---- a new reader
 

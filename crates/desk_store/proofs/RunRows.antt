@@ -43,10 +43,10 @@ use Rattle.office_tables.proofs.Calls.{on_ok_then}
 use Rattle.office_tables.proofs.Casts.{cast_int, cast_null}
 use Rattle.office_tables.proofs.Fresh.{any_mapped, next_free, not_there}
 use Rattle.office_tables.proofs.InsertCauses.{IsWelcome}
-use Rattle.office_tables.proofs.InsertOf.{insert_puts, insert_faults}
-use Rattle.office_tables.proofs.SelectOf.{asking, select_finds, select_faults}
+use Rattle.office_tables.proofs.statements.InsertOf.{insert_puts, insert_faults}
+use Rattle.office_tables.proofs.statements.SelectOf.{asking, select_finds, select_faults}
 use Rattle.office_tables.proofs.Tests.{only, both, same_number, by_two_ints}
-use Rattle.office_tables.proofs.LastOf.{last_of, last_finds, last_faults}
+use Rattle.office_tables.proofs.statements.LastOf.{last_of, last_finds, last_faults}
 use Rattle.office_tables.proofs.numbered.OwnNumbers.{none_numbered, one_at_end, told_permuted}
 
 -- ---- the last run

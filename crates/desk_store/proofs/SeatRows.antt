@@ -39,14 +39,14 @@ use Rattle.desk_store.specs.Rows.{seat_cells}
 use Rattle.office_tables.specs.Numbered.{AreByNumber}
 use Rattle.desk_store.specs.declared.seating.TakenSeat.{TakenSeat}
 use Rattle.office_tables.proofs.Casts.{cast_int, cast_null}
-use Rattle.office_tables.proofs.DeleteOf.{removing, delete_leaves, delete_faults}
+use Rattle.office_tables.proofs.statements.DeleteOf.{removing, delete_leaves, delete_faults}
 use Rattle.office_tables.proofs.Fresh.{any_mapped, not_there}
 use Rattle.office_tables.proofs.InsertCauses.{IsWelcome}
-use Rattle.office_tables.proofs.InsertOf.{insert_puts, insert_faults}
-use Rattle.office_tables.proofs.SelectOf.{asking, select_finds, select_faults}
+use Rattle.office_tables.proofs.statements.InsertOf.{insert_puts, insert_faults}
+use Rattle.office_tables.proofs.statements.SelectOf.{asking, select_finds, select_faults}
 use Rattle.office_tables.proofs.Steps.{is_referred_to}
 use Rattle.office_tables.proofs.Tests.{only, same_number, by_one_int}
-use Rattle.office_tables.proofs.OnlyOf.{delete_only}
+use Rattle.office_tables.proofs.statements.OnlyOf.{delete_only}
 
 -- ---- a seat is taken
 

@@ -26,13 +26,13 @@ use Rattle.office_tables.specs.Order.{IsOrdered}
 use Rattle.office_tables.specs.Schema.{schema, orders}
 use Rattle.office_tables.specs.Step.{Holds}
 use Rattle.office_tables.specs.declared.fault.StoreFault.{StoreFault}
-use Rattle.office_tables.proofs.SelectOf.{asking, select_finds, select_faults}
+use Rattle.office_tables.proofs.statements.SelectOf.{asking, select_finds, select_faults}
 use Rattle.office_tables.proofs.Tests.{both, same_number, by_one_int}
 use Rattle.desk_store.specs.Holdings.{waits_for}
 use Rattle.desk_store.specs.Rows.{order_cells}
 use Rattle.desk_store.specs.declared.orders.WaitingOrder.{WaitingOrder}
 use Rattle.desk_store.proofs.CardRows.{by_order, in_order}
-use Rattle.office_tables.proofs.CountOf.{counting, count_finds, count_faults}
+use Rattle.office_tables.proofs.statements.CountOf.{counting, count_finds, count_faults}
 
 -- it waits, and for this container
 abbrev for_the_container : List Term

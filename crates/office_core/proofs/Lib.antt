@@ -1,5 +1,4 @@
 pub mod Orders
-pub mod WorkedReplies
 pub mod Counts
 pub mod Steps
 pub mod Words
@@ -18,7 +17,6 @@ pub mod StaysNamed
 pub mod NumbersGiven
 pub mod NumberedRows
 pub mod SoundDesk
-pub mod WorkedAnswers
 pub mod MixedRuns
 pub mod NoLeak
 pub mod Published
@@ -30,12 +28,9 @@ pub mod Starts
 pub mod SettingsFaults
 pub mod StaysSound
 pub mod Texts
-pub mod WorkedSound
 pub mod ImportedUnits
 pub mod ImportedByRow
 pub mod ImportedCounts
 pub mod KeptOffices
 pub mod LastNumberSound
-pub mod WorkedDesk
-pub mod WorkedCatalogue
-pub mod WorkedShown
+pub mod worked_rows

@@ -18,7 +18,7 @@ use Rattle.desk_core.specs.DeskCauses.{readers_are_bad, orders_are_bad, holdings
 use Rattle.office_rows.specs.DeskJudged.{HasNoDeskCause, HasGoodCatalogue, SoundTablesPass, PassingRowsAreSound}
 use Rattle.office_rows.proofs.Judging.{none_held, hold_none, none_before, none_behind, none_in_both}
 use Rattle.office_rows.proofs.RowsByNumber.{in_map}
-use Rattle.office_rows.proofs.ToldCatalogue.{no_cause, catalogue_is_said}
+use Rattle.office_rows.proofs.told.ToldCatalogue.{no_cause, catalogue_is_said}
 use Rattle.office_rows.proofs.ShownCatalogue.{catalogue_is_shown}
 
 -- ---- the rows of a sound state

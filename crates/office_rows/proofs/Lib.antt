@@ -12,12 +12,6 @@ pub mod UnitRows
 pub mod Whole
 pub mod RowsByNumber
 pub mod Judging
-pub mod ToldPlaces
-pub mod ToldUnits
-pub mod ToldElements
-pub mod ToldContainers
-pub mod ToldHousings
-pub mod ToldCatalogue
 pub mod WorkedDeskCauses
 pub mod Apart
 pub mod ShownUnits
@@ -40,3 +34,4 @@ pub mod SaidOrders
 pub mod SaidPlaces
 pub mod SaidRuns
 pub mod DeskSound
+pub mod told

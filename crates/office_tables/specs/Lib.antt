@@ -19,6 +19,3 @@ pub mod Calls
 pub mod Numbered
 pub mod Permits
 pub mod Shared
-pub mod Cells
-pub mod CatalogueCells
-pub mod DeskCells

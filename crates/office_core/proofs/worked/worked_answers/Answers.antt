@@ -1,4 +1,4 @@
-use Rattle.office_core.proofs.WorkedAnswers as row
+use Rattle.office_core.proofs.worked_rows.WorkedAnswers as row
 use Rattle.office_core.proofs.worked.worked_answers.Goals as goal
 
 pub returns-clause-aids : goal.returns-clause-aids

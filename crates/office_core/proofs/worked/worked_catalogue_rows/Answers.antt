@@ -1,4 +1,4 @@
-use Rattle.office_core.proofs.WorkedCatalogue as row
+use Rattle.office_core.proofs.worked_rows.WorkedCatalogue as row
 use Rattle.office_core.proofs.worked.worked_catalogue_rows.Goals as goal
 
 pub returns-clause-sources_apart : goal.returns-clause-sources_apart

@@ -1,4 +1,4 @@
-use Rattle.office_core.proofs.WorkedDesk as row
+use Rattle.office_core.proofs.worked_rows.WorkedDesk as row
 use Rattle.office_core.proofs.worked.worked_desk_rows.Goals as goal
 
 pub returns-clause-renewed_alone : goal.returns-clause-renewed_alone

@@ -1,4 +1,4 @@
-use Rattle.office_core.proofs.WorkedReplies as row
+use Rattle.office_core.proofs.worked_rows.WorkedReplies as row
 use Rattle.office_core.proofs.worked.worked_rows.Goals as goal
 
 pub returns-clause-queue_of_two : goal.returns-clause-queue_of_two

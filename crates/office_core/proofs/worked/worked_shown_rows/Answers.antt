@@ -1,4 +1,4 @@
-use Rattle.office_core.proofs.WorkedShown as row
+use Rattle.office_core.proofs.worked_rows.WorkedShown as row
 use Rattle.office_core.proofs.worked.worked_shown_rows.Goals as goal
 
 pub returns-clause-closed_shown : goal.returns-clause-closed_shown

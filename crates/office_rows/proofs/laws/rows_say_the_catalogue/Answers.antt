@@ -1,4 +1,4 @@
-use Rattle.office_rows.proofs.ToldCatalogue.{catalogue_is_said}
+use Rattle.office_rows.proofs.told.ToldCatalogue.{catalogue_is_said}
 use Rattle.office_rows.proofs.laws.rows_say_the_catalogue.Goals as goal
 
 pub returns : goal.returns

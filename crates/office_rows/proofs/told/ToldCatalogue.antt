@@ -36,11 +36,11 @@ use Rattle.catalogue_core.specs.CatalogueCauses.{is_unit_number, are_good_places
 use Rattle.office_rows.specs.Judged.{IsCatalogueOf, IsSoundCatalogue, SaysTheCatalogue}
 use Rattle.office_rows.proofs.Judging.{none_held}
 use Rattle.office_rows.proofs.RowsByNumber.{in_map, all_in, stands_in}
-use Rattle.office_rows.proofs.ToldPlaces.{ArePlaced, good_places, numbers_given}
-use Rattle.office_rows.proofs.ToldUnits.{AreUnitsOf, each_said, units_are_said, said_id}
-use Rattle.office_rows.proofs.ToldElements.{IsGoodElement, good_element, elements_are_said, texts_are_good}
-use Rattle.office_rows.proofs.ToldContainers.{containers_are_said, boxes_apart, stay_distinct}
-use Rattle.office_rows.proofs.ToldHousings.{IsGoodHousing, said_apart, said_known, housings_are_said}
+use Rattle.office_rows.proofs.told.ToldPlaces.{ArePlaced, good_places, numbers_given}
+use Rattle.office_rows.proofs.told.ToldUnits.{AreUnitsOf, each_said, units_are_said, said_id}
+use Rattle.office_rows.proofs.told.ToldElements.{IsGoodElement, good_element, elements_are_said, texts_are_good}
+use Rattle.office_rows.proofs.told.ToldContainers.{containers_are_said, boxes_apart, stay_distinct}
+use Rattle.office_rows.proofs.told.ToldHousings.{IsGoodHousing, said_apart, said_known, housings_are_said}
 
 -- ---- no test holds
 

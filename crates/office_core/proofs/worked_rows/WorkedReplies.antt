@@ -10,7 +10,7 @@ use Rattle.atom_csv.specs.Values.{described}
 use Rattle.catalogue_core.specs.Housing.{is_open}
 use Rattle.catalogue_core.specs.Intake.{take}
 use Rattle.office_core.specs.WorkedReplies.{Depths, NamesOfReaders, AtTheCounter, QueueOfTwo, GateAndDay, RunOfTwoAndOne, OrdersOfADay, Seats, ExpiryAndRenewal, HandsAndReshelving, LeastOrders, LockGates, Permits, PermitsAndDrafts, ImportAgain, FaultyFiles, Remarks, Moves, Unknown, ExpiredAtTheDesk, ClosureEnds, SeatsOvernight, LowestContainer, HeadCancelled, TwoAtOnce, WithReaderAgain, PermitsAbove, MostPermits, Placed}
-use Rattle.office_core.proofs.WorkedSound.{hundred_sound}
+use Rattle.office_core.proofs.worked_rows.WorkedSound.{hundred_sound}
 
 pub queue_of_two : QueueOfTwo
 unfolding is_open take is_utf8 chars encode records_from strip_bom next_record columns described

@@ -23,7 +23,7 @@ use Rattle.office_rows.specs.Reading.{OfficeRows, unit_said}
 use Rattle.catalogue_core.specs.CatalogueCauses.{is_same_element, is_good_element}
 use Rattle.office_rows.proofs.UnitRows.{found_kept}
 use Rattle.office_rows.proofs.RowsByNumber.{in_filter, flat_map_same, flat_map_reordered, grouped, one_kept, in_numbers, own_apart}
-use Rattle.office_rows.proofs.ToldUnits.{said_id, said_texts}
+use Rattle.office_rows.proofs.told.ToldUnits.{said_id, said_texts}
 
 abbrev mine : ℕ → List ElementRow → List ElementRow
 mine u rows = filter (λ (row : ElementRow). nat_eq row.unit u) rows
