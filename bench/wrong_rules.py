@@ -243,12 +243,16 @@ def run(cmd,cwd):
 def errors(out):
     return sorted(set(m.group(1)+'.'+m.group(2) for m in re.finditer(r'proofs/([\w/]+)\.antt:\d+:\d+: error: `([\w-]+)`',out)))
 LOWER=['desk_core','catalogue_core','office_tables']  # whose libraries are built again for a wrong definition of theirs
+def fails(out):
+    """Whether the check says that something of this crate is not proved; libraries below it say their own verdicts before."""
+    verdicts=re.findall(r'^logic=(\S+)',out,flags=re.M)
+    return 'error' in out or re.search(r'^only=1 proved=0',out,flags=re.M) is not None or (verdicts!=[] and verdicts[-1]!='proved')
 def rows_say(office):
     """What the worked rows alone say: the names of those that fail, or none. They are quick."""
     out=''
     for row in ROWS:
         out=run(['rt','check','--jobs','1','--allow-holes','--only',row],W+'/crates/'+row.split('::')[0])
-        if 'error' in out: break
+        if fails(out): break
     return out
 def proofs_say(office):
     return run(['rt','check','--jobs','1'],office)
@@ -261,11 +265,11 @@ def tried(label,f,office):
         if spec: return f'DOES NOT READ | {label} | {spec[0][:200]}',False
         if 'logic=proved' not in out: return f'refused {time.time()-t:4.1f}s | {label} | {crate}: {", ".join(errors(out))}',False
     out=rows_say(office)
-    if 'error' not in out: out=proofs_say(office)
+    if not fails(out): out=proofs_say(office)
     spec=[l for l in out.split('\n') if 'error' in l and '/specs/' in l]
     dt=time.time()-t
     if spec: return f'DOES NOT READ | {label} | {spec[0][:200]}',False
-    if 'logic=proved' in out: return f'LET THROUGH {dt:4.1f}s | {label}',True
+    if not fails(out) and 'logic=proved' in out: return f'LET THROUGH {dt:4.1f}s | {label}',True
     return f'refused {dt:4.1f}s | {label} | {", ".join(errors(out)) or out[-300:]}',False
 def readable(new,orig):
     """The new text, with its truth values by their whole names where the file imports none."""
