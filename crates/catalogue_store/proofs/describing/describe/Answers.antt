@@ -41,12 +41,12 @@ returns-clause-tells g c clean boxes xs hs texts housed =
     c.insert_housings.ensures.goes
 
 pub returns-in_err-insert_texts-clause-faults : goal.returns-in_err-insert_texts-clause-faults
-returns-in_err-insert_texts-clause-faults g c clean free known boxes xs hs texts housed small once long none other =
-    let why = c.in_err-insert_texts.ensures.faults known xs texts none long clean free in
+returns-in_err-insert_texts-clause-faults g c known whole boxes xs hs texts housed small none other clean free =
+    let why = c.in_err-insert_texts.ensures.faults known xs texts none whole.places clean free in
     search (rules, why)
 
 pub returns-clause-faults : goal.returns-clause-faults
-returns-clause-faults g c clean free known boxes xs hs texts housed small once long none other =
+returns-clause-faults g c known whole boxes xs hs texts housed small none other clean free =
     let a = state g.S.Store c.args.conn.now in
     let b = state g.S.Store c.insert_texts.new.conn in
     let d = state g.S.Store c.insert_housings.new.conn in
@@ -55,4 +55,4 @@ returns-clause-faults g c clean free known boxes xs hs texts housed small once l
     let kept = c.in_ok-insert_texts.ensures.only before in
     let unit_there = unit_still a.now.trees b.now.trees c.args.unit (kept tables.unit.tree refl refl) known in
     let here = same_housed a.now.trees b.now.trees boxes hs (kept tables.container.tree refl refl) (kept tables.housing.tree refl refl) housed in
-    c.insert_housings.ensures.faults unit_there boxes hs here small once other clean (still_unlimited a b went.on free))
+    c.insert_housings.ensures.faults unit_there boxes hs here small whole.once other clean (still_unlimited a b went.on free))
