@@ -40,7 +40,7 @@ pub trait Machine {
         ensures intact { is_intact self.new → is_intact self.old }
         ensures step { IfOk result (λ reply. is_intact self.new → (s : State) → shows self.old s →
             shows self.new (step s command).0 × (reply.done ≡ (step s command).1)
-                × (reply.json ≡ reply_text (step s command).1)) }
+            × (reply.json ≡ reply_text (step s command).1)) }
         ensures busy { OnErr result (is_intact self.new → (s : State) → shows self.old s → shows self.new s) };
 
     /// Answers one question.
