@@ -6,3 +6,4 @@ pub mod OtherOrders
 pub mod OtherRows
 pub mod ReadPlaces
 pub mod ShownCells
+pub mod TreesOfOffices

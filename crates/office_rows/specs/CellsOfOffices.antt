@@ -17,7 +17,7 @@ use Rattle.office_tables.specs.Flags.{flag}
 use Rattle.office_tables.specs.Numbered.{HasNumbered}
 use Rattle.office_tables.specs.Permits.{permit_cells}
 use Rattle.office_tables.specs.Shared.{box_cells, office_cells}
-use Rattle.office_rows.specs.Causes.{first_held}
+use Rattle.office_rows.specs.Causes.{first_held, MeetsKeys}
 use Rattle.office_rows.specs.CellCauses.{rows_in, unread, cell_cause}
 use Rattle.office_rows.specs.Judged.{IsCatalogueOf}
 use Rattle.office_rows.specs.Reading.{OfficeRows, tables as tables_of, state_of}
@@ -116,6 +116,10 @@ pub record HasTables (db : Trees) (t : OfficeRows) : Type 0 where
 abbrev pub ShowsState : Version → Trees → State → Type 0
 ShowsState version db s = HasTables db (tables_of version s)
 
+-- some trees do
+abbrev pub IsShownByTrees : Version → State → Type 0
+IsShownByTrees version s = (db : Trees) × ShowsState version db s
+
 -- ---- what is read of a sound office
 
 -- each row is read: the desk's by their keys, as the state shows them, and the catalogue's up to their order
@@ -127,8 +131,9 @@ pub record IsRead (version : Version) (db : Trees) (s : State) : Type 0 where
 abbrev pub SoundOfficesAreRead : Version → Trees → State → Type 0
 SoundOfficesAreRead version db s = ShowsState version db s → IsSoundOffice s → IsRead version db s
 
--- its tables have no cause, and say it
+-- its tables meet the keys and have no cause, and say it
 pub record IsTold (version : Version) (db : Trees) (s : State) : Type 0 where
+  pub keys : MeetsKeys (rows_in version db)
   pub causes : cell_cause version db ≡ None
   pub state : state_of (rows_in version db) ≡ s
 

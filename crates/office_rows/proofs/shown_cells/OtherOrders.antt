@@ -7,6 +7,7 @@ use Rattle.std.proofs.Math.Path.{fun_ext}
 use Rattle.std.proofs.lemmas.Bool.{false≢true, and_parts, and_from, eqb-true, eq-eqb}
 use Rattle.std.proofs.lemmas.List.Sorted.{IsPermutation-sym, IsPermutation-map, list_any-IsPermutation, length_permutation, sum_by-IsPermutation}
 use Rattle.std.proofs.lemmas.List.Sums.{length-filter}
+use Rattle.std.proofs.lemmas.Map.Keys.{IsDistinct-IsPermutation}
 use Rattle.isad_core.specs.Limits.{most_units, most_deep}
 use Rattle.isad_core.specs.Texts.{Bytes, is_blank_text}
 use Rattle.isad_core.specs.Words.{is_between, stands}
@@ -15,14 +16,15 @@ use Rattle.isad_core.specs.declared.values.Values.{Values}
 use Rattle.tree_core.proofs.Lists.{In, In-permutation, find_some, find_none, eqb_comm}
 use Rattle.tree_core.proofs.Lookups.{any_passes}
 use Rattle.tree_core.specs.Forest.{each}
-use Rattle.catalogue_core.specs.CatalogueCauses.{unit_numbers, all_stand_in, place_numbers, is_good_unit_row, are_good_units, is_good_element, is_good_housing, is_same_element, is_same_place}
-use Rattle.catalogue_core.specs.CatalogueRows.{CatalogueRows, UnitRow, ElementRow, HousingRow, after_level, text_said, box_from, housings_of, places_said}
+use Rattle.catalogue_core.specs.CatalogueCauses.{MeetsCatalogueKeys, is_named_alike, is_same_container, is_housed_alike, unit_numbers, all_stand_in, place_numbers, is_good_unit_row, are_good_units, is_good_element, is_good_housing, is_same_element, is_same_place}
+use Rattle.catalogue_core.specs.CatalogueRows.{CatalogueRows, UnitRow, ElementRow, ContainerRow, HousingRow, after_level, text_said, box_from, housings_of, places_said}
 use Rattle.catalogue_core.specs.Moves.{height}
 use Rattle.catalogue_core.specs.Units.{Unit}
 use Rattle.office_core.specs.Laws.{numbers_from}
 use Rattle.office_rows.specs.Reading.{box_at, boxes_from, boxes_said, values_said, unit_from, unit_said}
 use Rattle.office_rows.proofs.RowsByNumber.{all_in, in_all, each_in, found_by}
 use Rattle.office_rows.proofs.UnitRows.{found_kept}
+use Rattle.office_rows.proofs.told.ToldCatalogue.{alike_flips}
 
 -- ---- tests
 
@@ -67,7 +69,7 @@ module _ {X : Type 0} (first second : X → ℕ) where
   abbrev is_pair : X → X → Bool
   is_pair a b = nat_eq (first a) (first b) && nat_eq (second a) (second b)
 
-  flips : (a b : X) → is_pair a b ≡ is_pair b a
+  pub flips : (a b : X) → is_pair a b ≡ is_pair b a
   flips a b = ap (λ p. p && nat_eq (second a) (second b)) (eqb_comm (first a) (first b)) ∙ ap (λ p. nat_eq (first b) (first a) && p) (eqb_comm (second a) (second b))
 
   pub pair_too : (xs ys : List X) → IsPermutation xs ys → IsDistinct is_pair xs → (m n : ℕ) → find (λ x. nat_eq (first x) m && nat_eq (second x) n) ys ≡ find (λ x. nat_eq (first x) m && nat_eq (second x) n) xs
@@ -136,6 +138,18 @@ module _ (c d : CatalogueRows) (r : IsReordered c d) where
       ∙ (ap (λ l. stands row.unit (unit_numbers c) && (is_between 1 (length l) row.container && is_between 1 (length (housings_of row.unit d.housings)) row.ord)) r.containers
       ∙ (ap (λ n. stands row.unit (unit_numbers c) && (is_between 1 (length c.containers) row.container && is_between 1 n row.ord)) (as_many (λ (other : HousingRow). nat_eq other.unit row.unit) c.housings d.housings r.housings)
       ∙ all_in (is_good_housing c) d.housings row rows i)))
+
+  pub keys_too : MeetsCatalogueKeys c → MeetsCatalogueKeys d
+  keys_too k = record {
+    units = IsDistinct-IsPermutation nat_eq eqb_comm (unit_numbers c) (unit_numbers d) unit_ids k.units;
+    names = IsDistinct-IsPermutation is_named_alike alike_flips c.units d.units r.units k.names;
+    places = IsDistinct-IsPermutation nat_eq eqb_comm (place_numbers c.places) (place_numbers d.places) r.numbers k.places;
+    elements = IsDistinct-IsPermutation is_same_element (flips (λ (row : ElementRow). row.unit) (λ (row : ElementRow). row.k)) c.elements d.elements r.elements k.elements;
+    containers = subst (λ l. IsDistinct nat_eq (map (λ (row : ContainerRow). row.id) l)) (sym r.containers) k.containers;
+    boxes = subst (IsDistinct is_same_container) (sym r.containers) k.boxes;
+    housings = IsDistinct-IsPermutation is_same_place (flips (λ (row : HousingRow). row.unit) (λ (row : HousingRow). row.ord)) c.housings d.housings r.housings k.housings;
+    housed_once = IsDistinct-IsPermutation is_housed_alike (flips (λ (row : HousingRow). row.unit) (λ (row : HousingRow). row.container)) c.housings d.housings r.housings k.housed_once;
+  }
 
   -- ---- what they say
 

@@ -39,7 +39,7 @@ use Rattle.std.proofs.lemmas.Bool.{and_parts}
 use Rattle.office_rows.proofs.Whole.{says_the_state}
 use Rattle.office_rows.proofs.shown_cells.KeyOrder.{by_again, then_by_again}
 use Rattle.office_rows.proofs.shown_cells.LegibleTables.{tables_legible}
-use Rattle.office_rows.proofs.shown_cells.OtherOrders.{IsReordered}
+use Rattle.office_rows.proofs.shown_cells.OtherOrders.{IsReordered, keys_too}
 use Rattle.office_rows.proofs.shown_cells.OtherRows.{state_too, no_cause_too}
 use Rattle.office_rows.proofs.shown_cells.ReadCells.{AreRead, keyed_read, numbered_read, office_back, unit_back, element_back, container_back, housing_back, reader_back, seat_back, order_back, holding_back, run_back, run_line_back, permit_back}
 use Rattle.office_rows.proofs.shown_cells.ReadPlaces.{ArePlacesRead, places_read}
@@ -178,6 +178,10 @@ module _ (version : Version) (db : Trees) (s : State) (has : HasTables db (table
       let c = (rows_in version db).catalogue in
       let placed = places.same.good (units_shown version s (sound_catalogue s g.sound)).places in
       record {
+        keys = record {
+          catalogue = keys_too t.catalogue c reordered (tables_are_shown version s (desk_passes version s) g.sound).0.catalogue;
+          desk = subst MeetsDeskKeys (sym desk_same) keys;
+        };
         causes = either_too (unread version db) (catalogue_tests version (rows_in version db) ++ desk_tests (rows_in version db)) all_read
             (subst (λ rows. cause version rows ≡ None) (sym rows_same) (no_cause_too version s g.sound c reordered placed));
         state = ap state_of rows_same ∙ (state_too version s g.sound c reordered placed ∙ says_the_state version s g.sound);
