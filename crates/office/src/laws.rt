@@ -21,4 +21,7 @@ pub use office_rows::laws::{
     one_row_changes, rows_read_back, rows_say_the_catalogue, rows_without_a_cause,
     spans_say_the_forest, tables_have_no_cause, tables_say_the_state, texts_are_utf8,
 };
-pub use office_rows::laws_of_offices::{sound_desks_are_legible, versions_differ_in_places};
+pub use office_rows::laws_of_offices::{
+    sound_desks_are_legible, sound_offices_are_read, sound_offices_are_told, states_are_shown,
+    versions_differ_in_places,
+};

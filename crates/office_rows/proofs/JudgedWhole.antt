@@ -31,7 +31,7 @@ no_desk_cause t h =
     (hold_none (runs_are_bad (around t) t.desk) (day_is_broken t ∷ []) h.runs
     (hold_none (day_is_broken t) [] h.day refl))))
 
-sound_catalogue : (s : State) → IsSound s → IsSoundCatalogue s
+pub sound_catalogue : (s : State) → IsSound s → IsSoundCatalogue s
 sound_catalogue s g = record { settings = g.settings; today = g.days.today; closures = g.days.closures; units = g.units; containers = g.containers; boxes = g.desk.boxes }
 
 pub tables_are_shown : (version : Version) (s : State) → SoundTablesPass version s → HasNoCause version s

@@ -35,3 +35,4 @@ pub mod SaidPlaces
 pub mod SaidRuns
 pub mod DeskSound
 pub mod told
+pub mod shown_cells

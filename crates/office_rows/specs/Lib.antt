@@ -10,3 +10,4 @@ pub mod CellCauses
 pub mod CellJudged
 pub mod WorkedCells
 pub mod Versions
+pub mod CellsOfOffices

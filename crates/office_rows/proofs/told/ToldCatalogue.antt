@@ -175,7 +175,7 @@ names_apart (u ∷ us) d = (others us d.0, names_apart us d.1)
     others [] h = tt
     others (v ∷ vs) h = (flips v ∙ h.0, others vs h.1)
 
-alike_flips : (a b : UnitRow) → is_named_alike a b ≡ is_named_alike b a
+pub alike_flips : (a b : UnitRow) → is_named_alike a b ≡ is_named_alike b a
 alike_flips a b = grind (arith, bytes_eq-Decides a.source b.source, bytes_eq-Decides b.source a.source, bytes_eq-Decides a.legacy b.legacy, bytes_eq-Decides b.legacy a.legacy)
 
 good_unit : (t : OfficeRows) (row : UnitRow) → IsGoodRow t.office.next_unit row → ((e : ElementRow) → In e t.catalogue.elements → is_blank_text e.value ≡ false) → distinct (boxes_said (map box_from t.catalogue.containers) t.catalogue.housings row.id) ≡ boxes_said (map box_from t.catalogue.containers) t.catalogue.housings row.id → IsGoodUnit (map box_from t.catalogue.containers) (unit_from t.catalogue row)

@@ -1,0 +1,141 @@
+-- The trees that show an office: each table has the rows of the office's state, told in cells, and no others. The order
+-- in which they stand tells nothing, nor does the number of its own that a row without an INTEGER PRIMARY KEY has.
+use Rattle.std.specs.Prelude.{◌≡◌, ℤ, pos, List, [], ◌∷◌, None, map, option_map, IsPermutation}
+use Rattle.sqlite.specs.declared.types.Value.TheVariants.{Null, Int, Text}
+use Rattle.sqlite.specs.Order.{Row}
+use Rattle.sqlite.specs.Tree.{Trees}
+use Rattle.sqlite.specs.Values.{or_null}
+use Rattle.tree_core.specs.declared.rows.Link.{Link}
+use Rattle.tree_core.specs.declared.rows.Span.{Span}
+use Rattle.tree_core.specs.Versions.{Version}
+use Rattle.desk_core.specs.DeskRows.{Desk, ReaderRow, SeatRow, OrderRow, HoldingRow, RunRow, RunLineRow}
+use Rattle.catalogue_core.specs.CatalogueRows.{CatalogueRows, OfficeRow, UnitRow, ElementRow, ContainerRow, HousingRow, PlaceRows, LinkRows, SpanRows, box_from}
+use Rattle.office_core.specs.State.{State}
+use Rattle.office_core.specs.SoundOffice.{IsSoundOffice}
+use Rattle.office_tables.specs.Schema as tables
+use Rattle.office_tables.specs.Flags.{flag}
+use Rattle.office_tables.specs.Numbered.{HasNumbered}
+use Rattle.office_tables.specs.Permits.{permit_cells}
+use Rattle.office_tables.specs.Shared.{box_cells, office_cells}
+use Rattle.office_rows.specs.Causes.{first_held, MeetsKeys}
+use Rattle.office_rows.specs.CellCauses.{rows_in, unread, cell_cause}
+use Rattle.office_rows.specs.Judged.{IsCatalogueOf}
+use Rattle.office_rows.specs.Reading.{OfficeRows, tables as tables_of, state_of}
+
+-- ---- the cells of a row: its rowid and then its columns. The column that is the INTEGER PRIMARY KEY is kept as NULL.
+
+abbrev pub office_row_cells : OfficeRow → Row
+office_row_cells row =
+    office_cells (record {
+      version = row.version;
+      country = row.country;
+      repo = row.repo;
+      seats = row.seats;
+      daily = row.daily;
+      hands = row.hands;
+      run_size = row.run_size;
+      day = row.day;
+      next_unit = row.next_unit;
+    })
+
+abbrev pub unit_cells : UnitRow → Row
+unit_cells row =
+    Int (pos row.id) ∷ Null ∷ Text row.source ∷ Text row.legacy ∷ Text row.level ∷ Int (flag row.draft)
+    ∷ or_null Int row.until ∷ []
+
+abbrev pub element_cells : ℤ × ElementRow → Row
+element_cells (n, row) = Int n ∷ Int (pos row.unit) ∷ Int (pos row.k) ∷ Text row.value ∷ []
+
+abbrev pub container_cells : ContainerRow → Row
+container_cells row = box_cells (row.id, box_from row)
+
+abbrev pub housing_cells : ℤ × HousingRow → Row
+housing_cells (n, row) = Int n ∷ Int (pos row.unit) ∷ Int (pos row.ord) ∷ Int (pos row.container) ∷ []
+
+abbrev pub link_cells : Link → Row
+link_cells row = Int (pos row.id) ∷ Null ∷ or_null Int (option_map pos row.parent) ∷ Int (pos row.ord) ∷ []
+
+abbrev pub span_cells : Span → Row
+span_cells row = Int (pos row.id) ∷ Null ∷ Int (pos row.lft) ∷ Int (pos row.rgt) ∷ []
+
+abbrev pub reader_cells : ReaderRow → Row
+reader_cells row = Int (pos row.ticket) ∷ Null ∷ Text row.name ∷ Int row.until ∷ []
+
+abbrev pub seat_cells : SeatRow → Row
+seat_cells row = Int (pos row.seat) ∷ Null ∷ Int (pos row.ticket) ∷ []
+
+abbrev pub order_cells : OrderRow → Row
+order_cells row =
+    Int (pos row.id) ∷ Null ∷ Int (pos row.ticket) ∷ Int (pos row.container) ∷ Int row.day ∷ Int (pos row.state) ∷ []
+
+abbrev pub holding_cells : HoldingRow → Row
+holding_cells row = Int (pos row.container) ∷ Null ∷ Int (pos row.place) ∷ or_null Int (option_map pos row.held_by) ∷ []
+
+abbrev pub run_cells : RunRow → Row
+run_cells row = Int (pos row.id) ∷ Null ∷ Int row.day ∷ []
+
+abbrev pub run_line_cells : ℤ × RunLineRow → Row
+run_line_cells (n, row) =
+    Int n ∷ Int (pos row.run) ∷ Int (pos row.container) ∷ Int (pos row.order_no) ∷ Int (pos row.ticket) ∷ []
+
+-- ---- the trees that show an office
+
+-- the table has these rows, in whatever order
+pub record HasRows {R : Type 0} (cells : R → Row) (there : List Row) (rows : List R) : Type 0 where
+  pub stored : List R
+  pub are : there ≡ map cells stored
+  pub tell : IsPermutation rows stored
+
+-- the table of the places has the rows of the version
+abbrev pub HasPlaces : Trees → PlaceRows → Type 0
+HasPlaces db (LinkRows links) = HasRows link_cells (db tables.link.tree) links
+HasPlaces db (SpanRows spans) = HasRows span_cells (db tables.span.tree) spans
+
+pub record HasCatalogue (db : Trees) (c : CatalogueRows) : Type 0 where
+  pub units : HasRows unit_cells (db tables.unit.tree) c.units
+  pub places : HasPlaces db c.places
+  pub elements : HasNumbered element_cells (db tables.element.tree) c.elements
+  pub containers : HasRows container_cells (db tables.container.tree) c.containers
+  pub housings : HasNumbered housing_cells (db tables.housing.tree) c.housings
+
+pub record HasDesk (db : Trees) (d : Desk) : Type 0 where
+  pub readers : HasRows reader_cells (db tables.reader.tree) d.readers
+  pub seats : HasRows seat_cells (db tables.seat.tree) d.seats
+  pub orders : HasRows order_cells (db tables.orders.tree) d.orders
+  pub holdings : HasRows holding_cells (db tables.holding.tree) d.holdings
+  pub runs : HasRows run_cells (db tables.run.tree) d.runs
+  pub run_lines : HasNumbered run_line_cells (db tables.run_line.tree) d.run_lines
+  pub permits : HasNumbered permit_cells (db tables.permit.tree) d.permits
+
+pub record HasTables (db : Trees) (t : OfficeRows) : Type 0 where
+  pub office : db tables.office.tree ≡ office_row_cells t.office ∷ []
+  pub catalogue : HasCatalogue db t.catalogue
+  pub desk : HasDesk db t.desk
+
+-- the tables of this version show the state
+abbrev pub ShowsState : Version → Trees → State → Type 0
+ShowsState version db s = HasTables db (tables_of version s)
+
+-- some trees do
+abbrev pub IsShownByTrees : Version → State → Type 0
+IsShownByTrees version s = (db : Trees) × ShowsState version db s
+
+-- ---- what is read of a sound office
+
+-- each row is read: the desk's by their keys, as the state shows them, and the catalogue's up to their order
+pub record IsRead (version : Version) (db : Trees) (s : State) : Type 0 where
+  pub all : first_held (unread version db) ≡ None
+  pub catalogue : IsCatalogueOf version (rows_in version db) s
+  pub desk : (rows_in version db).desk ≡ (tables_of version s).desk
+
+abbrev pub SoundOfficesAreRead : Version → Trees → State → Type 0
+SoundOfficesAreRead version db s = ShowsState version db s → IsSoundOffice s → IsRead version db s
+
+-- its tables meet the keys and have no cause, and say it
+pub record IsTold (version : Version) (db : Trees) (s : State) : Type 0 where
+  pub keys : MeetsKeys (rows_in version db)
+  pub causes : cell_cause version db ≡ None
+  pub state : state_of (rows_in version db) ≡ s
+
+abbrev pub SoundOfficesAreTold : Version → Trees → State → Type 0
+SoundOfficesAreTold version db s = ShowsState version db s → IsSoundOffice s → IsTold version db s
