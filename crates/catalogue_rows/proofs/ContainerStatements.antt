@@ -47,11 +47,12 @@ use Rattle.office_tables.proofs.Casts.{cast_int, cast_null}
 use Rattle.office_tables.proofs.Causes.{read_cause, none_refuse, sums_nothing}
 use Rattle.office_tables.proofs.Fresh.{any_mapped, not_there}
 use Rattle.office_tables.proofs.InsertCauses.{IsWelcome}
+use Rattle.office_tables.proofs.Queries.{asking}
 use Rattle.office_tables.proofs.statements.InsertOf.{insert_puts, insert_faults}
 use Rattle.office_tables.proofs.Limits.{limited_query, first_answers}
 use Rattle.office_tables.proofs.RowReads.{all_caused}
 use Rattle.office_tables.proofs.Rows.{kept_all}
-use Rattle.office_tables.proofs.statements.SelectOf.{asking, select_finds, select_faults}
+use Rattle.office_tables.proofs.statements.SelectOf.{select_finds, select_faults}
 use Rattle.office_tables.proofs.Tests.{only, both, same_number, same_bytes, by_one_int}
 
 -- a container under its number

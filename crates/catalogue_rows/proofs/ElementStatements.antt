@@ -44,12 +44,13 @@ use Rattle.sqlite_trees.proofs.ListLemmas.{map-map}
 use Rattle.office_tables.proofs.Calls.{on_ok_then}
 use Rattle.office_tables.proofs.numbered.OwnNumbers.{none_numbered, all_numbered, kept_ordered, those_left}
 use Rattle.office_tables.proofs.Casts.{cast_int, cast_null}
-use Rattle.office_tables.proofs.statements.DeleteOf.{removing, delete_leaves, delete_faults}
+use Rattle.office_tables.proofs.Queries.{asking, choosing}
+use Rattle.office_tables.proofs.statements.DeleteOf.{delete_leaves, delete_faults}
 use Rattle.office_tables.proofs.Fresh.{any_mapped, next_free}
 use Rattle.office_tables.proofs.InsertCauses.{IsWelcome}
 use Rattle.office_tables.proofs.statements.InsertOf.{insert_puts, insert_faults}
 use Rattle.office_tables.proofs.statements.OnlyOf.{delete_only}
-use Rattle.office_tables.proofs.statements.SelectOf.{asking, select_finds, select_faults}
+use Rattle.office_tables.proofs.statements.SelectOf.{select_finds, select_faults}
 use Rattle.office_tables.proofs.Steps.{is_referred_to}
 use Rattle.office_tables.proofs.Tests.{only, both, same_number, by_two_ints}
 
@@ -154,7 +155,7 @@ abbrev pub clear_elements_text : List ℕ
 clear_elements_text = codes "DELETE FROM element WHERE unit = ?1"
 
 abbrev pub clear_elements_command : Command
-clear_elements_command = Delete 9 (removing element of_unit (col 1 0 ∷ []))
+clear_elements_command = Delete 9 (choosing element of_unit (col 1 0 ∷ []))
 
 pub clear_elements_means : (v : Version) → Means v clear_elements_text 1 clear_elements_command
 unfolding understood everything

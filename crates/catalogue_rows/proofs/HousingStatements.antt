@@ -42,13 +42,13 @@ use Rattle.catalogue_rows.specs.declared.answer.Housing.{Housing}
 use Rattle.office_tables.proofs.Calls.{on_ok_then}
 use Rattle.office_tables.proofs.numbered.OwnNumbers.{none_numbered, kept_ordered, those_left}
 use Rattle.office_tables.proofs.Casts.{cast_int, cast_null}
-use Rattle.office_tables.proofs.statements.DeleteOf.{removing, delete_leaves, delete_faults}
+use Rattle.office_tables.proofs.statements.DeleteOf.{delete_leaves, delete_faults}
 use Rattle.office_tables.proofs.Fresh.{any_mapped, next_free}
 use Rattle.office_tables.proofs.InsertCauses.{IsWelcome}
 use Rattle.office_tables.proofs.statements.InsertOf.{insert_puts, insert_faults}
 use Rattle.office_tables.proofs.statements.OnlyOf.{delete_only}
-use Rattle.office_tables.proofs.Queries.{plain_query}
-use Rattle.office_tables.proofs.statements.SelectOf.{asking, select_finds, select_faults}
+use Rattle.office_tables.proofs.Queries.{plain_query, asking, choosing}
+use Rattle.office_tables.proofs.statements.SelectOf.{select_finds, select_faults}
 use Rattle.office_tables.proofs.Steps.{is_referred_to}
 use Rattle.office_tables.proofs.Tests.{only, both, same_number, by_two_ints}
 use Rattle.catalogue_rows.proofs.ElementStatements.{of_unit, by_unit, to_unit_fits, has_its_unit}
@@ -134,7 +134,7 @@ abbrev pub clear_housings_text : List ℕ
 clear_housings_text = codes "DELETE FROM housing WHERE unit = ?1"
 
 abbrev pub clear_housings_command : Command
-clear_housings_command = Delete 11 (removing housing of_unit (col 1 0 ∷ []))
+clear_housings_command = Delete 11 (choosing housing of_unit (col 1 0 ∷ []))
 
 pub clear_housings_means : (v : Version) → Means v clear_housings_text 1 clear_housings_command
 unfolding understood everything

@@ -16,6 +16,7 @@ use Rattle.office_tables.specs.Faults.{fault_of, IsUnlimited, HasCause}
 use Rattle.tree_core.specs.Versions.{version_number, Version, Links, Spans}
 use Rattle.catalogue_rows.specs.Rows.{office_cells, office_row}
 use Rattle.office_tables.specs.Schema.{schema, office}
+use Rattle.office_tables.specs.Schema as tables
 use Rattle.catalogue_rows.specs.declared.office.OfficeRow.{OfficeRow}
 use Rattle.office_tables.proofs.Casts.{cast_int, cast_null}
 use Rattle.office_tables.proofs.Failures.{IsWhole}
@@ -29,11 +30,11 @@ unfolding understood everything
 insert_office_whole Links = (le_refl _, refl, refl)
 insert_office_whole Spans = (le_refl _, refl, refl)
 
-office_alone : (v : Version) (db : Trees) (row : Row) → list_all (λ i. not (guards i office && list_any (λ r. agree i.order i.columns r i.columns row) (db 13))) (schema v).indexes ≡ true
+office_alone : (v : Version) (db : Trees) (row : Row) → list_all (λ i. not (guards i office && list_any (λ r. agree i.order i.columns r i.columns row) (db tables.office.tree))) (schema v).indexes ≡ true
 office_alone Links db row = refl
 office_alone Spans db row = refl
 
-office_welcome : (version : Version) (o : OfficeRow) (v : Version) (db : Trees) → db 13 ≡ [] → IsWelcome (schema v) db office (office_row version o)
+office_welcome : (version : Version) (o : OfficeRow) (v : Version) (db : Trees) → db tables.office.tree ≡ [] → IsWelcome (schema v) db office (office_row version o)
 office_welcome version o v db none = record {
   keyed = refl;
   free = ap (λ rows. is_taken rows (office_row version o)) none;
@@ -45,7 +46,7 @@ office_welcome version o v db none = record {
   parents = refl;
 }
 
-pub insert_office_cause : (old new : State) (version : Version) (o : OfficeRow) (v : Version) → old.now.schema ≡ schema v → IsLive old → IsUnlimited old → old.now.trees 13 ≡ []
+pub insert_office_cause : (old new : State) (version : Version) (o : OfficeRow) (v : Version) → old.now.schema ≡ schema v → IsLive old → IsUnlimited old → old.now.trees tables.office.tree ≡ []
     → (e : Error) → Executes insert_office_text (office_cells version o) old new (Err e) → HasCause old new (fault_of e)
 insert_office_cause old new version o v has live free none =
     let news : (edit_of old.now.trees office [] Chosen 0 (value_rows (office_cells version o) 11 1 insert_office_terms)).news ≡ office_row version o ∷ [] =

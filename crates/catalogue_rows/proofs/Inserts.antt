@@ -14,6 +14,7 @@ use Rattle.sqlite.proofs.Callers.{IsPlain, command_of, statement_of, runs_as}
 use Rattle.sqlite_tied.specs.Compute.{everything}
 use Rattle.tree_core.specs.Versions.{Version, Links, Spans, version_number}
 use Rattle.office_tables.specs.Schema.{schema, office}
+use Rattle.office_tables.specs.Schema as tables
 use Rattle.catalogue_rows.specs.Rows.{office_row, office_cells}
 use Rattle.office_tables.specs.Step.{OnlyTouches}
 use Rattle.catalogue_rows.specs.declared.office.OfficeRow.{OfficeRow}
@@ -41,10 +42,10 @@ unfolding understood everything
 insert_office_plain Links = (refl, refl)
 insert_office_plain Spans = (refl, refl)
 
-put_insert_office : (version : Version) (o : OfficeRow) (db : Trees) → edited db (edit_of db office [] Chosen 0 ((Int (pos 1) ∷ Null ∷ office_cells version o) ∷ [])) ≡ put_row (office_row version o) (db 13)
+put_insert_office : (version : Version) (o : OfficeRow) (db : Trees) → edited db (edit_of db office [] Chosen 0 ((Int (pos 1) ∷ Null ∷ office_cells version o) ∷ [])) ≡ put_row (office_row version o) (db tables.office.tree)
 put_insert_office version o db = rw (cast_int (pos 1), cast_null, cast_int (pos (version_number version)), cast_int (pos o.seats), cast_int (pos o.daily), cast_int (pos o.hands), cast_int (pos o.run_size), cast_int o.day, cast_int (pos o.next_unit)) refl
 
-new_insert_office : (version : Version) (o : OfficeRow) (db : Trees) → are_fresh (left_by db (edit_of db office [] Chosen 0 ((Int (pos 1) ∷ Null ∷ office_cells version o) ∷ []))) (edit_of db office [] Chosen 0 ((Int (pos 1) ∷ Null ∷ office_cells version o) ∷ [])).news ≡ (not (is_taken (db 13) (office_row version o)) && true)
+new_insert_office : (version : Version) (o : OfficeRow) (db : Trees) → are_fresh (left_by db (edit_of db office [] Chosen 0 ((Int (pos 1) ∷ Null ∷ office_cells version o) ∷ []))) (edit_of db office [] Chosen 0 ((Int (pos 1) ∷ Null ∷ office_cells version o) ∷ [])).news ≡ (not (is_taken (db tables.office.tree) (office_row version o)) && true)
 new_insert_office version o db = rw (cast_int (pos 1)) refl
 
 module _ (old new : State) (version : Version) (o : OfficeRow) (count : ℕ) (v : Version) (has : old.now.schema ≡ schema v) (h : Executes insert_office_text (office_cells version o) old new (Ok count)) where
@@ -57,13 +58,13 @@ module _ (old new : State) (version : Version) (o : OfficeRow) (count : ℕ) (v 
   pub insert_office_done : (new.now.schema ≡ schema v) × Shows old new new.now (if old.in_transaction then old.committed else new.now) old.in_transaction
   insert_office_done = (insert_office_it.schema_is, insert_office_w.shown)
 
-  pub insert_office_touches : OnlyTouches (13 ∷ []) old.now new.now
-  insert_office_touches = touched v old.now new.now 13 insert_office_it.applies.tables
+  pub insert_office_touches : OnlyTouches (tables.office.tree ∷ []) old.now new.now
+  insert_office_touches = touched v old.now new.now tables.office.tree insert_office_it.applies.tables
 
-  pub insert_office_rows : new.now.trees 13 ≡ put_row (office_row version o) (old.now.trees 13)
+  pub insert_office_rows : new.now.trees tables.office.tree ≡ put_row (office_row version o) (old.now.trees tables.office.tree)
   insert_office_rows = insert_office_it.applies.rows ∙ ap (λ rows. edited old.now.trees (edit_of old.now.trees office [] Chosen 0 rows)) insert_office_it.source.1 ∙ put_insert_office version o old.now.trees
 
-  pub insert_office_fresh : is_taken (old.now.trees 13) (office_row version o) ≡ false
+  pub insert_office_fresh : is_taken (old.now.trees tables.office.tree) (office_row version o) ≡ false
   insert_office_fresh =
-      not_taken (is_taken (old.now.trees 13) (office_row version o)) (sym (new_insert_office version o old.now.trees)
+      not_taken (is_taken (old.now.trees tables.office.tree) (office_row version o)) (sym (new_insert_office version o old.now.trees)
       ∙ subst (λ rows. are_fresh (left_by old.now.trees (edit_of old.now.trees office [] Chosen 0 rows)) (edit_of old.now.trees office [] Chosen 0 rows).news ≡ true) insert_office_it.source.1 insert_office_it.applies.fresh)

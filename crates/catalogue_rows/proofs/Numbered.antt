@@ -17,6 +17,7 @@ use Rattle.isad_core.specs.Boxes.{is_same}
 use Rattle.catalogue_core.specs.Merging.{number_in}
 use Rattle.office_tables.specs.Order.{Rises, IsOrdered}
 use Rattle.office_tables.specs.Put.{put_by}
+use Rattle.office_tables.specs.Schema as tables
 use Rattle.catalogue_rows.specs.Rows.{counted_from, by_container, container_row}
 use Rattle.catalogue_rows.specs.Shows.{ShowsContainers}
 use Rattle.office_tables.proofs.Puts.{put_rows}
@@ -105,7 +106,7 @@ put_last n b (c ∷ cs) =
     rw (below_less n (n + suc (length cs)) (omega arith))
     (ap (λ l. (let x : ℕ × BoxKey = (n, c) in x) ∷ l) (ap (λ m. put_by (λ (c : ℕ × BoxKey). pos c.0) (m, b) (counted_from (n + 1) cs)) (omega arith) ∙ put_last (n + 1) b cs))
 
-pub one_container : (old new : Trees) (n : ℕ) (b : BoxKey) (cs : List BoxKey) → n ≡ length cs + 1 → ShowsContainers old cs → new 18 ≡ put_row (container_row (n, b)) (old 18) → ShowsContainers new (cs ++ b ∷ [])
+pub one_container : (old new : Trees) (n : ℕ) (b : BoxKey) (cs : List BoxKey) → n ≡ length cs + 1 → ShowsContainers old cs → new tables.container.tree ≡ put_row (container_row (n, b)) (old tables.container.tree) → ShowsContainers new (cs ++ b ∷ [])
 one_container old new n b cs is at puts =
     puts ∙ ap (put_row (container_row (n, b))) at ∙ put_rows container_row (λ (c : ℕ × BoxKey). pos c.0) (λ _. refl) (n, b) (counted_from 1 cs)
     ∙ ap (λ m. map container_row (put_by (λ (c : ℕ × BoxKey). pos c.0) (m, b) (counted_from 1 cs))) (is ∙ omega arith)

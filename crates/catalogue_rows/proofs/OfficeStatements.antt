@@ -39,13 +39,14 @@ use Rattle.catalogue_rows.specs.declared.office.OfficeRow.{OfficeRow}
 use Rattle.office_tables.proofs.Casts.{cast_int, cast_null}
 use Rattle.office_tables.proofs.Causes.{read_cause, none_refuse, counts_always}
 use Rattle.office_tables.proofs.Counts.{summary_query, count_rows, counts}
+use Rattle.office_tables.proofs.Queries.{asking, choosing}
 use Rattle.office_tables.proofs.statements.OnlyOf.{update_only}
 use Rattle.office_tables.proofs.RowReads.{all_caused}
 use Rattle.office_tables.proofs.Rows.{kept_all}
-use Rattle.office_tables.proofs.statements.SelectOf.{asking, select_finds, select_faults}
+use Rattle.office_tables.proofs.statements.SelectOf.{select_finds, select_faults}
 use Rattle.office_tables.proofs.Tests.{only, same_number, by_one_int}
 use Rattle.office_tables.proofs.UpdateCauses.{KeepsTable}
-use Rattle.office_tables.proofs.statements.UpdateOf.{changing, update_leaves, update_faults}
+use Rattle.office_tables.proofs.statements.UpdateOf.{update_leaves, update_faults}
 
 -- what a row of the table tells: the version, and the rest
 abbrev Telling : Type 0
@@ -66,7 +67,7 @@ abbrev set_next_columns : List Term
 set_next_columns = col 1 0 ∷ col 1 0 ∷ lit Null ∷ col 1 2 ∷ col 1 3 ∷ col 1 4 ∷ col 1 5 ∷ col 1 6 ∷ col 1 7 ∷ col 1 8 ∷ col 1 9 ∷ col 0 0 ∷ []
 
 abbrev pub set_next_command : Command
-set_next_command = Update 7 (changing office the_one set_next_columns)
+set_next_command = Update 7 (choosing office the_one set_next_columns)
 
 pub set_next_means : (v : Version) → Means v set_next_text 1 set_next_command
 unfolding understood everything

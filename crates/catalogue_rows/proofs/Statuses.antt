@@ -49,8 +49,8 @@ module _ (g : Unit → Unit) (same_id : (u : Unit) → (g u).id ≡ u.id) where
       (ascending_weaker (λ a b. by_number a b ≡ Less) (λ a b. by_number (g a) (g b) ≡ Less) (λ a b h. ap₂ (λ m n. int_cmp (pos m) (pos n)) (same_id a) (same_id b) ∙ h) units up)
 
   module _ (same_values : (u : Unit) → (g u).values ≡ u.values) where
-    pub shows_changed : (v : Version) (shows : Trees → Forest ℕ → Type 0) → ((old new : Trees) (f : Forest ℕ) → new 24 ≡ old 24 → shows old f → shows new f)
-        → (old new : Database) (o : OfficeRow) (c : Catalogue) (it : Shows shows v old o c) → new.schema ≡ old.schema → HasRows 14 (map unit_row (map g it.catalogue.units.units)) old new
+    pub shows_changed : (v : Version) (shows : Trees → Forest ℕ → Type 0) → ((old new : Trees) (f : Forest ℕ) → new tables.link.tree ≡ old tables.link.tree → shows old f → shows new f)
+        → (old new : Database) (o : OfficeRow) (c : Catalogue) (it : Shows shows v old o c) → new.schema ≡ old.schema → HasRows tables.unit.tree (map unit_row (map g it.catalogue.units.units)) old new
         → Shows shows v new o (record c { forest = each g c.forest })
     shows_changed v shows same old new o c it schema_is wrote =
         let at = it.catalogue in
@@ -69,7 +69,7 @@ module _ (g : Unit → Unit) (same_id : (u : Unit) → (g u).id ≡ u.id) where
             };
             elements = record {
               elements = at.elements.elements;
-              rows = still_numbered element_row (old.trees 16) (new.trees 16) at.elements.elements (kept tables.element.tree refl refl) at.elements.rows;
+              rows = still_numbered element_row (old.trees tables.element.tree) (new.trees tables.element.tree) at.elements.elements (kept tables.element.tree refl refl) at.elements.rows;
               are = subst (AllByRecursion (λ (u : Unit). IsPermutation (element_cells u.values) (elements_of u.id at.elements.elements))) (sym (nodes_each g f))
                   (all_map g (λ (u : Unit). IsPermutation (element_cells u.values) (elements_of u.id at.elements.elements)) (λ (u : Unit). IsPermutation (element_cells u.values) (elements_of u.id at.elements.elements))
                   (λ u h. rw (same_id u, same_values u) h) (nodes f) at.elements.are);
@@ -78,7 +78,7 @@ module _ (g : Unit → Unit) (same_id : (u : Unit) → (g u).id ≡ u.id) where
             containers = kept tables.container.tree refl refl ∙ at.containers;
             housings = record {
               housings = at.housings.housings;
-              rows = still_numbered housing_row (old.trees 20) (new.trees 20) at.housings.housings (kept tables.housing.tree refl refl) at.housings.rows;
+              rows = still_numbered housing_row (old.trees tables.housing.tree) (new.trees tables.housing.tree) at.housings.housings (kept tables.housing.tree refl refl) at.housings.rows;
               are = subst (AllByRecursion (λ (u : Unit). IsPermutation (housing_cells c.containers u.values) (housings_of u.id at.housings.housings))) (sym (nodes_each g f))
                   (all_map g (λ (u : Unit). IsPermutation (housing_cells c.containers u.values) (housings_of u.id at.housings.housings)) (λ (u : Unit). IsPermutation (housing_cells c.containers u.values) (housings_of u.id at.housings.housings))
                   (λ u h. rw (same_id u, same_values u) h) (nodes f) at.housings.are);
@@ -134,9 +134,9 @@ status_of_none draft c = ap (λ f. record c { forest = f }) (each_none c.forest)
     each_none Empty = refl
     each_none (Node u children others) = rw (each_none children, each_none others) refl
 
-pub draft_step : (v : Version) (shows : Trees → Forest ℕ → Type 0) → ((old new : Trees) (f : Forest ℕ) → new 24 ≡ old 24 → shows old f → shows new f)
+pub draft_step : (v : Version) (shows : Trees → Forest ℕ → Type 0) → ((old new : Trees) (f : Forest ℕ) → new tables.link.tree ≡ old tables.link.tree → shows old f → shows new f)
     → (old new : Database) (o : OfficeRow) (c : Catalogue) (draft : Bool) (ids : List ℕ) (id : ℕ) (it : Shows shows v old o (with_status ids draft c)) → new.schema ≡ old.schema
-    → HasRows 14 (map unit_row (map (λ (u : Unit). drafted draft (has_id id u) u) it.catalogue.units.units)) old new → Shows shows v new o (with_status (ids ++ id ∷ []) draft c)
+    → HasRows tables.unit.tree (map unit_row (map (λ (u : Unit). drafted draft (has_id id u) u) it.catalogue.units.units)) old new → Shows shows v new o (with_status (ids ++ id ∷ []) draft c)
 draft_step v shows same old new o c draft ids id it schema_is wrote =
     subst (λ f. Shows shows v new o (record c { forest = f })) (drafts_more draft ids id c)
     (shows_changed (λ u. drafted draft (has_id id u) u) (one_drafted draft id) (λ u. kept_by (λ (u : Unit). u.values) (has_id id u) (record u { draft = draft }) u refl) v shows same old new o (with_status ids draft c) it schema_is wrote)

@@ -25,6 +25,7 @@ use Rattle.catalogue_rows.specs.Rows.{unit_row, ElementRow, HousingRow, counted_
 use Rattle.office_tables.specs.Put.{put_by}
 use Rattle.catalogue_rows.specs.Shows.{texts_from, element_number}
 use Rattle.catalogue_core.specs.Units.{Unit, has_id}
+use Rattle.office_tables.specs.Schema as tables
 use Rattle.catalogue_rows.proofs.BoxNumbers.{all_apart, all_known, box_itself, still_known, unknown_unnumbered, same_box}
 use Rattle.catalogue_rows.proofs.Finding.{itself}
 use Rattle.catalogue_rows.proofs.HousingLemmas.{cells_in, same_cells}
@@ -231,7 +232,7 @@ none_alike k (c ∷ cs) b none =
 -- ---- units
 
 -- the unit's row stays
-pub unit_still : (old new : Trees) (unit : ℕ) → new 14 ≡ old 14 → HasUnit old unit → HasUnit new unit
+pub unit_still : (old new : Trees) (unit : ℕ) → new tables.unit.tree ≡ old tables.unit.tree → HasUnit old unit → HasUnit new unit
 unit_still old new unit same it = record { units = it.units; rows = same ∙ it.rows; there = it.there }
 
 -- a unit that is not there has no row of another table
@@ -258,7 +259,7 @@ put_has key new (x ∷ xs) = elim (int_cmp (key x) (key new)) as (λ o. Has (mat
 ]
 
 -- a unit that was added has its row
-pub unit_added : (old new : Trees) (u : Unit) (units : List Unit) → old 14 ≡ map unit_row units → new 14 ≡ put_row (unit_row u) (old 14) → HasUnit new u.id
+pub unit_added : (old new : Trees) (u : Unit) (units : List Unit) → old tables.unit.tree ≡ map unit_row units → new tables.unit.tree ≡ put_row (unit_row u) (old tables.unit.tree) → HasUnit new u.id
 unit_added old new u units at put =
     let key = λ (x : Unit). pos x.id in
     record {
@@ -268,7 +269,7 @@ unit_added old new u units at put =
     }
 
 -- a unit that was given other values has its row
-pub unit_valued : (new : Trees) (unit : ℕ) (values : Values) (units : List Unit) → new 14 ≡ map unit_row (map (λ (x : Unit). if nat_eq unit x.id then record x { values = values } else x) units) → list_any (has_id unit) units ≡ true → HasUnit new unit
+pub unit_valued : (new : Trees) (unit : ℕ) (values : Values) (units : List Unit) → new tables.unit.tree ≡ map unit_row (map (λ (x : Unit). if nat_eq unit x.id then record x { values = values } else x) units) → list_any (has_id unit) units ≡ true → HasUnit new unit
 unit_valued new unit values units at there =
     let valued = λ (x : Unit). if nat_eq unit x.id then record x { values = values } else x in
     let it = some_has (has_id unit) units there in

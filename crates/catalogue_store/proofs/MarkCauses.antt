@@ -1,6 +1,5 @@
 -- Why reading marks fails: never for the units of a catalogue within its limits.
-use Rattle.std.proofs.Common.{◌≡◌, inl, inr, ℕ, ◌<◌, ◌≤◌, ◌^◌, List, [], ◌∷◌, map, filter, length, get_or, Some, None, slice_get, Result, Ok, Err, OnErr, nat_eq, refl, sym, ap, subst, ◌∙◌, arith}
-use Rattle.std.specs.Prelude.{IfErr}
+use Rattle.std.proofs.Common.{◌≡◌, inl, inr, ℕ, ◌<◌, ◌≤◌, ◌^◌, List, [], ◌∷◌, map, filter, length, get_or, Some, None, slice_get, nat_eq, refl, sym, ap, subst, ◌∙◌, arith}
 use Rattle.std.specs.List.{AllByRecursion}
 use Rattle.std.proofs.lemmas.Bool.{eq-eqb}
 use Rattle.std.proofs.lemmas.List.{get_or-map, length-map}
@@ -21,11 +20,6 @@ use Rattle.catalogue_rows.specs.declared.answer.Status.{Status}
 use Rattle.catalogue_store.proofs.MarkReads.{blank_unit}
 use Rattle.office_tables.proofs.Rows.{had}
 use Rattle.catalogue_rows.proofs.Statuses.{nodes_each}
-
--- why a last call fails, which leaves this
-pub if_err_with : {X E : Type 0} (r : Result X E) (P : Type 0) (Q : E → Type 0) → (P → IfErr r Q) → OnErr r P → IfErr r Q
-if_err_with (Ok x) P Q f p = tt
-if_err_with (Err e) P Q f p = f p
 
 -- ---- the units of a catalogue
 

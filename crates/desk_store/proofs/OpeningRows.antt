@@ -22,17 +22,19 @@ use Rattle.office_tables.specs.Changing.{Ran}
 use Rattle.office_tables.specs.Faults.{IsUnlimited, HasCause}
 use Rattle.office_tables.specs.Meaning.{Means}
 use Rattle.office_tables.specs.Schema.{schema, seat, office}
+use Rattle.office_tables.specs.Schema as tables
 use Rattle.office_tables.specs.Shared.{OfficeCells, office_cells}
 use Rattle.office_tables.specs.Step.{Holds, HasRows, OnlyTouches}
 use Rattle.office_tables.specs.declared.fault.StoreFault.{StoreFault}
 use Rattle.desk_store.specs.Rows.{seat_cells}
 use Rattle.office_tables.specs.Numbered.{AreByNumber}
 use Rattle.office_tables.proofs.Casts.{cast_int, cast_null}
-use Rattle.office_tables.proofs.statements.DeleteOf.{removing, delete_leaves, delete_faults}
+use Rattle.office_tables.proofs.Queries.{choosing}
+use Rattle.office_tables.proofs.statements.DeleteOf.{delete_leaves, delete_faults}
 use Rattle.office_tables.proofs.Steps.{is_referred_to}
 use Rattle.office_tables.proofs.Tests.{only, same_number}
 use Rattle.office_tables.proofs.UpdateCauses.{KeepsTable}
-use Rattle.office_tables.proofs.statements.UpdateOf.{changing, update_leaves, update_faults}
+use Rattle.office_tables.proofs.statements.UpdateOf.{update_leaves, update_faults}
 use Rattle.office_tables.proofs.statements.OnlyOf.{delete_only, update_only}
 
 -- ---- all seats become free
@@ -41,14 +43,14 @@ abbrev pub free_text : List ℕ
 free_text = codes "DELETE FROM seat"
 
 abbrev pub free_command : Command
-free_command = Delete 1 (removing seat [] (col 1 0 ∷ []))
+free_command = Delete 1 (choosing seat [] (col 1 0 ∷ []))
 
 pub free_means : (v : Version) → Means v free_text 0 free_command
 unfolding understood everything
 free_means Links = record { is = refl; plain = (refl, refl); whole = (le_refl _, refl, refl); unlisted = refl }
 free_means Spans = record { is = refl; plain = (refl, refl); whole = (le_refl _, refl, refl); unlisted = refl }
 
-unreferred : (v : Version) → is_referred_to (schema v) 1 ≡ false
+unreferred : (v : Version) → is_referred_to (schema v) tables.seat.tree ≡ false
 unfolding joined same_name
 unreferred Links = refl
 unreferred Spans = refl
@@ -63,13 +65,13 @@ none_kept [] = refl
 none_kept (x ∷ xs) = none_kept xs
 
 module _ (old new : State) (v : Version) (has : old.now.schema ≡ schema v) (r : Result Unit StoreFault) (ran : Ran free_text [] old new r) where
-  pub free_leaves : (xs : List SeatRow) → Holds seat seat_cells old xs → AreByNumber (λ (s : SeatRow). s.seat) xs → OnOk r (HasRows 1 [] old.now new.now)
+  pub free_leaves : (xs : List SeatRow) → Holds seat seat_cells old xs → AreByNumber (λ (s : SeatRow). s.seat) xs → OnOk r (HasRows tables.seat.tree [] old.now new.now)
   free_leaves xs stored up =
-      subst (λ (kept : List SeatRow). OnOk r (HasRows 1 (map seat_cells kept) old.now new.now)) (none_kept xs)
+      subst (λ (kept : List SeatRow). OnOk r (HasRows tables.seat.tree (map seat_cells kept) old.now new.now)) (none_kept xs)
       (delete_leaves v 1 seat refl (unreferred v) free_text [] (col 1 0 ∷ []) [] (free_means v) old new has seat_cells (λ s. pos s.seat) (λ _. refl) xs stored up
       (λ (s : SeatRow). true) (λ _. refl) (λ s. Int (pos s.seat) ∷ []) (λ _. refl) (λ _. refl) r ran)
 
-  pub free_only : OnOk r (OnlyTouches (1 ∷ []) old.now new.now)
+  pub free_only : OnOk r (OnlyTouches (tables.seat.tree ∷ []) old.now new.now)
   free_only = delete_only v 1 seat refl free_text _ [] old new has (unreferred v) (free_means v) r ran
 
   pub free_faults : IsUnlimited old → IsLive old → IfErr r (HasCause old new)
@@ -87,7 +89,7 @@ abbrev set_day_columns : List Term
 set_day_columns = col 1 0 ∷ col 1 0 ∷ lit Null ∷ col 1 2 ∷ col 1 3 ∷ col 1 4 ∷ col 1 5 ∷ col 1 6 ∷ col 1 7 ∷ col 1 8 ∷ col 0 0 ∷ col 1 10 ∷ []
 
 abbrev pub set_day_command : Command
-set_day_command = Update 7 (changing office the_one set_day_columns)
+set_day_command = Update 7 (choosing office the_one set_day_columns)
 
 pub set_day_means : (v : Version) → Means v set_day_text 1 set_day_command
 unfolding understood everything
@@ -100,7 +102,7 @@ office_kept Links = record { listed = refl; apart = refl; spared = refl; fits = 
 office_kept Spans = record { listed = refl; apart = refl; spared = refl; fits = refl }
 
 module _ (old new : State) (day : ℤ) (v : Version) (has : old.now.schema ≡ schema v) (r : Result Unit StoreFault) (ran : Ran set_day_text (Int day ∷ []) old new r) where
-  pub set_day_only : OnOk r (OnlyTouches (13 ∷ []) old.now new.now)
+  pub set_day_only : OnOk r (OnlyTouches (tables.office.tree ∷ []) old.now new.now)
   set_day_only = update_only v 7 office refl set_day_text _ (Int day ∷ []) old new has (set_day_means v) r ran
 
   module _ (o : OfficeCells) (stored : Holds office office_cells old (o ∷ [])) where
@@ -114,7 +116,7 @@ module _ (old new : State) (day : ℤ) (v : Version) (has : old.now.schema ≡ s
     casts x =
         rw (cast_int (pos 1), cast_null, cast_int (pos x.version), cast_int (pos x.seats), cast_int (pos x.daily), cast_int (pos x.hands), cast_int (pos x.run_size), cast_int day, cast_int (pos x.next_unit)) refl
 
-    pub set_day_leaves : OnOk r (HasRows 13 (office_cells (changed o) ∷ []) old.now new.now)
+    pub set_day_leaves : OnOk r (HasRows tables.office.tree (office_cells (changed o) ∷ []) old.now new.now)
     set_day_leaves =
         update_leaves v 7 office refl set_day_text the_one set_day_columns (Int day ∷ []) (set_day_means v) old new has office_cells (λ _. pos 1) (λ _. refl) (o ∷ []) stored (tt, tt)
         (λ _. true) (λ _. only (same_number 1 1)) source (λ _. refl) (λ _. refl) changed (λ _. refl) (λ x _ _. casts x) r ran

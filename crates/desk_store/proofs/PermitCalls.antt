@@ -32,6 +32,7 @@ use Rattle.desk_store.specs.Permits.{by_unit, is_permit, without_permit, with_pe
 use Rattle.office_tables.specs.Permits.{permit_cells}
 use Rattle.desk_store.specs.Shows.{ShowsDesk, ShowsRoom, IsLegible}
 use Rattle.office_tables.specs.Numbered.{HasNumbered}
+use Rattle.office_tables.specs.Schema as tables
 use Rattle.desk_store.proofs.Frames.{with_permits}
 use Rattle.office_tables.proofs.numbered.OwnNumbers.{one_more, told_permuted}
 use Rattle.desk_store.proofs.PermitRows.{by_ticket, permit_of, told_of}
@@ -82,8 +83,8 @@ module _ {S : Type 0} (g : store.Ghosts S) (before after : Held S) (r : Result U
   abbrev new : State
   new = state g after
 
-  pub takes_back : (t u : ℕ) → Leaves old new r → (HasCleanDisk new → (ps : List PermitRow) → HasNumbered permit_cells (old.now.trees 10) ps → OnOk r (HasNumbered permit_cells (new.now.trees 10) (without_permit t u ps)))
-      → (HasCleanDisk new → OnOk r (OnlyTouches (10 ∷ []) old.now new.now)) → Excused old new r → Makes g ShowsRoom IsLegible before after r (λ _. ⊤) (revoked t u) (10 ∷ [])
+  pub takes_back : (t u : ℕ) → Leaves old new r → (HasCleanDisk new → (ps : List PermitRow) → HasNumbered permit_cells (old.now.trees tables.permit.tree) ps → OnOk r (HasNumbered permit_cells (new.now.trees tables.permit.tree) (without_permit t u ps)))
+      → (HasCleanDisk new → OnOk r (OnlyTouches (tables.permit.tree ∷ []) old.now new.now)) → Excused old new r → Makes g ShowsRoom IsLegible before after r (λ _. ⊤) (revoked t u) (tables.permit.tree ∷ [])
   takes_back t u leaves rows only faults = record {
     shows_made = λ clean beside d shown may. on_ok_both r _ _ _ (λ touches has. with_permits old.now new.now d shown _ touches has) (only clean) (rows clean d.permits shown.permits);
     only = only;
@@ -108,7 +109,7 @@ module _ {S : Type 0} (g : store.Ghosts S) (before mid after : Held S) (t u : �
   row = record { ticket = t; unit = u; until = until }
 
   pub not_cleared : (e : StoreFault) → Leaves {X = Unit} a b (Err e) → Excused {X = Unit} a b (Err e)
-      → Makes {X = Unit} g ShowsRoom IsLegible before mid (Err e) (λ _. HasUnitRow u a.now.trees) (with_permit t u until) (10 ∷ [])
+      → Makes {X = Unit} g ShowsRoom IsLegible before mid (Err e) (λ _. HasUnitRow u a.now.trees) (with_permit t u until) (tables.permit.tree ∷ [])
   not_cleared e leaves faults = record {
     shows_made = λ clean beside d shown may. tt;
     only = λ clean. tt;
@@ -117,24 +118,24 @@ module _ {S : Type 0} (g : store.Ghosts S) (before mid after : Held S) (t u : �
     faults = λ beside d shown may kept. faults;
   }
 
-  module _ (goes : Goes a b) (only : HasCleanDisk b → OnlyTouches (10 ∷ []) a.now b.now) (left : HasCleanDisk b → (ps : List PermitRow) → HasNumbered permit_cells (a.now.trees 10) ps → HasNumbered permit_cells (b.now.trees 10) (without_permit t u ps))
+  module _ (goes : Goes a b) (only : HasCleanDisk b → OnlyTouches (tables.permit.tree ∷ []) a.now b.now) (left : HasCleanDisk b → (ps : List PermitRow) → HasNumbered permit_cells (a.now.trees tables.permit.tree) ps → HasNumbered permit_cells (b.now.trees tables.permit.tree) (without_permit t u ps))
       (r : Result Unit StoreFault) where
     still_there : HasCleanDisk b → HasUnitRow u a.now.trees → HasUnitRow u b.now.trees
-    still_there clean known = subst (λ rows. (row : Row) × Has rows row × (rowid row ≡ Int (pos u))) (sym (only clean 14 refl refl)) known
+    still_there clean known = subst (λ rows. (row : Row) × Has rows row × (rowid row ≡ Int (pos u))) (sym (only clean tables.unit.tree refl refl)) known
 
-    put : HasCleanDisk b → PutsRow 10 (permit_cells (next_rowid (b.now.trees 10), row)) b.now c.now → (d : Desk) → ShowsDesk a.now.trees d → ShowsDesk c.now.trees (with_permit t u until d)
+    put : HasCleanDisk b → PutsRow tables.permit.tree (permit_cells (next_rowid (b.now.trees tables.permit.tree), row)) b.now c.now → (d : Desk) → ShowsDesk a.now.trees d → ShowsDesk c.now.trees (with_permit t u until d)
     put clean puts d shown =
         with_permits a.now c.now d shown (row ∷ without_permit t u d.permits) (λ tree known other. puts.only tree known other ∙ only clean tree known other)
-        (one_more permit_cells (λ _. refl) (b.now.trees 10) (c.now.trees 10) (without_permit t u d.permits) (next_rowid (b.now.trees 10)) row (left clean d.permits shown.permits) puts.rows puts.fresh)
+        (one_more permit_cells (λ _. refl) (b.now.trees tables.permit.tree) (c.now.trees tables.permit.tree) (without_permit t u d.permits) (next_rowid (b.now.trees tables.permit.tree)) row (left clean d.permits shown.permits) puts.rows puts.fresh)
 
-    pub grants : Leaves b c r → (HasCleanDisk c → OnOk r (PutsRow 10 (permit_cells (next_rowid (b.now.trees 10), row)) b.now c.now))
-        → ((ps : List PermitRow) → HasNumbered permit_cells (b.now.trees 10) ps → list_any (is_permit t u) ps ≡ false → HasUnitRow u b.now.trees → Excused b c r)
-        → Makes g ShowsRoom IsLegible before after r (λ _. HasUnitRow u a.now.trees) (with_permit t u until) (10 ∷ [])
+    pub grants : Leaves b c r → (HasCleanDisk c → OnOk r (PutsRow tables.permit.tree (permit_cells (next_rowid (b.now.trees tables.permit.tree), row)) b.now c.now))
+        → ((ps : List PermitRow) → HasNumbered permit_cells (b.now.trees tables.permit.tree) ps → list_any (is_permit t u) ps ≡ false → HasUnitRow u b.now.trees → Excused b c r)
+        → Makes g ShowsRoom IsLegible before after r (λ _. HasUnitRow u a.now.trees) (with_permit t u until) (tables.permit.tree ∷ [])
     grants leaves puts faults =
         let back = early b c _ leaves.crash in
         record {
           shows_made = λ clean beside d shown may. on_ok_then r _ _ (λ at. put (back clean) at d shown) (puts clean);
-          only = λ clean. on_ok_then r _ _ (λ (at : PutsRow 10 (permit_cells (next_rowid (b.now.trees 10), row)) b.now c.now) tree known other. at.only tree known other ∙ only (back clean) tree known other) (puts clean);
+          only = λ clean. on_ok_then r _ _ (λ (at : PutsRow tables.permit.tree (permit_cells (next_rowid (b.now.trees tables.permit.tree), row)) b.now c.now) tree known other. at.only tree known other ∙ only (back clean) tree known other) (puts clean);
           goes = on_ok_then r _ _ (goes_then a b c goes) leaves.goes;
           cut = on_err_then r _ _ (cut_then a b c goes.on) leaves.cut;
           faults = λ beside d shown may kept clean free. last_cause a b c goes.on r leaves.cut clean (λ cleaner.

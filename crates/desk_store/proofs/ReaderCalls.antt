@@ -16,6 +16,7 @@ use Rattle.desk_core.specs.DeskRows.{Desk, ReaderRow}
 use Rattle.office_tables.specs.Calls.{Makes}
 use Rattle.office_tables.specs.Faults.{IsUnlimited, HasCause}
 use Rattle.office_tables.specs.Schema.{reader}
+use Rattle.office_tables.specs.Schema as tables
 use Rattle.office_tables.specs.Step.{Goes, Holds, IsCut, Looks, OnlyTouches, PutsRow}
 use Rattle.office_tables.specs.declared.fault.StoreFault.{StoreFault}
 use Rattle.office_tables.proofs.Calls.{early, goes_then, cut_then}
@@ -52,7 +53,7 @@ module _ {S : Type 0} (g : store.Ghosts S) (before mid after : Held S) (name : B
     still_shown : HasCleanDisk b → (d : Desk) → ShowsDesk a.now.trees d → ShowsDesk b.now.trees d
     still_shown clean d shown = subst (λ (db : Database). ShowsDesk db.trees d) (sym (looked.same clean)) shown
 
-    put : HasCleanDisk b → PutsRow 0 (reader_cells row) b.now c.now → (d : Desk) → ShowsDesk a.now.trees d → ShowsDesk c.now.trees (with_reader (next_ticket d) name until d)
+    put : HasCleanDisk b → PutsRow tables.reader.tree (reader_cells row) b.now c.now → (d : Desk) → ShowsDesk a.now.trees d → ShowsDesk c.now.trees (with_reader (next_ticket d) name until d)
     put clean puts d shown =
         let at = is clean d shown in
         let n = next_is d ticket at in
@@ -65,12 +66,12 @@ module _ {S : Type 0} (g : store.Ghosts S) (before mid after : Held S) (name : B
         (counted_more (λ (r : ReaderRow). r.ticket) 1 d.readers row shown.tickets n.0)
         (let size = length-append d.readers (row ∷ []) in omega (arith, size, few)))
 
-    pub added : Goes b c → (HasCleanDisk c → PutsRow 0 (reader_cells row) b.now c.now) → Makes g ShowsRoom IsLegible before after (Ok (Some ticket)) (λ _. ⊤) (λ d. with_reader (next_ticket d) name until d) (0 ∷ [])
+    pub added : Goes b c → (HasCleanDisk c → PutsRow tables.reader.tree (reader_cells row) b.now c.now) → Makes g ShowsRoom IsLegible before after (Ok (Some ticket)) (λ _. ⊤) (λ d. with_reader (next_ticket d) name until d) (tables.reader.tree ∷ [])
     added goes puts =
         let back = early b c _ goes.on.crash in
         record {
           shows_made = λ clean beside d shown may. put (back clean) (puts clean) d shown;
-          only = λ clean. subst (λ (db : Database). OnlyTouches (0 ∷ []) db c.now) (looked.same (back clean)) (puts clean).only;
+          only = λ clean. subst (λ (db : Database). OnlyTouches (tables.reader.tree ∷ []) db c.now) (looked.same (back clean)) (puts clean).only;
           goes = goes_then a b c looked.goes goes;
           cut = tt;
           faults = λ beside d shown may kept clean free. tt;
@@ -78,7 +79,7 @@ module _ {S : Type 0} (g : store.Ghosts S) (before mid after : Held S) (name : B
 
     pub failed : (e : StoreFault) → IsCut b c
         → ((xs : List ReaderRow) → Holds reader reader_cells b xs → list_any (λ (r : ReaderRow). nat_eq ticket r.ticket) xs ≡ false → HasCleanDisk c → IsUnlimited b → HasCause b c e)
-        → Makes {X = Option ℕ} g ShowsRoom IsLegible before after (Err e) (λ _. ⊤) (λ d. with_reader (next_ticket d) name until d) (0 ∷ [])
+        → Makes {X = Option ℕ} g ShowsRoom IsLegible before after (Err e) (λ _. ⊤) (λ d. with_reader (next_ticket d) name until d) (tables.reader.tree ∷ [])
     failed e cut why = record {
       shows_made = λ clean beside d shown may. tt;
       only = λ clean. tt;

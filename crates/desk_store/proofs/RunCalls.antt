@@ -28,6 +28,7 @@ use Rattle.desk_store.specs.Rows.{run_cells, run_line_cells}
 use Rattle.desk_store.specs.Runs.{next_run, line_of, with_run, MayRun}
 use Rattle.desk_store.specs.Shows.{ShowsDesk, ShowsRoom, IsLegible}
 use Rattle.office_tables.specs.Numbered.{HasNumbered}
+use Rattle.office_tables.specs.Schema as tables
 use Rattle.desk_store.specs.declared.holdings.FirstOrder.{FirstOrder}
 use Rattle.office_tables.proofs.numbered.Counted.{counted_more, counted_free, put_end}
 use Rattle.desk_store.proofs.Frames.{with_runs}
@@ -87,13 +88,13 @@ module _ (a b c : State) (run : ℕ) (on : ℤ) (taken : List FirstOrder) where
   abbrev row : RunRow
   row = record { id = run; day = on }
 
-  pub both_touched : OnlyTouches (7 ∷ []) a.now b.now → OnlyTouches (8 ∷ []) b.now c.now → OnlyTouches (7 ∷ 8 ∷ []) a.now c.now
+  pub both_touched : OnlyTouches (tables.run.tree ∷ []) a.now b.now → OnlyTouches (tables.run_line.tree ∷ []) b.now c.now → OnlyTouches (tables.run.tree ∷ tables.run_line.tree ∷ []) a.now c.now
   both_touched first then =
-      touched_again (7 ∷ 8 ∷ []) a.now b.now c.now (touched_wider (7 ∷ []) (7 ∷ 8 ∷ []) a.now b.now refl first) (touched_wider (8 ∷ []) (7 ∷ 8 ∷ []) b.now c.now refl then)
+      touched_again (tables.run.tree ∷ tables.run_line.tree ∷ []) a.now b.now c.now (touched_wider (tables.run.tree ∷ []) (tables.run.tree ∷ tables.run_line.tree ∷ []) a.now b.now refl first) (touched_wider (tables.run_line.tree ∷ []) (tables.run.tree ∷ tables.run_line.tree ∷ []) b.now c.now refl then)
 
   -- the lines are as they were
-  pub lines_still : OnlyTouches (7 ∷ []) a.now b.now → (d : Desk) → ShowsDesk a.now.trees d → HasNumbered run_line_cells (b.now.trees 8) d.run_lines
-  lines_still first d shown = again run_line_cells (a.now.trees 8) (b.now.trees 8) d.run_lines (first 8 refl refl) shown.run_lines
+  pub lines_still : OnlyTouches (tables.run.tree ∷ []) a.now b.now → (d : Desk) → ShowsDesk a.now.trees d → HasNumbered run_line_cells (b.now.trees tables.run_line.tree) d.run_lines
+  lines_still first d shown = again run_line_cells (a.now.trees tables.run_line.tree) (b.now.trees tables.run_line.tree) d.run_lines (first 8 refl refl) shown.run_lines
 
   pub run_free : (d : Desk) → ShowsDesk a.now.trees d → Some run ≡ next_run d → list_any (λ (r : RunRow). nat_eq run r.id) d.runs ≡ false
   run_free d shown is = counted_free (λ (r : RunRow). r.id) 1 d.runs run shown.run_numbers ((next_is d run is).0 ∙ omega arith)
@@ -102,8 +103,8 @@ module _ (a b c : State) (run : ℕ) (on : ℤ) (taken : List FirstOrder) where
   pub no_line : (d : Desk) → Some run ≡ next_run d → MayRun taken d → filter (λ (l : RunLineRow). nat_eq run l.run) d.run_lines ≡ []
   no_line d is may = subst (λ n. filter (λ (l : RunLineRow). nat_eq n l.run) d.run_lines ≡ []) (sym (next_is d run is).0) may.0
 
-  pub run_shown : PutsRow 7 (run_cells row) a.now b.now → OnlyTouches (8 ∷ []) b.now c.now → (d : Desk) → ShowsDesk a.now.trees d → Some run ≡ next_run d
-      → HasNumbered run_line_cells (c.now.trees 8) (d.run_lines ++ map (line_of run) taken) → ShowsDesk c.now.trees (with_run (Some run) on taken d)
+  pub run_shown : PutsRow tables.run.tree (run_cells row) a.now b.now → OnlyTouches (tables.run_line.tree ∷ []) b.now c.now → (d : Desk) → ShowsDesk a.now.trees d → Some run ≡ next_run d
+      → HasNumbered run_line_cells (c.now.trees tables.run_line.tree) (d.run_lines ++ map (line_of run) taken) → ShowsDesk c.now.trees (with_run (Some run) on taken d)
   run_shown put lines d shown is has =
       let n = next_is d run is in
       let few = n.1 in
@@ -135,22 +136,22 @@ module _ {S : Type 0} (g : store.Ghosts S) (before mid after : Held S) (on : ℤ
     still_shown : HasCleanDisk b → (d : Desk) → ShowsDesk a.now.trees d → ShowsDesk b.now.trees d
     still_shown clean d shown = subst (λ (db : Database). ShowsDesk db.trees d) (sym (looked.same clean)) shown
 
-    pub recorded : Goes b c → (HasCleanDisk c → (d : Desk) → ShowsDesk b.now.trees d → Some run ≡ next_run d → ShowsDesk c.now.trees (with_run (Some run) on taken d)) → (HasCleanDisk c → OnlyTouches (7 ∷ 8 ∷ []) b.now c.now)
-        → Makes g ShowsRoom IsLegible before after (Ok (Some run)) (MayRun taken) (λ d. with_run (next_run d) on taken d) (7 ∷ 8 ∷ [])
+    pub recorded : Goes b c → (HasCleanDisk c → (d : Desk) → ShowsDesk b.now.trees d → Some run ≡ next_run d → ShowsDesk c.now.trees (with_run (Some run) on taken d)) → (HasCleanDisk c → OnlyTouches (tables.run.tree ∷ tables.run_line.tree ∷ []) b.now c.now)
+        → Makes g ShowsRoom IsLegible before after (Ok (Some run)) (MayRun taken) (λ d. with_run (next_run d) on taken d) (tables.run.tree ∷ tables.run_line.tree ∷ [])
     recorded goes shows only =
         let back = early b c _ goes.on.crash in
         record {
           shows_made = λ clean beside d shown may.
               let at = is (back clean) d shown in
               subst (λ o. ShowsDesk c.now.trees (with_run o on taken d)) at (shows clean d (still_shown (back clean) d shown) at);
-          only = λ clean. subst (λ (db : Database). OnlyTouches (7 ∷ 8 ∷ []) db c.now) (looked.same (back clean)) (only clean);
+          only = λ clean. subst (λ (db : Database). OnlyTouches (tables.run.tree ∷ tables.run_line.tree ∷ []) db c.now) (looked.same (back clean)) (only clean);
           goes = goes_then a b c looked.goes goes;
           cut = tt;
           faults = λ beside d shown may kept clean free. tt;
         }
 
     pub not_recorded : (e : StoreFault) → IsCut b c → ((d : Desk) → ShowsDesk b.now.trees d → Some run ≡ next_run d → MayRun taken d → HasCleanDisk c → IsUnlimited b → HasCause b c e)
-        → Makes {X = Option ℕ} g ShowsRoom IsLegible before after (Err e) (MayRun taken) (λ d. with_run (next_run d) on taken d) (7 ∷ 8 ∷ [])
+        → Makes {X = Option ℕ} g ShowsRoom IsLegible before after (Err e) (MayRun taken) (λ d. with_run (next_run d) on taken d) (tables.run.tree ∷ tables.run_line.tree ∷ [])
     not_recorded e cut why = record {
       shows_made = λ clean beside d shown may. tt;
       only = λ clean. tt;

@@ -34,6 +34,7 @@ use Rattle.office_tables.specs.Changing.{Ran}
 use Rattle.office_tables.specs.Faults.{IsUnlimited, HasCause}
 use Rattle.office_tables.specs.Meaning.{Means}
 use Rattle.office_tables.specs.Schema.{schema, run, run_line}
+use Rattle.office_tables.specs.Schema as tables
 use Rattle.office_tables.specs.Step.{Holds, OnlyTouches, PutsRow}
 use Rattle.office_tables.specs.declared.fault.StoreFault.{StoreFault}
 use Rattle.desk_store.specs.Rows.{run_cells, run_line_cells}
@@ -43,8 +44,9 @@ use Rattle.office_tables.proofs.Calls.{on_ok_then}
 use Rattle.office_tables.proofs.Casts.{cast_int, cast_null}
 use Rattle.office_tables.proofs.Fresh.{any_mapped, next_free, not_there}
 use Rattle.office_tables.proofs.InsertCauses.{IsWelcome}
+use Rattle.office_tables.proofs.Queries.{asking}
 use Rattle.office_tables.proofs.statements.InsertOf.{insert_puts, insert_faults}
-use Rattle.office_tables.proofs.statements.SelectOf.{asking, select_finds, select_faults}
+use Rattle.office_tables.proofs.statements.SelectOf.{select_finds, select_faults}
 use Rattle.office_tables.proofs.Tests.{only, both, same_number, by_two_ints}
 use Rattle.office_tables.proofs.statements.LastOf.{last_of, last_finds, last_faults}
 use Rattle.office_tables.proofs.numbered.OwnNumbers.{none_numbered, one_at_end, told_permuted}
@@ -85,11 +87,11 @@ unfolding understood everything
 insert_run_means Links = record { is = refl; plain = (refl, refl); whole = (le_refl _, refl, refl); unlisted = refl }
 insert_run_means Spans = record { is = refl; plain = (refl, refl); whole = (le_refl _, refl, refl); unlisted = refl }
 
-run_alone : (v : Version) (db : Trees) (row : Row) → list_all (λ i. not (guards i run && list_any (λ r. agree i.order i.columns r i.columns row) (db 7))) (schema v).indexes ≡ true
+run_alone : (v : Version) (db : Trees) (row : Row) → list_all (λ i. not (guards i run && list_any (λ r. agree i.order i.columns r i.columns row) (db tables.run.tree))) (schema v).indexes ≡ true
 run_alone Links db row = refl
 run_alone Spans db row = refl
 
-run_welcome : (x : RunRow) (xs : List RunRow) (v : Version) (db : Trees) → db 7 ≡ map run_cells xs → list_any (λ (y : RunRow). nat_eq x.id y.id) xs ≡ false → IsWelcome (schema v) db run (run_cells x)
+run_welcome : (x : RunRow) (xs : List RunRow) (v : Version) (db : Trees) → db tables.run.tree ≡ map run_cells xs → list_any (λ (y : RunRow). nat_eq x.id y.id) xs ≡ false → IsWelcome (schema v) db run (run_cells x)
 run_welcome x xs v db stored none = record {
   keyed = refl;
   free = ap (λ rows. is_taken rows (run_cells x)) stored ∙ not_there run_cells (λ y. y.id) (λ _. refl) x.id (run_cells x) refl xs none;
@@ -108,7 +110,7 @@ module _ (old new : State) (x : RunRow) (v : Version) (has : old.now.schema ≡ 
   run_news : (edit_of old.now.trees run [] Chosen 0 (value_rows run_params 3 1 insert_run_terms)).news ≡ run_cells x ∷ []
   run_news = rw (cast_int (pos x.id), cast_null, cast_int x.day) refl
 
-  pub insert_run_puts : (r : Result Unit StoreFault) → Ran insert_run_text run_params old new r → OnOk r (PutsRow 7 (run_cells x) old.now new.now)
+  pub insert_run_puts : (r : Result Unit StoreFault) → Ran insert_run_text run_params old new r → OnOk r (PutsRow tables.run.tree (run_cells x) old.now new.now)
   insert_run_puts = insert_puts v 4 run refl insert_run_text insert_run_terms 3 run_params (insert_run_means v) old new has (run_cells x) run_news
 
   pub insert_run_faults : (xs : List RunRow) → Holds run run_cells old xs → list_any (λ (y : RunRow). nat_eq x.id y.id) xs ≡ false → IsUnlimited old → IsLive old
@@ -146,33 +148,33 @@ module _ (old new : State) (l : RunLineRow) (v : Version) (has : old.now.schema 
   params = Int (pos l.run) ∷ Int (pos l.container) ∷ Int (pos l.order_no) ∷ Int (pos l.ticket) ∷ []
 
   abbrev added : ℤ × RunLineRow
-  added = (next_rowid (old.now.trees 8), l)
+  added = (next_rowid (old.now.trees tables.run_line.tree), l)
 
   news : (edit_of old.now.trees run_line [] Chosen 0 (value_rows params 5 1 insert_line_terms)).news ≡ run_line_cells added ∷ []
   news = rw (cast_null, cast_int (pos l.run), cast_int (pos l.container), cast_int (pos l.order_no), cast_int (pos l.ticket)) refl
 
-  puts : (r : Result Unit StoreFault) → Ran insert_line_text params old new r → OnOk r (PutsRow 8 (run_line_cells added) old.now new.now)
+  puts : (r : Result Unit StoreFault) → Ran insert_line_text params old new r → OnOk r (PutsRow tables.run_line.tree (run_line_cells added) old.now new.now)
   puts = insert_puts v 5 run_line refl insert_line_text insert_line_terms 5 params (insert_line_means v) old new has (run_line_cells added) news
 
-  pub insert_line_only : (r : Result Unit StoreFault) → Ran insert_line_text params old new r → OnOk r (OnlyTouches (8 ∷ []) old.now new.now)
+  pub insert_line_only : (r : Result Unit StoreFault) → Ran insert_line_text params old new r → OnOk r (OnlyTouches (tables.run_line.tree ∷ []) old.now new.now)
   insert_line_only r ran = on_ok_then r _ _ (λ put. put.only) (puts r ran)
 
-  module _ (ls : List RunLineRow) (at : HasNumbered run_line_cells (old.now.trees 8) ls) where
-    pub insert_line_puts : (r : Result Unit StoreFault) → Ran insert_line_text params old new r → OnOk r (HasNumbered run_line_cells (new.now.trees 8) (ls ++ l ∷ []))
+  module _ (ls : List RunLineRow) (at : HasNumbered run_line_cells (old.now.trees tables.run_line.tree) ls) where
+    pub insert_line_puts : (r : Result Unit StoreFault) → Ran insert_line_text params old new r → OnOk r (HasNumbered run_line_cells (new.now.trees tables.run_line.tree) (ls ++ l ∷ []))
     insert_line_puts r ran =
-        on_ok_then r _ _ (λ put. one_at_end run_line_cells (λ _. refl) (old.now.trees 8) (new.now.trees 8) ls (next_rowid (old.now.trees 8)) l at put.rows put.fresh) (puts r ran)
+        on_ok_then r _ _ (λ put. one_at_end run_line_cells (λ _. refl) (old.now.trees tables.run_line.tree) (new.now.trees tables.run_line.tree) ls (next_rowid (old.now.trees tables.run_line.tree)) l at put.rows put.fresh) (puts r ran)
 
     module _ (none : list_any (λ (x : RunLineRow). nat_eq l.run x.run && nat_eq l.container x.container) ls ≡ false) where
       welcome : IsWelcome (schema v) old.now.trees run_line (run_line_cells added)
       welcome = record {
         keyed = refl;
-        free = next_free run_line_cells (λ x. x.0) (λ _. refl) at.numbered (old.now.trees 8) params at.are at.rise;
+        free = next_free run_line_cells (λ x. x.0) (λ _. refl) at.numbered (old.now.trees tables.run_line.tree) params at.are at.rise;
         typed = refl;
         present = refl;
         checked = refl;
         alone = no_other v old.now.trees (run_line_cells added) (ap (list_any (λ r. agree plain (1 ∷ 2 ∷ []) r (1 ∷ 2 ∷ []) (run_line_cells added))) at.are
             ∙ any_mapped run_line_cells _ (λ (x : ℤ × RunLineRow). nat_eq l.run x.1.run && nat_eq l.container x.1.container) (λ x. same_line x added) at.numbered
-            ∙ none_numbered run_line_cells (old.now.trees 8) ls at (λ (x : RunLineRow). nat_eq l.run x.run && nat_eq l.container x.container) none);
+            ∙ none_numbered run_line_cells (old.now.trees tables.run_line.tree) ls at (λ (x : RunLineRow). nat_eq l.run x.run && nat_eq l.container x.container) none);
         referred = refl;
         parents = refl;
       }
@@ -218,12 +220,12 @@ every : {X : Type 0} (xs : List X) → AllByRecursion (λ (_ : X). ⊤) xs
 every [] = tt
 every (x ∷ xs) = (tt, every xs)
 
-module _ (old new : State) (n : ℕ) (v : Version) (has : old.now.schema ≡ schema v) (ls : List RunLineRow) (at : HasNumbered run_line_cells (old.now.trees 8) ls) {X : Type 0} (items : X → List TakenLine) (r : Result X StoreFault) where
+module _ (old new : State) (n : ℕ) (v : Version) (has : old.now.schema ≡ schema v) (ls : List RunLineRow) (at : HasNumbered run_line_cells (old.now.trees tables.run_line.tree) ls) {X : Type 0} (items : X → List TakenLine) (r : Result X StoreFault) where
   pub lines_with_finds : IfOk r (λ found. Finds taken_cells lines_with_text (Int (pos n) ∷ []) old new (items found))
       → IfOk r (λ found. IsPermutation (map taken_line (filter (λ (l : RunLineRow). nat_eq n l.run) ls)) (items found))
   lines_with_finds found =
       IfOk-weaker r _ _ (λ all it. subst (IsPermutation (map taken_line (filter (λ (l : RunLineRow). nat_eq n l.run) ls))) (sym it.2)
-      (told_permuted run_line_cells taken_line (old.now.trees 8) ls at (λ (l : RunLineRow). nat_eq n l.run) it.0 it.1.0))
+      (told_permuted run_line_cells taken_line (old.now.trees tables.run_line.tree) ls at (λ (l : RunLineRow). nat_eq n l.run) it.0 it.1.0))
       (select_finds v run_line lines_with_text of_run line_columns in_order line_names (Int (pos n) ∷ []) (lines_with_means v) old new has run_line_cells at.numbered at.are
       (λ (x : ℤ × RunLineRow). nat_eq n x.1.run) (λ x. only (same_number x.1.run n)) (λ x. taken_cells (taken_line x.1)) (λ (x : ℤ × RunLineRow). Int (pos x.1.run) ∷ Int (pos x.1.container) ∷ []) (λ _. refl)
       by_run (λ _. refl) (λ a b. by_two_ints (pos a.1.run) (pos b.1.run) (pos a.1.container) (pos b.1.container)) taken_cells items (λ (x : ℤ × RunLineRow). taken_line x.1) (λ _. refl) r found)

@@ -33,17 +33,19 @@ use Rattle.office_tables.specs.Faults.{IsUnlimited, HasCause}
 use Rattle.office_tables.specs.Meaning.{Means}
 use Rattle.office_tables.specs.Order.{IsOrdered}
 use Rattle.office_tables.specs.Schema.{schema, seat}
+use Rattle.office_tables.specs.Schema as tables
 use Rattle.office_tables.specs.Step.{Holds, HasRows, OnlyTouches, PutsRow}
 use Rattle.office_tables.specs.declared.fault.StoreFault.{StoreFault}
 use Rattle.desk_store.specs.Rows.{seat_cells}
 use Rattle.office_tables.specs.Numbered.{AreByNumber}
 use Rattle.desk_store.specs.declared.seating.TakenSeat.{TakenSeat}
 use Rattle.office_tables.proofs.Casts.{cast_int, cast_null}
-use Rattle.office_tables.proofs.statements.DeleteOf.{removing, delete_leaves, delete_faults}
+use Rattle.office_tables.proofs.Queries.{asking, choosing}
+use Rattle.office_tables.proofs.statements.DeleteOf.{delete_leaves, delete_faults}
 use Rattle.office_tables.proofs.Fresh.{any_mapped, not_there}
 use Rattle.office_tables.proofs.InsertCauses.{IsWelcome}
 use Rattle.office_tables.proofs.statements.InsertOf.{insert_puts, insert_faults}
-use Rattle.office_tables.proofs.statements.SelectOf.{asking, select_finds, select_faults}
+use Rattle.office_tables.proofs.statements.SelectOf.{select_finds, select_faults}
 use Rattle.office_tables.proofs.Steps.{is_referred_to}
 use Rattle.office_tables.proofs.Tests.{only, same_number, by_one_int}
 use Rattle.office_tables.proofs.statements.OnlyOf.{delete_only}
@@ -68,12 +70,12 @@ same_ticket : (a b : SeatRow) → agree plain (2 ∷ []) (seat_cells a) (2 ∷ [
 unfolding first_key
 same_ticket a b = only (same_number a.ticket b.ticket)
 
-seat_alone : (v : Version) (db : Trees) (row : Row) → list_any (λ r. agree plain (2 ∷ []) r (2 ∷ []) row) (db 1) ≡ false
-    → list_all (λ i. not (guards i seat && list_any (λ r. agree i.order i.columns r i.columns row) (db 1))) (schema v).indexes ≡ true
+seat_alone : (v : Version) (db : Trees) (row : Row) → list_any (λ r. agree plain (2 ∷ []) r (2 ∷ []) row) (db tables.seat.tree) ≡ false
+    → list_all (λ i. not (guards i seat && list_any (λ r. agree i.order i.columns r i.columns row) (db tables.seat.tree))) (schema v).indexes ≡ true
 seat_alone Links db row h = rw h refl
 seat_alone Spans db row h = rw h refl
 
-seat_welcome : (s : SeatRow) (xs : List SeatRow) (v : Version) (db : Trees) → db 1 ≡ map seat_cells xs → list_any (λ (x : SeatRow). nat_eq s.seat x.seat) xs ≡ false → list_any (λ (x : SeatRow). nat_eq s.ticket x.ticket) xs ≡ false
+seat_welcome : (s : SeatRow) (xs : List SeatRow) (v : Version) (db : Trees) → db tables.seat.tree ≡ map seat_cells xs → list_any (λ (x : SeatRow). nat_eq s.seat x.seat) xs ≡ false → list_any (λ (x : SeatRow). nat_eq s.ticket x.ticket) xs ≡ false
     → IsWelcome (schema v) db seat (seat_cells s)
 seat_welcome s xs v db stored none other = record {
   keyed = refl;
@@ -93,7 +95,7 @@ module _ (old new : State) (s : SeatRow) (v : Version) (has : old.now.schema ≡
   news : (edit_of old.now.trees seat [] Chosen 0 (value_rows params 3 1 insert_seat_terms)).news ≡ seat_cells s ∷ []
   news = rw (cast_int (pos s.seat), cast_null, cast_int (pos s.ticket)) refl
 
-  pub insert_seat_puts : (r : Result Unit StoreFault) → Ran insert_seat_text params old new r → OnOk r (PutsRow 1 (seat_cells s) old.now new.now)
+  pub insert_seat_puts : (r : Result Unit StoreFault) → Ran insert_seat_text params old new r → OnOk r (PutsRow tables.seat.tree (seat_cells s) old.now new.now)
   insert_seat_puts = insert_puts v 1 seat refl insert_seat_text insert_seat_terms 3 params (insert_seat_means v) old new has (seat_cells s) news
 
   pub insert_seat_faults : (xs : List SeatRow) → Holds seat seat_cells old xs → list_any (λ (x : SeatRow). nat_eq s.seat x.seat) xs ≡ false → list_any (λ (x : SeatRow). nat_eq s.ticket x.ticket) xs ≡ false → IsUnlimited old → IsLive old
@@ -110,14 +112,14 @@ abbrev with_its_number : List Term
 with_its_number = op2 (Compare Eq Binary) (col 1 0) (col 0 0) ∷ []
 
 abbrev pub clear_seat_command : Command
-clear_seat_command = Delete 1 (removing seat with_its_number (col 1 0 ∷ []))
+clear_seat_command = Delete 1 (choosing seat with_its_number (col 1 0 ∷ []))
 
 pub clear_seat_means : (v : Version) → Means v clear_seat_text 1 clear_seat_command
 unfolding understood everything
 clear_seat_means Links = record { is = refl; plain = (refl, refl); whole = (le_refl _, refl, refl); unlisted = refl }
 clear_seat_means Spans = record { is = refl; plain = (refl, refl); whole = (le_refl _, refl, refl); unlisted = refl }
 
-seat_unreferred : (v : Version) → is_referred_to (schema v) 1 ≡ false
+seat_unreferred : (v : Version) → is_referred_to (schema v) tables.seat.tree ≡ false
 unfolding joined same_name
 seat_unreferred Links = refl
 seat_unreferred Spans = refl
@@ -128,12 +130,12 @@ seat_fits Links = refl
 seat_fits Spans = refl
 
 module _ (old new : State) (n : ℕ) (v : Version) (has : old.now.schema ≡ schema v) (r : Result Unit StoreFault) (ran : Ran clear_seat_text (Int (pos n) ∷ []) old new r) where
-  pub clear_seat_leaves : (xs : List SeatRow) → Holds seat seat_cells old xs → AreByNumber (λ (s : SeatRow). s.seat) xs → OnOk r (HasRows 1 (map seat_cells (filter (λ (s : SeatRow). not (nat_eq n s.seat)) xs)) old.now new.now)
+  pub clear_seat_leaves : (xs : List SeatRow) → Holds seat seat_cells old xs → AreByNumber (λ (s : SeatRow). s.seat) xs → OnOk r (HasRows tables.seat.tree (map seat_cells (filter (λ (s : SeatRow). not (nat_eq n s.seat)) xs)) old.now new.now)
   clear_seat_leaves xs stored up =
       delete_leaves v 1 seat refl (seat_unreferred v) clear_seat_text with_its_number (col 1 0 ∷ []) (Int (pos n) ∷ []) (clear_seat_means v) old new has seat_cells (λ s. pos s.seat) (λ _. refl) xs stored up
       (λ (s : SeatRow). nat_eq n s.seat) (λ s. only (same_number s.seat n)) (λ s. Int (pos s.seat) ∷ []) (λ _. refl) (λ _. refl) r ran
 
-  pub clear_seat_only : OnOk r (OnlyTouches (1 ∷ []) old.now new.now)
+  pub clear_seat_only : OnOk r (OnlyTouches (tables.seat.tree ∷ []) old.now new.now)
   clear_seat_only = delete_only v 1 seat refl clear_seat_text _ (Int (pos n) ∷ []) old new has (seat_unreferred v) (clear_seat_means v) r ran
 
   pub clear_seat_faults : IsUnlimited old → IsLive old → IfErr r (HasCause old new)

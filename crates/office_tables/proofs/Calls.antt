@@ -192,9 +192,6 @@ write_went sql params old new command writes known done s = record {
   schema = λ clean. let it = done clean in it.2 ∙ sym it.1;
 }
 
-pub in_version : (v : Version) (sql : List ℕ) (command : Command) (old : State) → InTransaction v old → command_of (understood (schema v) sql) ≡ command → IsPlain (understood (schema v) sql) → HasCleanDisk old → Knows sql command old
-in_version v sql command old inside is plain clean = known_in (schema v) sql command old (inside clean).0 (inside clean).1 is plain
-
 pub on_ok_from : {X E : Type 0} (r : Result X E) (P : Type 0) → P → OnOk r P
 on_ok_from (Ok x) P p = p
 on_ok_from (Err e) P p = tt

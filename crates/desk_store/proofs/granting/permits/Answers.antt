@@ -2,6 +2,7 @@ use Rattle.std.proofs.Common.{sym, subst}
 use Rattle.std.proofs.lemmas.Result.{IfOk-weaker}
 use Rattle.sqlite.specs.Held.{state}
 use Rattle.office_tables.specs.Order.{IsOrdered}
+use Rattle.office_tables.specs.Schema as tables
 use Rattle.office_tables.proofs.Calls.{early}
 use Rattle.office_tables.proofs.RowReads.{asks}
 use Rattle.desk_store.specs.Permits.{permits_of, by_unit}
@@ -20,7 +21,7 @@ returns g c =
       tells = record {
         answers = λ clean beside d shown.
             let at = c.requires.inside (early old new _ c.find.ensures.reads.crash clean) in
-            IfOk-weaker c.find.result _ _ (λ all it. subst (IsOrdered by_unit (permits_of c.args.ticket d)) (sym it.2) (told_ordered c.args.ticket (old.now.trees 10) d.permits shown.permits it.0 it.1))
+            IfOk-weaker c.find.result _ _ (λ all it. subst (IsOrdered by_unit (permits_of c.args.ticket d)) (sym it.2) (told_ordered c.args.ticket (old.now.trees tables.permit.tree) d.permits shown.permits it.0 it.1))
             (permits_finds old new c.args.ticket at.0 at.1 d.permits shown.permits (λ found. found.items) c.find.result (rw c.number.ensures at (c.find.ensures.found clean)));
         looks = c.find.ensures.reads.looks;
         cut = c.find.ensures.reads.cut;

@@ -7,6 +7,7 @@ use Rattle.office_tables.proofs.Causes.{cause_then, still_unlimited}
 use Rattle.office_tables.proofs.Touching.{touched_again}
 use Rattle.desk_store.specs.Rows.{run_line_cells}
 use Rattle.office_tables.specs.Numbered.{HasNumbered}
+use Rattle.office_tables.specs.Schema as tables
 use Rattle.desk_store.proofs.ReaderCalls.{handed_on}
 use Rattle.desk_store.proofs.RunCalls.{free_line, line_more}
 use Rattle.desk_store.proofs.runs.insert_lines.Goals as goal
@@ -24,11 +25,11 @@ loop-line-preserved g c =
       (
         goes_then a b d invariant.1.0 last,
         (
-          λ clean. touched_again (8 ∷ []) a.now b.now d.now (invariant.1.1.0 (early b d _ last.on.crash clean)) (c.in_ok-insert_line.ensures.only clean),
+          λ clean. touched_again (tables.run_line.tree ∷ []) a.now b.now d.now (invariant.1.1.0 (early b d _ last.on.crash clean)) (c.in_ok-insert_line.ensures.only clean),
           λ clean ls at.
               let before = invariant.1.1.1 (early b d _ last.on.crash clean) ls at in
               let one = c.in_ok-insert_line.ensures.rows clean _ before in
-              subst (HasNumbered run_line_cells (d.now.trees 8)) (line_more c.args.run ls c.args.taken.now i _ low) one,
+              subst (HasNumbered run_line_cells (d.now.trees tables.run_line.tree)) (line_more c.args.run ls c.args.taken.now i _ low) one,
         ),
       ),
     )
