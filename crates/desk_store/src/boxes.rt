@@ -1,11 +1,12 @@
 //! What is written on containers. Their table is the catalogue's.
 
-ghost use Rattle.std.specs.Prelude.{◌≡◌, ◌<◌, ◌^◌, ℕ, nat_eq, List, map, filter, IfOk, IfSome, ⊤, option_map};
+ghost use Rattle.std.specs.Prelude.{◌≡◌, ℕ, nat_eq, List, map, filter, IfOk, IfSome, ⊤, option_map};
 ghost use Rattle.std.specs.List.{AllByRecursion};
 ghost use Rattle.sqlite.specs.Held.{state};
 ghost use Rattle.sqlite.specs.State.{HasCleanDisk};
 ghost use Rattle.isad_core.specs.Legible.{IsLegibleBox};
 ghost use Rattle.isad_core.specs.declared.values.BoxKey.{BoxKey};
+ghost use Rattle.isad_core.specs.Limits.{IsNumber};
 ghost use Rattle.office_tables.specs.Asking.{Reads};
 ghost use Rattle.office_tables.specs.Calls.{Tells};
 ghost use Rattle.office_tables.specs.Faults.{Excused};
@@ -31,7 +32,7 @@ fn boxes_with<S: Alter>(
     container: u64,
 ) -> Result<Vec<BoxKey>, StoreFault>
     requires inside { InOffice (state S.Store conn.old) }
-    requires small { container < 2 ^ 63 }
+    requires small { IsNumber container }
     ensures reads { Reads (state S.Store conn.old) (state S.Store conn.new) result }
     ensures rows { HasCleanDisk (state S.Store conn.new) → (bs : List (ℕ × BoxKey))
         → Holds tables.container box_cells (state S.Store conn.old) bs → AreCounted (λ b. b.0) bs
@@ -58,7 +59,7 @@ pub(crate) fn box_of<S: Alter>(
     requires inside { InOffice (state S.Store conn.old) }
     ensures tells { Tells S.Store ShowsStacks IsLegibleStacks conn.old conn.new result (λ _. ⊤)
         (λ _ stacks found. found ≡ option_map (λ (b : ℕ × BoxKey). b.1) (box_with container stacks)) }
-    ensures small { IfOk result (λ found. IfSome found (λ _. container < 2 ^ 63)) }
+    ensures small { IfOk result (λ found. IfSome found (λ _. IsNumber container)) }
 {
     if container > MOST_CONTAINERS {
         return Ok(None);

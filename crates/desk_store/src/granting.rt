@@ -1,10 +1,11 @@
 //! Permits for closed units.
 
-ghost use Rattle.std.specs.Prelude.{◌≡◌, ◌<◌, ◌^◌, ℕ, false, List, [], ◌∷◌, OnOk, ⊤};
+ghost use Rattle.std.specs.Prelude.{◌≡◌, ℕ, false, List, [], ◌∷◌, OnOk, ⊤};
 ghost use Rattle.std.specs.List.{list_any};
 ghost use Rattle.sqlite.specs.Edit.{next_rowid};
 ghost use Rattle.sqlite.specs.Held.{state};
 ghost use Rattle.sqlite.specs.State.{HasCleanDisk};
+ghost use Rattle.isad_core.specs.Limits.{IsNumber};
 ghost use Rattle.desk_core.specs.DeskRows.{PermitRow};
 ghost use Rattle.office_tables.specs.Calls.{Makes, Tells};
 ghost use Rattle.office_tables.specs.Changing.{Leaves};
@@ -60,7 +61,7 @@ pub fn permits<S: Alter>(
     ticket: u64,
 ) -> Result<Vec<Permit>, StoreFault>
     requires inside { InOffice (state S.Store conn.old) }
-    requires small { ticket < 2 ^ 63 }
+    requires small { IsNumber ticket }
     ensures tells { Tells S.Store ShowsRoom IsLegible conn.old conn.new result (λ _. ⊤)
         (λ _ d all. IsOrdered by_unit (permits_of ticket d) all.items) }
 {
@@ -80,8 +81,8 @@ fn insert_permit<S: Alter>(
     until: Day,
 ) -> Result<(), StoreFault>
     requires inside { InOffice (state S.Store conn.old) }
-    requires small { ticket < 2 ^ 63 }
-    requires known { unit < 2 ^ 63 }
+    requires small { IsNumber ticket }
+    requires known { IsNumber unit }
     ensures leaves { Leaves (state S.Store conn.old) (state S.Store conn.new) result }
     ensures puts { HasCleanDisk (state S.Store conn.new)
         → OnOk result (PutsRow tables.permit.tree
@@ -109,8 +110,8 @@ fn clear_permit<S: Alter>(
     unit: u64,
 ) -> Result<(), StoreFault>
     requires inside { InOffice (state S.Store conn.old) }
-    requires small { ticket < 2 ^ 63 }
-    requires known { unit < 2 ^ 63 }
+    requires small { IsNumber ticket }
+    requires known { IsNumber unit }
     ensures leaves { Leaves (state S.Store conn.old) (state S.Store conn.new) result }
     ensures rows { HasCleanDisk (state S.Store conn.new) → (ps : List PermitRow)
         → HasNumbered permit_cells ((state S.Store conn.old).now.trees tables.permit.tree) ps
@@ -136,8 +137,8 @@ pub fn grant<S: Alter>(
     until: Day,
 ) -> Result<(), StoreFault>
     requires inside { InOffice (state S.Store conn.old) }
-    requires small { ticket < 2 ^ 63 }
-    requires known { unit < 2 ^ 63 }
+    requires small { IsNumber ticket }
+    requires known { IsNumber unit }
     ensures makes { Makes S.Store ShowsRoom IsLegible conn.old conn.new result
         (λ _. HasUnitRow unit (state S.Store conn.old).now.trees) (with_permit ticket unit until)
         (tables.permit.tree ∷ []) }
@@ -149,8 +150,8 @@ pub fn grant<S: Alter>(
 /// Takes a ticket's permit for a unit back.
 pub fn revoke<S: Alter>(conn: &mut Connection<S>, ticket: u64, unit: u64) -> Result<(), StoreFault>
     requires inside { InOffice (state S.Store conn.old) }
-    requires small { ticket < 2 ^ 63 }
-    requires known { unit < 2 ^ 63 }
+    requires small { IsNumber ticket }
+    requires known { IsNumber unit }
     ensures makes { Makes S.Store ShowsRoom IsLegible conn.old conn.new result (λ _. ⊤) (revoked ticket unit)
         (tables.permit.tree ∷ []) }
 {
