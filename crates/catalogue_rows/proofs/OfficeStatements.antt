@@ -33,7 +33,7 @@ use Rattle.office_tables.specs.Meaning.{Means}
 use Rattle.office_tables.specs.Schema.{schema, office, unit, container}
 use Rattle.office_tables.specs.Step.{HasRows, OnlyTouches}
 use Rattle.office_tables.specs.declared.fault.StoreFault.{StoreFault}
-use Rattle.catalogue_rows.specs.Rows.{office_row, settings_cells}
+use Rattle.catalogue_rows.specs.Rows.{office_row, told_cells}
 use Rattle.catalogue_rows.specs.Settings.{AreLegibleSettings}
 use Rattle.catalogue_rows.specs.declared.office.OfficeRow.{OfficeRow}
 use Rattle.office_tables.proofs.Casts.{cast_int, cast_null}
@@ -135,16 +135,16 @@ module _ (old new : State) (v : Version) (has : old.now.schema ≡ schema v) (ve
   abbrev the_row : Telling
   the_row = (version, o)
 
-  pub office_is_finds : IfOk r (λ found. Finds settings_cells office_is_text [] old new (items found)) → IfOk r (λ found. items found ≡ o ∷ [])
+  pub office_is_finds : IfOk r (λ found. Finds told_cells office_is_text [] old new (items found)) → IfOk r (λ found. items found ≡ o ∷ [])
   office_is_finds found =
       IfOk-weaker r _ _ (λ all it. it.2 ∙ ap (map (λ (x : Telling). x.1)) (one_permutation the_row it.0 it.1.0))
       (select_finds v office office_is_text [] office_is_columns by_one office_is_names [] (office_is_means v) old new has telling_row (the_row ∷ []) stored
-      (λ _. true) (λ _. refl) (λ x. settings_cells x.1) (λ _. Int (pos 1) ∷ []) (λ _. refl) (λ _ _. Equal) (λ _. refl) (λ a b. by_one_int (pos 1) (pos 1)) settings_cells items (λ x. x.1) (λ _. refl) r found)
+      (λ _. true) (λ _. refl) (λ x. told_cells x.1) (λ _. Int (pos 1) ∷ []) (λ _. refl) (λ _ _. Equal) (λ _. refl) (λ a b. by_one_int (pos 1) (pos 1)) told_cells items (λ x. x.1) (λ _. refl) r found)
 
-  pub office_is_faults : AreLegibleSettings o → IsUnlimited old → IfErr r (Misses settings_cells AreLegibleSettings office_is_text [] old new) → IfErr r (HasCause old new)
+  pub office_is_faults : AreLegibleSettings o → IsUnlimited old → IfErr r (Misses told_cells AreLegibleSettings office_is_text [] old new) → IfErr r (HasCause old new)
   office_is_faults legible free =
       select_faults v office office_is_text [] office_is_columns by_one office_is_names [] (office_is_means v) old new has telling_row (the_row ∷ []) stored
-      (λ _. true) (λ _. refl) (λ x. settings_cells x.1) (λ _. Int (pos 1) ∷ []) (λ _. refl) (λ _ _. Equal) (λ _. refl) (λ a b. by_one_int (pos 1) (pos 1)) settings_cells items (λ x. x.1) (λ _. refl)
+      (λ _. true) (λ _. refl) (λ x. told_cells x.1) (λ _. Int (pos 1) ∷ []) (λ _. refl) (λ _ _. Equal) (λ _. refl) (λ a b. by_one_int (pos 1) (pos 1)) told_cells items (λ x. x.1) (λ _. refl)
       AreLegibleSettings refl free (legible, tt) r
 
 -- ---- how many there are

@@ -24,7 +24,7 @@ use Rattle.office_tables.specs.Faults.{IsUnlimited, HasCause}
 use Rattle.office_tables.specs.Meaning.{Means}
 use Rattle.office_tables.specs.Order.{IsOrdered}
 use Rattle.office_tables.specs.Schema.{schema, container}
-use Rattle.office_tables.specs.Shared.{box_cells}
+use Rattle.office_tables.specs.Shared.{container_row}
 use Rattle.office_tables.specs.Step.{Holds}
 use Rattle.office_tables.specs.declared.fault.StoreFault.{StoreFault}
 use Rattle.office_tables.proofs.Reading.{first_kept}
@@ -66,17 +66,17 @@ unfolding understood everything
 box_means Links = record { is = refl; plain = (refl, refl); whole = (le_refl _, refl, refl); unlisted = refl }
 box_means Spans = record { is = refl; plain = (refl, refl); whole = (le_refl _, refl, refl); unlisted = refl }
 
-module _ (old new : State) (n : ℕ) (v : Version) (has : old.now.schema ≡ schema v) (bs : List Numbered) (stored : Holds container box_cells old bs) {X : Type 0} (items : X → List BoxKey) (r : Result X StoreFault) where
+module _ (old new : State) (n : ℕ) (v : Version) (has : old.now.schema ≡ schema v) (bs : List Numbered) (stored : Holds container container_row old bs) {X : Type 0} (items : X → List BoxKey) (r : Result X StoreFault) where
   pub box_finds : IfOk r (λ found. Finds written_cells box_text (Int (pos n) ∷ []) old new (items found))
       → IfOk r (λ found. (ys : List Numbered) × IsOrdered by_number (filter (λ (b : Numbered). nat_eq n b.0) bs) ys × (items found ≡ map (λ (b : Numbered). b.1) ys))
   box_finds =
-      select_finds v container box_text with_its_number box_columns in_order box_names (Int (pos n) ∷ []) (box_means v) old new has box_cells bs stored
+      select_finds v container box_text with_its_number box_columns in_order box_names (Int (pos n) ∷ []) (box_means v) old new has container_row bs stored
       (λ (b : Numbered). nat_eq n b.0) (λ b. only (same_number b.0 n)) (λ b. written_cells b.1) (λ (b : Numbered). Int (pos b.0) ∷ []) (λ _. refl) by_number (λ _. refl) (λ a b. by_one_int (pos a.0) (pos b.0))
       written_cells items (λ (b : Numbered). b.1) (λ _. refl) r
 
   pub box_faults : AllByRecursion (λ (b : Numbered). IsLegibleBox b.1) bs → IsUnlimited old → IfErr r (Misses written_cells IsLegibleBox box_text (Int (pos n) ∷ []) old new) → IfErr r (HasCause old new)
   box_faults legible free =
-      select_faults v container box_text with_its_number box_columns in_order box_names (Int (pos n) ∷ []) (box_means v) old new has box_cells bs stored
+      select_faults v container box_text with_its_number box_columns in_order box_names (Int (pos n) ∷ []) (box_means v) old new has container_row bs stored
       (λ (b : Numbered). nat_eq n b.0) (λ b. only (same_number b.0 n)) (λ b. written_cells b.1) (λ (b : Numbered). Int (pos b.0) ∷ []) (λ _. refl) by_number (λ _. refl) (λ a b. by_one_int (pos a.0) (pos b.0))
       written_cells items (λ (b : Numbered). b.1) (λ _. refl) IsLegibleBox refl free legible r
 

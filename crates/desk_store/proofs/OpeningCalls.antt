@@ -11,7 +11,7 @@ use Rattle.office_tables.specs.Changing.{Leaves}
 use Rattle.office_tables.specs.Faults.{Excused}
 use Rattle.office_tables.specs.Schema.{seat, office}
 use Rattle.office_tables.specs.Schema as tables
-use Rattle.office_tables.specs.Shared.{OfficeCells, office_cells}
+use Rattle.office_tables.specs.Shared.{OfficeRow, office_cells}
 use Rattle.office_tables.specs.Step.{Goes, Holds, HasRows, OnlyTouches}
 use Rattle.office_tables.specs.declared.fault.StoreFault.{StoreFault}
 use Rattle.office_tables.proofs.Calls.{early, goes_then, cut_then, on_ok_then, on_err_then}
@@ -67,8 +67,8 @@ module _ {S : Type 0} (g : store.Ghosts S) (before mid : Held S) (day : ℤ) whe
     abbrev c : State
     c = state g after
 
-    pub opens : Leaves b c r → (HasCleanDisk c → (o : OfficeCells) → Holds office office_cells b (o ∷ []) → OnOk r (HasRows tables.office.tree (office_cells (record o { day = day }) ∷ []) b.now c.now))
-        → (HasCleanDisk c → OnOk r (OnlyTouches (tables.office.tree ∷ []) b.now c.now)) → ((o : OfficeCells) → Holds office office_cells b (o ∷ []) → Excused b c r)
+    pub opens : Leaves b c r → (HasCleanDisk c → (o : OfficeRow) → Holds office office_cells b (o ∷ []) → OnOk r (HasRows tables.office.tree (office_cells (record o { day = day }) ∷ []) b.now c.now))
+        → (HasCleanDisk c → OnOk r (OnlyTouches (tables.office.tree ∷ []) b.now c.now)) → ((o : OfficeRow) → Holds office office_cells b (o ∷ []) → Excused b c r)
         → Makes g ShowsHouse IsLegibleHouse before after r (λ _. ⊤) (opened day) (tables.seat.tree ∷ tables.office.tree ∷ [])
     opens leaves dated dates faults =
         let back = early b c _ leaves.crash in

@@ -23,7 +23,7 @@ use Rattle.office_tables.specs.Faults.{IsUnlimited, HasCause}
 use Rattle.office_tables.specs.Meaning.{Means}
 use Rattle.office_tables.specs.Schema.{schema, seat, office}
 use Rattle.office_tables.specs.Schema as tables
-use Rattle.office_tables.specs.Shared.{OfficeCells, office_cells}
+use Rattle.office_tables.specs.Shared.{OfficeRow, office_cells}
 use Rattle.office_tables.specs.Step.{Holds, HasRows, OnlyTouches}
 use Rattle.office_tables.specs.declared.fault.StoreFault.{StoreFault}
 use Rattle.desk_store.specs.Rows.{seat_cells}
@@ -105,14 +105,14 @@ module _ (old new : State) (day : ℤ) (v : Version) (has : old.now.schema ≡ s
   pub set_day_only : OnOk r (OnlyTouches (tables.office.tree ∷ []) old.now new.now)
   set_day_only = update_only v 7 office refl set_day_text _ (Int day ∷ []) old new has (set_day_means v) r ran
 
-  module _ (o : OfficeCells) (stored : Holds office office_cells old (o ∷ [])) where
-    abbrev changed : OfficeCells → OfficeCells
+  module _ (o : OfficeRow) (stored : Holds office office_cells old (o ∷ [])) where
+    abbrev changed : OfficeRow → OfficeRow
     changed x = record x { day = day }
 
-    abbrev source : OfficeCells → Row
+    abbrev source : OfficeRow → Row
     source x = Int (pos 1) ∷ office_cells (changed x)
 
-    casts : (x : OfficeCells) → cast_row office (drop 1 (source x)) ≡ office_cells (changed x)
+    casts : (x : OfficeRow) → cast_row office (drop 1 (source x)) ≡ office_cells (changed x)
     casts x =
         rw (cast_int (pos 1), cast_null, cast_int (pos x.version), cast_int (pos x.seats), cast_int (pos x.daily), cast_int (pos x.hands), cast_int (pos x.run_size), cast_int day, cast_int (pos x.next_unit)) refl
 

@@ -11,7 +11,7 @@ ghost use Rattle.office_tables.specs.Asking.{Reads};
 ghost use Rattle.office_tables.specs.Calls.{Tells};
 ghost use Rattle.office_tables.specs.Faults.{Excused};
 ghost use Rattle.office_tables.specs.Schema as tables;
-ghost use Rattle.office_tables.specs.Shared.{box_cells};
+ghost use Rattle.office_tables.specs.Shared.{container_row};
 ghost use Rattle.office_tables.specs.Step.{InOffice, Holds};
 ghost use Rattle.office_tables.specs.Numbered.{AreCounted};
 ghost use Rattle.desk_store.specs.Stacks.{ShowsStacks, IsLegibleStacks, box_with};
@@ -35,10 +35,10 @@ fn boxes_with<S: Alter>(
     requires small { IsNumber container }
     ensures reads { Reads (state S.Store conn.old) (state S.Store conn.new) result }
     ensures rows { HasCleanDisk (state S.Store conn.new) → (bs : List (ℕ × BoxKey))
-        → Holds tables.container box_cells (state S.Store conn.old) bs → AreCounted (λ b. b.0) bs
+        → Holds tables.container container_row (state S.Store conn.old) bs → AreCounted (λ b. b.0) bs
         → IfOk result (λ found. found.items ≡ map (λ (b : ℕ × BoxKey). b.1)
         (filter (λ (b : ℕ × BoxKey). nat_eq container b.0) bs)) }
-    ensures faults { (bs : List (ℕ × BoxKey)) → Holds tables.container box_cells (state S.Store conn.old) bs
+    ensures faults { (bs : List (ℕ × BoxKey)) → Holds tables.container container_row (state S.Store conn.old) bs
         → AllByRecursion (λ b. IsLegibleBox b.1) bs
         → Excused (state S.Store conn.old) (state S.Store conn.new) result }
 {
