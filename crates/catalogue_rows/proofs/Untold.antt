@@ -3,7 +3,7 @@ use Rattle.std.proofs.Common.{◌≡◌, ℕ, ℤ, pos, suc, ◌+◌, ◌<◌, �
 use Rattle.std.specs.Prelude.{◌&&◌, option_map, unwrap_or}
 use Rattle.std.specs.List.{AllByRecursion, list_any, list_all}
 use Rattle.std.specs.Ordering.{int_cmp, match_ordering}
-use Rattle.std.proofs.lemmas.Bool.{cases_Bool, and_parts, and_right, or_parts, or_from, ne_eqb, false≢true}
+use Rattle.std.proofs.lemmas.Bool.{cases_Bool, and_parts, and_right, or_parts, or_from, ne_eqb, false≢true, not-true}
 use Rattle.std.proofs.Math.Seq.{split_at}
 use Rattle.std.proofs.lemmas.List.Sums.{length-filter, count_by-le-length}
 use Rattle.std.proofs.lemmas.List.Folds.{list_any-append}
@@ -149,18 +149,14 @@ apart_before p (x ∷ seen) b rest h =
           let whole : x ∷ filter p (filter other (distinct all)) ≡ x ∷ all = rw passes at h in
           let later : filter (λ y. other y && p y) (distinct all) ≡ all = sym (filters other p (distinct all)) ∙ cc in
           let kept = has_filtered (λ y. other y && p y) (distinct all) b (subst (λ l. Has l b) (sym later) (has_right seen (b ∷ rest) b (inl refl))) in
-          let differs : is_same x b ≡ false = negated (is_same x b) (and_parts (other b) (p b) kept.1).0 in
+          let differs : is_same x b ≡ false = not-true (is_same x b) (and_parts (other b) (p b) kept.1).0 in
           or_from (is_same b x) (list_any (is_same b) seen) (same_sym b x ∙ differs) (apart_before (λ y. other y && p y) seen b rest later)
       | inr stops ↦
           let whole : filter p (filter other (distinct all)) ≡ x ∷ all = rw stops at h in
           let kept = has_filtered p (filter other (distinct all)) x (subst (λ l. Has l x) (sym whole) (inl refl)) in
-          let differs : is_same x x ≡ false = negated (is_same x x) (has_filtered other (distinct all) x kept.0).1 in
+          let differs : is_same x x ≡ false = not-true (is_same x x) (has_filtered other (distinct all) x kept.0).1 in
           absurd (false≢true (sym differs ∙ box_itself x))
     ]
-  where
-    negated : (b : Bool) → not b ≡ true → b ≡ false
-    negated true h = absurd (false≢true h)
-    negated false h = refl
 
 pub not_seen : (told : List BoxKey) (i : ℕ) (b : BoxKey) → i < length told → b ≡ get_or told i b → distinct told ≡ told → list_any (is_same b) (take i told) ≡ false
 not_seen told i b low is once =
@@ -244,11 +240,7 @@ none_yet unit_of unit f xs missing all =
 
 -- what was taken out is there no more
 pub none_left : {A : Type 0} (p : A → Bool) (xs : List A) → list_any p (filter (λ x. not (p x)) xs) ≡ false
-none_left p xs = none_passes p (filter (λ x. not (p x)) xs) (all_from (λ x. p x ≡ false) (filter (λ x. not (p x)) xs) (λ x h. not_true (p x) (has_filtered (λ x. not (p x)) xs x h).1))
-  where
-    not_true : (b : Bool) → not b ≡ true → b ≡ false
-    not_true true h = absurd (false≢true h)
-    not_true false h = refl
+none_left p xs = none_passes p (filter (λ x. not (p x)) xs) (all_from (λ x. p x ≡ false) (filter (λ x. not (p x)) xs) (λ x h. not-true (p x) (has_filtered (λ x. not (p x)) xs x h).1))
 
 put_has : {A : Type 0} (key : A → ℤ) (new : A) (xs : List A) → Has (put_by key new xs) new
 put_has key new [] = inl refl

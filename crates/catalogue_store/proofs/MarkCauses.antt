@@ -10,6 +10,7 @@ use Rattle.sqlite_rules.proofs.ListLemmas.{all_has, has_filtered, has_kept}
 use Rattle.sqlite_trees.proofs.ListLemmas.{all-get_or, all-permutation, all_from_map}
 use Rattle.tree_core.specs.Forest.{Forest, nodes}
 use Rattle.tree_core.specs.declared.rows.Span.{Span}
+use Rattle.tree_core.proofs.EachLemmas.{nodes-each}
 use Rattle.catalogue_core.specs.Bounds.{IsKept, IsLegibleUnit}
 use Rattle.catalogue_store.specs.Attaching.{AreAttached}
 use Rattle.catalogue_core.specs.Marking.{names}
@@ -19,7 +20,6 @@ use Rattle.catalogue_core.specs.Units.{Unit}
 use Rattle.catalogue_rows.specs.declared.answer.Status.{Status}
 use Rattle.catalogue_store.proofs.MarkReads.{blank_unit}
 use Rattle.office_tables.proofs.Rows.{had}
-use Rattle.catalogue_rows.proofs.Statuses.{nodes_each}
 
 -- ---- the units of a catalogue
 
@@ -29,7 +29,7 @@ legible_units db c at kept = all-permutation IsLegibleUnit (nodes c.forest) at.u
 low_ids : (c : Catalogue) → IsKept c → AllByRecursion (λ (u : Unit). u.id < 2 ^ 63) (nodes c.forest)
 low_ids c kept =
     all_from_map (λ (id : ℕ). id < 2 ^ 63) (λ (u : Unit). u.id) (nodes c.forest)
-    (subst (AllByRecursion (λ (id : ℕ). id < 2 ^ 63)) (nodes_each (λ (u : Unit). u.id) c.forest) kept.places.low)
+    (subst (AllByRecursion (λ (id : ℕ). id < 2 ^ 63)) (nodes-each (λ (u : Unit). u.id) c.forest) kept.places.low)
 
 pub low_id : (c : Catalogue) → IsKept c → (u : Unit) → Has (nodes c.forest) u → u.id < 2 ^ 63
 low_id c kept u there = all_has (λ (u : Unit). u.id < 2 ^ 63) (nodes c.forest) u (low_ids c kept) there

@@ -1,5 +1,5 @@
 -- What an UPDATE of one table does, and why it fails, for any of our texts and any records.
-use Rattle.std.proofs.Common.{◌≡◌, ℕ, ℤ, List, [], ◌∷◌, length, map, filter, drop, if◌then◌else◌, Bool, true, Some, Ok, Result, OnOk, IfErr, ◌∙◌, slice_get, refl}
+use Rattle.std.proofs.Common.{◌≡◌, ℕ, ℤ, List, [], ◌∷◌, length, map, filter, drop, if◌then◌else◌, Bool, true, Some, Ok, Result, OnOk, IfErr, ◌∙◌, slice_get}
 use Rattle.std.proofs.lemmas.Bool.{both_ways}
 use Rattle.std.specs.List.{list_all}
 use Rattle.std.specs.List.Sorted.{IsPermutation}
@@ -27,26 +27,18 @@ use Rattle.office_tables.specs.Changing.{Ran}
 use Rattle.office_tables.specs.Faults.{IsUnlimited, HasCause}
 use Rattle.office_tables.specs.Meaning.{Means}
 use Rattle.office_tables.specs.Order.{Rises}
-use Rattle.office_tables.specs.Schema.{Version, Links, Spans, schema}
+use Rattle.office_tables.specs.Schema.{Version, schema}
 use Rattle.office_tables.specs.Step.{HasRows}
 use Rattle.office_tables.specs.declared.fault.StoreFault.{StoreFault}
 use Rattle.office_tables.proofs.Causes.{none_refuse, sums_nothing}
-use Rattle.office_tables.proofs.ParentUpdates.{no_works_on_update, as_many, updates_freely as all_free}
 use Rattle.office_tables.proofs.Queries.{plain_query, choosing, chosen}
 use Rattle.office_tables.proofs.RowWrites.{ran_well, ran_badly}
 use Rattle.office_tables.proofs.Rows.{by_key, had}
 use Rattle.office_tables.proofs.Steps.{updated_with, Updated, plain}
 use Rattle.office_tables.proofs.Touching.{touched}
-use Rattle.office_tables.proofs.UpdateCauses.{KeepsTable, IsIdle, update_cause, accepts}
+use Rattle.office_tables.proofs.UpdateCauses.{KeepsTable, update_cause, accepts}
 use Rattle.office_tables.proofs.Updates.{changes_rows}
-
-updates_freely : (v : Version) → all_free (schema v) ≡ true
-updates_freely Links = refl
-updates_freely Spans = refl
-
--- no action of a foreign key is set off
-idle : (v : Version) (s : State) (table : Table) → IsIdle (schema v) (mode_of s) table s.now.trees
-idle v s table rows = no_works_on_update (schema v) 0 table.tree _ _ (updates_freely v) (as_many s.now.trees table rows)
+use Rattle.office_tables.proofs.statements.OnlyOf.{idle}
 
 -- UPDATE of the rows that the terms find, by the values of the project's terms: the number, the new number, and the columns
 module _ (v : Version) (at : ℕ) (table : Table) (there : slice_get (schema v).tables at ≡ Some (plain table)) (sql : List ℕ) (where_terms project : List Term) (params : Row)
