@@ -1,5 +1,6 @@
 -- A desk of which one part changes: the tables show the others as before.
 use Rattle.std.proofs.Common.{◌≡◌, ◌≤◌, ℤ, List, [], ◌∷◌, map, length, refl, sym, subst, ◌∙◌}
+use Rattle.std.specs.List.{AllByRecursion}
 use Rattle.sqlite.specs.Effect.{Database}
 use Rattle.sqlite.specs.Order.{Row}
 use Rattle.isad_core.specs.Limits.{most_orders, most_tickets, most_runs}
@@ -7,15 +8,17 @@ use Rattle.desk_core.specs.DeskRows.{Desk, ReaderRow, SeatRow, OrderRow, Holding
 use Rattle.office_tables.specs.Step.{OnlyTouches}
 use Rattle.desk_store.specs.Rows.{reader_cells, seat_cells, order_cells, holding_cells, run_cells, run_line_cells}
 use Rattle.office_tables.specs.Permits.{permit_cells}
-use Rattle.desk_store.specs.Shows.{ShowsDesk}
+use Rattle.desk_store.specs.Shows.{ShowsDesk, IsNumberOf}
 use Rattle.office_tables.specs.Numbered.{AreCounted, AreByNumber, HasNumbered}
+use Rattle.desk_store.proofs.NumbersOf.{widened}
 
 has_again : {R : Type 0} (cells : ℤ × R → Row) (there now : List Row) (rows : List R) → now ≡ there → HasNumbered cells there rows → HasNumbered cells now rows
 has_again cells there now rows same has = subst (λ l. HasNumbered cells l rows) (sym same) has
 
 module _ (old new : Database) (d : Desk) (shown : ShowsDesk old.trees d) where
-  pub with_readers : (xs : List ReaderRow) → OnlyTouches (0 ∷ []) old new → new.trees 0 ≡ map reader_cells xs → AreCounted (λ (r : ReaderRow). r.ticket) xs → length xs ≤ most_tickets → ShowsDesk new.trees (record d { readers = xs })
-  with_readers xs only are counted few = record {
+  pub with_readers : (xs : List ReaderRow) → OnlyTouches (0 ∷ []) old new → new.trees 0 ≡ map reader_cells xs → AreCounted (λ (r : ReaderRow). r.ticket) xs → length xs ≤ most_tickets → length d.readers ≤ length xs
+      → ShowsDesk new.trees (record d { readers = xs })
+  with_readers xs only are counted few more = record {
     readers = are;
     tickets = counted;
     few_tickets = few;
@@ -30,7 +33,9 @@ module _ (old new : Database) (d : Desk) (shown : ShowsDesk old.trees d) where
     run_numbers = shown.run_numbers;
     few_runs = shown.few_runs;
     run_lines = has_again run_line_cells _ _ _ (only 8 refl refl) shown.run_lines;
+    line_runs = shown.line_runs;
     permits = has_again permit_cells _ _ _ (only 10 refl refl) shown.permits;
+    permit_tickets = widened (λ (p : PermitRow). p.ticket) d.readers xs more d.permits shown.permit_tickets;
   }
 
   pub with_seats : (xs : List SeatRow) → OnlyTouches (1 ∷ []) old new → new.trees 1 ≡ map seat_cells xs → AreByNumber (λ (s : SeatRow). s.seat) xs → ShowsDesk new.trees (record d { seats = xs })
@@ -49,7 +54,9 @@ module _ (old new : Database) (d : Desk) (shown : ShowsDesk old.trees d) where
     run_numbers = shown.run_numbers;
     few_runs = shown.few_runs;
     run_lines = has_again run_line_cells _ _ _ (only 8 refl refl) shown.run_lines;
+    line_runs = shown.line_runs;
     permits = has_again permit_cells _ _ _ (only 10 refl refl) shown.permits;
+    permit_tickets = shown.permit_tickets;
   }
 
   pub with_orders : (xs : List OrderRow) → OnlyTouches (3 ∷ []) old new → new.trees 3 ≡ map order_cells xs → AreCounted (λ (o : OrderRow). o.id) xs → length xs ≤ most_orders → ShowsDesk new.trees (record d { orders = xs })
@@ -68,7 +75,9 @@ module _ (old new : Database) (d : Desk) (shown : ShowsDesk old.trees d) where
     run_numbers = shown.run_numbers;
     few_runs = shown.few_runs;
     run_lines = has_again run_line_cells _ _ _ (only 8 refl refl) shown.run_lines;
+    line_runs = shown.line_runs;
     permits = has_again permit_cells _ _ _ (only 10 refl refl) shown.permits;
+    permit_tickets = shown.permit_tickets;
   }
 
   pub with_holdings : (xs : List HoldingRow) → OnlyTouches (6 ∷ []) old new → new.trees 6 ≡ map holding_cells xs → AreByNumber (λ (h : HoldingRow). h.container) xs → ShowsDesk new.trees (record d { holdings = xs })
@@ -87,12 +96,14 @@ module _ (old new : Database) (d : Desk) (shown : ShowsDesk old.trees d) where
     run_numbers = shown.run_numbers;
     few_runs = shown.few_runs;
     run_lines = has_again run_line_cells _ _ _ (only 8 refl refl) shown.run_lines;
+    line_runs = shown.line_runs;
     permits = has_again permit_cells _ _ _ (only 10 refl refl) shown.permits;
+    permit_tickets = shown.permit_tickets;
   }
 
   pub with_runs : (xs : List RunRow) (ls : List RunLineRow) → OnlyTouches (7 ∷ 8 ∷ []) old new → new.trees 7 ≡ map run_cells xs → AreCounted (λ (r : RunRow). r.id) xs → length xs ≤ most_runs → HasNumbered run_line_cells (new.trees 8) ls
-      → ShowsDesk new.trees (record d { runs = xs; run_lines = ls })
-  with_runs xs ls only are counted few lines = record {
+      → AllByRecursion (λ (l : RunLineRow). IsNumberOf xs l.run) ls → ShowsDesk new.trees (record d { runs = xs; run_lines = ls })
+  with_runs xs ls only are counted few lines of_runs = record {
     readers = only 0 refl refl ∙ shown.readers;
     tickets = shown.tickets;
     few_tickets = shown.few_tickets;
@@ -107,11 +118,13 @@ module _ (old new : Database) (d : Desk) (shown : ShowsDesk old.trees d) where
     run_numbers = counted;
     few_runs = few;
     run_lines = lines;
+    line_runs = of_runs;
     permits = has_again permit_cells _ _ _ (only 10 refl refl) shown.permits;
+    permit_tickets = shown.permit_tickets;
   }
 
-  pub with_permits : (xs : List PermitRow) → OnlyTouches (10 ∷ []) old new → HasNumbered permit_cells (new.trees 10) xs → ShowsDesk new.trees (record d { permits = xs })
-  with_permits xs only has = record {
+  pub with_permits : (xs : List PermitRow) → OnlyTouches (10 ∷ []) old new → HasNumbered permit_cells (new.trees 10) xs → AllByRecursion (λ (p : PermitRow). IsNumberOf d.readers p.ticket) xs → ShowsDesk new.trees (record d { permits = xs })
+  with_permits xs only has of_tickets = record {
     readers = only 0 refl refl ∙ shown.readers;
     tickets = shown.tickets;
     few_tickets = shown.few_tickets;
@@ -126,5 +139,7 @@ module _ (old new : Database) (d : Desk) (shown : ShowsDesk old.trees d) where
     run_numbers = shown.run_numbers;
     few_runs = shown.few_runs;
     run_lines = has_again run_line_cells _ _ _ (only 8 refl refl) shown.run_lines;
+    line_runs = shown.line_runs;
     permits = has;
+    permit_tickets = of_tickets;
   }

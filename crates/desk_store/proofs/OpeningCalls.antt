@@ -41,7 +41,9 @@ same_desk old new d only shown = record {
   run_numbers = shown.run_numbers;
   few_runs = shown.few_runs;
   run_lines = subst (λ l. HasNumbered run_line_cells l d.run_lines) (sym (only 8 refl refl)) shown.run_lines;
+  line_runs = shown.line_runs;
   permits = subst (λ l. HasNumbered permit_cells l d.permits) (sym (only 10 refl refl)) shown.permits;
+  permit_tickets = shown.permit_tickets;
 }
 
 module _ {S : Type 0} (g : store.Ghosts S) (before mid : Held S) (day : ℤ) where

@@ -63,7 +63,7 @@ module _ {S : Type 0} (g : store.Ghosts S) (before mid after : Held S) (name : B
         (puts.rows ∙ ap (put_row (reader_cells row)) there.readers ∙ put_rows reader_cells (λ (r : ReaderRow). pos r.ticket) (λ _. refl) row d.readers
         ∙ ap (map reader_cells) (put_end (λ (r : ReaderRow). r.ticket) 1 d.readers row shown.tickets n.0))
         (counted_more (λ (r : ReaderRow). r.ticket) 1 d.readers row shown.tickets n.0)
-        (let size = length-append d.readers (row ∷ []) in omega (arith, size, few)))
+        (let size = length-append d.readers (row ∷ []) in omega (arith, size, few)) (let size = length-append d.readers (row ∷ []) in omega (arith, size)))
 
     pub added : Goes b c → (HasCleanDisk c → PutsRow 0 (reader_cells row) b.now c.now) → Makes g ShowsRoom IsLegible before after (Ok (Some ticket)) (λ _. ⊤) (λ d. with_reader (next_ticket d) name until d) (0 ∷ [])
     added goes puts =

@@ -1,7 +1,7 @@
 -- A run and its lines, on the whole desk: first the next number is read, then the run is put, and then a line for each container.
 use Rattle.std.proofs.Common.{◌≡◌, ℕ, zero, suc, ◌+◌, ◌<◌, ℤ, pos, Bool, true, false, ◌&&◌, cond, nat_eq, List, [], ◌∷◌, ◌++◌, map, filter, take, get_or, length, Option, Some, None, Result, Ok, Err, OnOk, OnErr, inl, inr, refl, sym, ap, subst, ◌∙◌, arith}
 use Rattle.std.specs.Prelude.{nat_lt}
-use Rattle.std.specs.List.{IsDistinct, list_any}
+use Rattle.std.specs.List.{AllByRecursion, IsDistinct, list_any}
 use Rattle.std.proofs.lemmas.Bool.{cases_Bool, ltb-true, or_from}
 use Rattle.std.proofs.lemmas.List.{length-append, append_assoc, map_more}
 use Rattle.std.proofs.lemmas.List.Folds.{list_any-append}
@@ -10,7 +10,7 @@ use Rattle.sqlite.specs.Held.{Held, state}
 use Rattle.sqlite.specs.Order.{Row}
 use Rattle.sqlite.specs.State.{State, HasCleanDisk}
 use Rattle.sqlite.specs.Tree.{put_row}
-use Rattle.sqlite_trees.proofs.ListLemmas.{all-get_or, all_from_map}
+use Rattle.sqlite_trees.proofs.ListLemmas.{all_of, all-append, all-get_or, all-map, all_from_map}
 use Rattle.sqlite_trees.specs.declared.store.Store as store
 use Rattle.tree_core.proofs.Lists.{eqb_comm}
 use Rattle.isad_core.specs.Limits.{most_runs}
@@ -25,12 +25,13 @@ use Rattle.office_tables.proofs.LaterCauses.{next_cause}
 use Rattle.office_tables.proofs.Puts.{put_rows}
 use Rattle.office_tables.proofs.Touching.{touched_again, touched_wider}
 use Rattle.desk_store.specs.Rows.{run_cells, run_line_cells}
-use Rattle.desk_store.specs.Runs.{next_run, line_of, with_run, MayRun}
-use Rattle.desk_store.specs.Shows.{ShowsDesk, ShowsRoom, IsLegible}
+use Rattle.desk_store.specs.Runs.{next_run, line_of, with_run, TakesEachOnce}
+use Rattle.desk_store.specs.Shows.{ShowsDesk, ShowsRoom, IsLegible, IsNumberOf}
 use Rattle.office_tables.specs.Numbered.{HasNumbered}
 use Rattle.desk_store.specs.declared.holdings.FirstOrder.{FirstOrder}
 use Rattle.office_tables.proofs.numbered.Counted.{counted_more, counted_free, put_end}
 use Rattle.desk_store.proofs.Frames.{with_runs}
+use Rattle.desk_store.proofs.NumbersOf.{widened, none_after}
 
 -- ---- the lines
 
@@ -99,8 +100,17 @@ module _ (a b c : State) (run : ℕ) (on : ℤ) (taken : List FirstOrder) where
   run_free d shown is = counted_free (λ (r : RunRow). r.id) 1 d.runs run shown.run_numbers ((next_is d run is).0 ∙ omega arith)
 
   -- no line has the run's number yet
-  pub no_line : (d : Desk) → Some run ≡ next_run d → MayRun taken d → filter (λ (l : RunLineRow). nat_eq run l.run) d.run_lines ≡ []
-  no_line d is may = subst (λ n. filter (λ (l : RunLineRow). nat_eq n l.run) d.run_lines ≡ []) (sym (next_is d run is).0) may.0
+  pub no_line : (d : Desk) → ShowsDesk a.now.trees d → Some run ≡ next_run d → filter (λ (l : RunLineRow). nat_eq run l.run) d.run_lines ≡ []
+  no_line d shown is = none_after (λ (l : RunLineRow). l.run) d.runs run (let n = (next_is d run is).0 in omega (arith, n)) d.run_lines shown.line_runs
+
+  -- the old lines are of the old runs, and the new ones of this
+  lines_known : (d : Desk) → ShowsDesk a.now.trees d → Some run ≡ next_run d → AllByRecursion (λ (l : RunLineRow). IsNumberOf (d.runs ++ row ∷ []) l.run) (d.run_lines ++ map (line_of run) taken)
+  lines_known d shown is =
+      let size = length-append d.runs (row ∷ []) in
+      let n = (next_is d run is).0 in
+      all-append (λ (l : RunLineRow). IsNumberOf (d.runs ++ row ∷ []) l.run) d.run_lines (map (line_of run) taken)
+      (widened (λ (l : RunLineRow). l.run) d.runs (d.runs ++ row ∷ []) (omega (arith, size)) d.run_lines shown.line_runs)
+      (all-map (λ (l : RunLineRow). IsNumberOf (d.runs ++ row ∷ []) l.run) (line_of run) taken (all_of (λ _. IsNumberOf (d.runs ++ row ∷ []) run) (λ _. (omega (arith, n), omega (arith, n, size))) taken))
 
   pub run_shown : PutsRow 7 (run_cells row) a.now b.now → OnlyTouches (8 ∷ []) b.now c.now → (d : Desk) → ShowsDesk a.now.trees d → Some run ≡ next_run d
       → HasNumbered run_line_cells (c.now.trees 8) (d.run_lines ++ map (line_of run) taken) → ShowsDesk c.now.trees (with_run (Some run) on taken d)
@@ -112,7 +122,7 @@ module _ (a b c : State) (run : ℕ) (on : ℤ) (taken : List FirstOrder) where
       (lines 7 refl refl ∙ put.rows ∙ ap (put_row (run_cells row)) shown.runs ∙ put_rows run_cells (λ (r : RunRow). pos r.id) (λ _. refl) row d.runs
       ∙ ap (map run_cells) (put_end (λ (r : RunRow). r.id) 1 d.runs row shown.run_numbers next))
       (counted_more (λ (r : RunRow). r.id) 1 d.runs row shown.run_numbers next)
-      (let size = length-append d.runs (row ∷ []) in omega (arith, size, few)) has
+      (let size = length-append d.runs (row ∷ []) in omega (arith, size, few)) has (lines_known d shown is)
 
 -- before the last step the disk was clean too
 pub clean_before : {X : Type 0} (b c : State) (r : Result X StoreFault) → OnOk r (Goes b c) → OnErr r (IsCut b c) → HasCleanDisk c → HasCleanDisk b
@@ -136,7 +146,7 @@ module _ {S : Type 0} (g : store.Ghosts S) (before mid after : Held S) (on : ℤ
     still_shown clean d shown = subst (λ (db : Database). ShowsDesk db.trees d) (sym (looked.same clean)) shown
 
     pub recorded : Goes b c → (HasCleanDisk c → (d : Desk) → ShowsDesk b.now.trees d → Some run ≡ next_run d → ShowsDesk c.now.trees (with_run (Some run) on taken d)) → (HasCleanDisk c → OnlyTouches (7 ∷ 8 ∷ []) b.now c.now)
-        → Makes g ShowsRoom IsLegible before after (Ok (Some run)) (MayRun taken) (λ d. with_run (next_run d) on taken d) (7 ∷ 8 ∷ [])
+        → Makes g ShowsRoom IsLegible before after (Ok (Some run)) (λ _. TakesEachOnce taken) (λ d. with_run (next_run d) on taken d) (7 ∷ 8 ∷ [])
     recorded goes shows only =
         let back = early b c _ goes.on.crash in
         record {
@@ -149,8 +159,8 @@ module _ {S : Type 0} (g : store.Ghosts S) (before mid after : Held S) (on : ℤ
           faults = λ beside d shown may kept clean free. tt;
         }
 
-    pub not_recorded : (e : StoreFault) → IsCut b c → ((d : Desk) → ShowsDesk b.now.trees d → Some run ≡ next_run d → MayRun taken d → HasCleanDisk c → IsUnlimited b → HasCause b c e)
-        → Makes {X = Option ℕ} g ShowsRoom IsLegible before after (Err e) (MayRun taken) (λ d. with_run (next_run d) on taken d) (7 ∷ 8 ∷ [])
+    pub not_recorded : (e : StoreFault) → IsCut b c → ((d : Desk) → ShowsDesk b.now.trees d → Some run ≡ next_run d → TakesEachOnce taken → HasCleanDisk c → IsUnlimited b → HasCause b c e)
+        → Makes {X = Option ℕ} g ShowsRoom IsLegible before after (Err e) (λ _. TakesEachOnce taken) (λ d. with_run (next_run d) on taken d) (7 ∷ 8 ∷ [])
     not_recorded e cut why = record {
       shows_made = λ clean beside d shown may. tt;
       only = λ clean. tt;

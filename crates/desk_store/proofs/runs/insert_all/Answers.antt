@@ -48,4 +48,4 @@ returns-clause-faults g c desk shown is may clean free =
     let goes = c.in_ok-insert_run.ensures.leaves.goes in
     last_cause a b d goes.on c.insert_lines.result c.insert_lines.ensures.cut clean (λ cleaner.
     c.insert_lines.ensures.faults desk.run_lines (lines_still a b d c.args.run c.args.on c.args.taken.now (c.in_ok-insert_run.ensures.puts cleaner).only desk shown)
-    (no_line a b d c.args.run c.args.on c.args.taken.now desk is may) may.1 clean (still_unlimited a b goes.on free))
+    (no_line a b d c.args.run c.args.on c.args.taken.now desk shown is) may clean (still_unlimited a b goes.on free))
