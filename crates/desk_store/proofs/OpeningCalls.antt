@@ -1,5 +1,5 @@
 -- A new day, on the whole desk and the office's row: first all seats become free, then the day is written.
-use Rattle.std.proofs.Common.{ℤ, List, [], ◌∷◌, Result, Err, OnOk, refl, ◌∙◌, sym, subst}
+use Rattle.std.proofs.Common.{ℤ, List, [], ◌∷◌, Result, Err, OnOk, refl, ◌∙◌}
 use Rattle.std.specs.Prelude.{⊤}
 use Rattle.sqlite.specs.Effect.{Database}
 use Rattle.sqlite.specs.Held.{Held, state}
@@ -18,11 +18,12 @@ use Rattle.office_tables.proofs.Calls.{early, goes_then, cut_then, on_ok_then, o
 use Rattle.office_tables.proofs.Causes.{still_unlimited}
 use Rattle.office_tables.proofs.LaterCauses.{last_cause}
 use Rattle.office_tables.proofs.Touching.{touched_again, touched_wider}
+use Rattle.office_tables.proofs.numbered.OwnNumbers.{still_numbered}
 use Rattle.desk_store.specs.Opening.{ShowsHouse, IsLegibleHouse, opened}
 use Rattle.desk_store.specs.Rows.{seat_cells, run_line_cells}
 use Rattle.office_tables.specs.Permits.{permit_cells}
 use Rattle.desk_store.specs.Shows.{ShowsDesk}
-use Rattle.office_tables.specs.Numbered.{AreByNumber, HasNumbered}
+use Rattle.office_tables.specs.Numbered.{AreByNumber}
 use Rattle.desk_store.proofs.Frames.{with_seats}
 
 -- another row of the office is nothing to the desk
@@ -41,8 +42,10 @@ same_desk old new d only shown = record {
   runs = only tables.run.tree refl refl ∙ shown.runs;
   run_numbers = shown.run_numbers;
   few_runs = shown.few_runs;
-  run_lines = subst (λ l. HasNumbered run_line_cells l d.run_lines) (sym (only tables.run_line.tree refl refl)) shown.run_lines;
-  permits = subst (λ l. HasNumbered permit_cells l d.permits) (sym (only tables.permit.tree refl refl)) shown.permits;
+  run_lines = still_numbered run_line_cells _ _ _ (only tables.run_line.tree refl refl) shown.run_lines;
+  line_runs = shown.line_runs;
+  permits = still_numbered permit_cells _ _ _ (only tables.permit.tree refl refl) shown.permits;
+  permit_tickets = shown.permit_tickets;
 }
 
 module _ {S : Type 0} (g : store.Ghosts S) (before mid : Held S) (day : ℤ) where

@@ -1,8 +1,7 @@
 -- A reader more, on the whole desk: first the next ticket is read, then the row is put.
-use Rattle.std.proofs.Common.{◌≡◌, ℕ, suc, ◌+◌, ◌<◌, ℤ, pos, false, cond, nat_eq, List, [], ◌∷◌, ◌++◌, map, length, Option, Some, None, Result, Ok, Err, inl, inr, refl, sym, ap, subst, ◌∙◌, arith}
+use Rattle.std.proofs.Common.{◌≡◌, ℕ, suc, ◌+◌, ◌<◌, ℤ, pos, false, cond, nat_eq, List, [], ◌∷◌, ◌++◌, map, length, Option, Some, None, Ok, Err, inl, inr, refl, sym, ap, subst, ◌∙◌, arith}
 use Rattle.std.specs.Prelude.{⊤, nat_lt}
 use Rattle.std.specs.List.{list_any}
-use Rattle.std.specs.Result.{IsErr, IsErrAnd}
 use Rattle.std.proofs.lemmas.Bool.{cases_Bool, ltb-true}
 use Rattle.std.proofs.lemmas.List.{length-append}
 use Rattle.isad_core.specs.Texts.{Bytes}
@@ -64,7 +63,7 @@ module _ {S : Type 0} (g : store.Ghosts S) (before mid after : Held S) (name : B
         (puts.rows ∙ ap (put_row (reader_cells row)) there.readers ∙ put_rows reader_cells (λ (r : ReaderRow). pos r.ticket) (λ _. refl) row d.readers
         ∙ ap (map reader_cells) (put_end (λ (r : ReaderRow). r.ticket) 1 d.readers row shown.tickets n.0))
         (counted_more (λ (r : ReaderRow). r.ticket) 1 d.readers row shown.tickets n.0)
-        (let size = length-append d.readers (row ∷ []) in omega (arith, size, few)))
+        (let size = length-append d.readers (row ∷ []) in omega (arith, size, few)) (let size = length-append d.readers (row ∷ []) in omega (arith, size)))
 
     pub added : Goes b c → (HasCleanDisk c → PutsRow tables.reader.tree (reader_cells row) b.now c.now) → Makes g ShowsRoom IsLegible before after (Ok (Some ticket)) (λ _. ⊤) (λ d. with_reader (next_ticket d) name until d) (tables.reader.tree ∷ [])
     added goes puts =
@@ -88,8 +87,3 @@ module _ {S : Type 0} (g : store.Ghosts S) (before mid after : Held S) (name : B
       faults = λ beside d shown may kept clean free. next_cause a b c looked.goes.on cut clean e (λ cleaner.
           why d.readers (still_shown cleaner d shown).readers (counted_free (λ (r : ReaderRow). r.ticket) 1 d.readers ticket shown.tickets (next_is d ticket (is cleaner d shown)).0) clean (still_unlimited a b looked.goes.on free));
     }
-
--- a fault that is handed on is the same fault
-pub handed_on : {X : Type 0} (r : Result X StoreFault) (e : StoreFault) → IsErr r → IsErrAnd r (λ f. f ≡ e) → r ≡ Err e
-handed_on (Ok x) e h k = absurd (cc)
-handed_on (Err f) e h k = ap Err k

@@ -31,9 +31,9 @@ run_with n d = find (λ (r : RunRow). nat_eq n r.id) d.runs
 abbrev pub lines_of : ℕ → Desk → List RunLineRow
 lines_of n d = filter (λ l. nat_eq n l.run) d.run_lines
 
--- a run takes a container once, and no line has the number of the next run yet
-abbrev pub MayRun : List FirstOrder → Desk → Type 0
-MayRun taken d = (lines_of (suc (length d.runs)) d ≡ []) × IsDistinct nat_eq (map (λ (t : FirstOrder). t.container) taken)
+-- no container is taken twice
+abbrev pub TakesEachOnce : List FirstOrder → Type 0
+TakesEachOnce taken = IsDistinct nat_eq (map (λ (t : FirstOrder). t.container) taken)
 
 -- a line with what is written on its container
 pub record IsCandidate (boxes : List (ℕ × BoxKey)) (l : RunLineRow) (c : Candidate) : Type 0 where

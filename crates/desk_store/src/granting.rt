@@ -14,11 +14,12 @@ ghost use Rattle.office_tables.specs.Order.{IsOrdered};
 ghost use Rattle.office_tables.specs.Schema as tables;
 ghost use Rattle.office_tables.specs.Step.{InOffice, OnlyTouches, PutsRow};
 ghost use Rattle.desk_store.specs.Permits.{permits_of, by_unit, is_permit, without_permit, with_permit, revoked};
-ghost use Rattle.desk_store.specs.Permits.{HasUnitRow};
+ghost use Rattle.desk_store.specs.Permits.{HasUnitRow, MayHave};
 ghost use Rattle.office_tables.specs.Permits.{permit_cells};
 ghost use Rattle.desk_store.specs.Shows.{ShowsRoom, IsLegible};
 ghost use Rattle.office_tables.specs.Numbered.{HasNumbered};
 
+use crate::readers::MOST_TICKETS;
 use isad_core::Day;
 use office_tables::answer::FromRow;
 use office_tables::value::{day, number};
@@ -55,7 +56,7 @@ impl FromRow for Permit {
 }
 
 /// The permits of a ticket, by their units. They are found by the ticket, with which the primary key begins.
-pub fn permits<S: Alter>(
+fn permits_with<S: Alter>(
     alloc: Global,
     conn: &mut Connection<S>,
     ticket: u64,
@@ -71,6 +72,22 @@ pub fn permits<S: Alter>(
         "SELECT unit, until FROM permit WHERE ticket = ?1 ORDER BY ticket, unit",
         &[number(ticket)],
     )
+}
+
+/// The permits of a ticket, by their units: none where the ticket was not given.
+pub fn permits<S: Alter>(
+    alloc: Global,
+    conn: &mut Connection<S>,
+    ticket: u64,
+) -> Result<Vec<Permit>, StoreFault>
+    requires inside { InOffice (state S.Store conn.old) }
+    ensures tells { Tells S.Store ShowsRoom IsLegible conn.old conn.new result (λ _. ⊤)
+        (λ _ d all. IsOrdered by_unit (permits_of ticket d) all.items) }
+{
+    if ticket > u64::from(MOST_TICKETS) {
+        return Ok(Vec::new(alloc));
+    }
+    permits_with(alloc, conn, ticket)
 }
 
 /// Adds a permit for a unit for which the ticket has none.
@@ -140,7 +157,7 @@ pub fn grant<S: Alter>(
     requires small { IsNumber ticket }
     requires known { IsNumber unit }
     ensures makes { Makes S.Store ShowsRoom IsLegible conn.old conn.new result
-        (λ _. HasUnitRow unit (state S.Store conn.old).now.trees) (with_permit ticket unit until)
+        (MayHave ticket unit (state S.Store conn.old).now.trees) (with_permit ticket unit until)
         (tables.permit.tree ∷ []) }
 {
     clear_permit(conn, ticket, unit)?;

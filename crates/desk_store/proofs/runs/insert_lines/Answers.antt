@@ -5,10 +5,10 @@ use Rattle.office_tables.specs.declared.fault.StoreFault.{StoreFault}
 use Rattle.office_tables.proofs.Calls.{early, goes_then}
 use Rattle.office_tables.proofs.Causes.{cause_then, still_unlimited}
 use Rattle.office_tables.proofs.Touching.{touched_again}
+use Rattle.office_tables.proofs.CallEnds.{same_fault}
 use Rattle.desk_store.specs.Rows.{run_line_cells}
 use Rattle.office_tables.specs.Numbered.{HasNumbered}
 use Rattle.office_tables.specs.Schema as tables
-use Rattle.desk_store.proofs.ReaderCalls.{handed_on}
 use Rattle.desk_store.proofs.RunCalls.{free_line, line_more}
 use Rattle.desk_store.proofs.runs.insert_lines.Goals as goal
 
@@ -49,4 +49,4 @@ returns-in_err-insert_line-clause-faults g c ls at none apart clean free =
     let why = c.in_err-insert_line.ensures.faults _ told free_one clean (still_unlimited a b so_far.on free) in
     let whole = cause_then a b d so_far.on before _ why in
     let e = c.from_residual.ensures in
-    subst (λ (r : Result Unit StoreFault). IfErr r (HasCause a d)) (sym (handed_on c.from_residual.result c.in_err-insert_line.field-0.0 e.0 e.1)) whole
+    subst (λ (r : Result Unit StoreFault). IfErr r (HasCause a d)) (sym (same_fault c.from_residual.result c.in_err-insert_line.field-0.0 e.0 e.1)) whole
