@@ -1,16 +1,13 @@
 -- Why the INSERTs of the catalogue's rows fail.
-use Rattle.std.proofs.Common.{◌≡◌, pos, [], ◌∷◌, length, true, false, not, ◌&&◌, Err, refl, ap}
+use Rattle.std.proofs.Common.{◌≡◌, pos, [], ◌∷◌, length, true, false, Err, refl, ap}
 use Rattle.std.proofs.Math.Nat.{le_refl}
-use Rattle.std.specs.List.{list_any, list_all}
 use Rattle.sqlite.specs.declared.error.Error.{Error}
-use Rattle.sqlite.specs.Order.{Row}
 use Rattle.sqlite.specs.Edit.{edit_of, is_taken}
 use Rattle.sqlite.specs.Rowids.TheVariants.{Chosen}
 use Rattle.sqlite.specs.Effect.{value_rows}
 use Rattle.sqlite.specs.Listing.{understood}
 use Rattle.sqlite.specs.State.{State, IsLive, Executes}
 use Rattle.sqlite.specs.Tree.{Trees}
-use Rattle.sqlite_schema.specs.Rules.{agree, guards}
 use Rattle.sqlite_tied.specs.Compute.{everything}
 use Rattle.office_tables.specs.Faults.{fault_of, IsUnlimited, HasCause}
 use Rattle.tree_core.specs.Versions.{version_number, Version, Links, Spans}
@@ -21,6 +18,7 @@ use Rattle.catalogue_rows.specs.declared.office.OfficeRow.{OfficeRow}
 use Rattle.office_tables.proofs.Casts.{cast_int, cast_null}
 use Rattle.office_tables.proofs.Failures.{IsWhole}
 use Rattle.office_tables.proofs.InsertCauses.{IsWelcome, values_typed, insert_cause}
+use Rattle.office_tables.proofs.statements.WelcomeOf.{in_either}
 use Rattle.catalogue_rows.proofs.Inserts.{insert_office_text, insert_office_terms, insert_office_params, insert_office_is, insert_office_plain}
 
 -- ---- the office
@@ -30,10 +28,6 @@ unfolding understood everything
 insert_office_whole Links = (le_refl _, refl, refl)
 insert_office_whole Spans = (le_refl _, refl, refl)
 
-office_alone : (v : Version) (db : Trees) (row : Row) → list_all (λ i. not (guards i office && list_any (λ r. agree i.order i.columns r i.columns row) (db tables.office.tree))) (schema v).indexes ≡ true
-office_alone Links db row = refl
-office_alone Spans db row = refl
-
 office_welcome : (version : Version) (o : OfficeRow) (v : Version) (db : Trees) → db tables.office.tree ≡ [] → IsWelcome (schema v) db office (office_row version o)
 office_welcome version o v db none = record {
   keyed = refl;
@@ -41,7 +35,7 @@ office_welcome version o v db none = record {
   typed = refl;
   present = refl;
   checked = refl;
-  alone = office_alone v db (office_row version o);
+  alone = in_either v db office (office_row version o) refl;
   referred = refl;
   parents = refl;
 }

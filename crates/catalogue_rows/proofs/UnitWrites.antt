@@ -1,15 +1,15 @@
 -- The statements that write the row of a unit: what their texts mean, what they leave, and why they fail.
-use Rattle.std.proofs.Common.{◌≡◌, ℕ, zero, suc, ℤ, pos, List, [], ◌∷◌, map, drop, codes, Bool, true, false, not, ◌&&◌, if◌then◌else◌, ltb, Option, Some, None, Result, OnOk, IfErr, nat_eq, refl, sym, ap, ◌∙◌, arith}
+use Rattle.std.proofs.Common.{◌≡◌, ℕ, zero, suc, ℤ, pos, List, [], ◌∷◌, map, drop, codes, Bool, true, false, if◌then◌else◌, ltb, Option, Some, None, Result, OnOk, IfErr, nat_eq, refl, sym, ap, ◌∙◌, arith}
 use Rattle.std.proofs.Math.Nat.{le_refl}
 use Rattle.std.proofs.lemmas.Bool.{ltb-true}
-use Rattle.std.specs.List.{list_any, list_all}
+use Rattle.std.specs.List.{list_any}
 use Rattle.isad_core.specs.declared.values.Values.{«Values» as Description}
 use Rattle.sqlite.specs.declared.types.Value.{Value}
 use Rattle.sqlite.specs.declared.types.Value.TheVariants.{Null, Int, Text}
 use Rattle.sqlite.specs.Order.{Row, column}
 use Rattle.sqlite.specs.Values.{or_null}
 use Rattle.sqlite.specs.Cast.{cast_row}
-use Rattle.sqlite.specs.Edit.{edit_of, is_taken, id_in}
+use Rattle.sqlite.specs.Edit.{edit_of, id_in}
 use Rattle.sqlite.specs.Effect.{value_rows}
 use Rattle.sqlite.specs.Rowids.TheVariants.{Chosen}
 use Rattle.sqlite.specs.Term.{Term, lit, col, op2, eval_all}
@@ -23,7 +23,7 @@ use Rattle.sqlite.specs.State.{State, IsLive}
 use Rattle.sqlite.specs.Tree.{Trees}
 use Rattle.sqlite_rules.specs.Steps.{is_typed}
 use Rattle.sqlite_schema.specs.Names.{same_name}
-use Rattle.sqlite_schema.specs.Rules.{agree, guards}
+use Rattle.sqlite_schema.specs.Rules.{agree}
 use Rattle.sqlite_sql.specs.declared.ops.BinaryOp.TheVariants.{Compare}
 use Rattle.sqlite_sql.specs.declared.ops.CompareOp.TheVariants.{Eq}
 use Rattle.sqlite_tied.specs.Compute.{everything}
@@ -42,7 +42,7 @@ use Rattle.office_tables.specs.Step.{Holds, HasRows, PutsRow, OnlyTouches}
 use Rattle.office_tables.specs.declared.fault.StoreFault.{StoreFault}
 use Rattle.catalogue_rows.specs.Rows.{unit_row, by_number}
 use Rattle.office_tables.proofs.Casts.{cast_int, cast_null, cast_maybe}
-use Rattle.office_tables.proofs.Fresh.{any_mapped, not_there}
+use Rattle.office_tables.proofs.Fresh.{any_mapped}
 use Rattle.office_tables.proofs.InsertCauses.{IsWelcome}
 use Rattle.office_tables.proofs.statements.InsertOf.{insert_puts, insert_faults}
 use Rattle.office_tables.proofs.statements.OnlyOf.{update_only}
@@ -50,6 +50,7 @@ use Rattle.office_tables.proofs.Queries.{plain_query, choosing}
 use Rattle.office_tables.proofs.Tests.{only, both, same_number, same_bytes}
 use Rattle.office_tables.proofs.UpdateCauses.{KeepsTable}
 use Rattle.office_tables.proofs.statements.UpdateOf.{update_leaves, update_faults}
+use Rattle.office_tables.proofs.statements.WelcomeOf.{number_welcome}
 
 -- ---- a new unit
 
@@ -71,23 +72,12 @@ same_origin : (a b : Described) → agree plain (2 ∷ 3 ∷ []) (unit_row a) (2
 unfolding first_key
 same_origin a b = both (same_bytes a.source b.source) (same_bytes a.legacy b.legacy)
 
-unit_alone : (v : Version) (db : Trees) (row : Row) → list_any (λ r. agree plain (2 ∷ 3 ∷ []) r (2 ∷ 3 ∷ []) row) (db tables.unit.tree) ≡ false
-    → list_all (λ i. not (guards i unit && list_any (λ r. agree i.order i.columns r i.columns row) (db tables.unit.tree))) (schema v).indexes ≡ true
-unit_alone Links db row h = rw h refl
-unit_alone Spans db row h = rw h refl
-
 unit_welcome : (u : Described) (xs : List Described) (v : Version) (db : Trees) → u.until ≡ None → db tables.unit.tree ≡ map unit_row xs → list_any (has_id u.id) xs ≡ false → list_any (is_from u.source u.legacy) xs ≡ false
     → IsWelcome (schema v) db unit (unit_row u)
-unit_welcome u xs v db none_until stored none other = record {
-  keyed = refl;
-  free = ap (λ rows. is_taken rows (unit_row u)) stored ∙ not_there unit_row (λ x. x.id) (λ _. refl) u.id (unit_row u) refl xs none;
-  typed = rw none_until refl;
-  present = refl;
-  checked = refl;
-  alone = unit_alone v db (unit_row u) (ap (list_any (λ r. agree plain (2 ∷ 3 ∷ []) r (2 ∷ 3 ∷ []) (unit_row u))) stored ∙ any_mapped unit_row _ (is_from u.source u.legacy) (λ a. same_origin a u) xs ∙ other);
-  referred = refl;
-  parents = refl;
-}
+unit_welcome u xs v db none_until stored none other =
+    let apart : list_any (λ r. agree plain (2 ∷ 3 ∷ []) r (2 ∷ 3 ∷ []) (unit_row u)) (db tables.unit.tree) ≡ false =
+    ap (list_any (λ r. agree plain (2 ∷ 3 ∷ []) r (2 ∷ 3 ∷ []) (unit_row u))) stored ∙ any_mapped unit_row _ (is_from u.source u.legacy) (λ a. same_origin a u) xs ∙ other in
+    number_welcome v unit unit_row (λ x. x.id) (λ _. refl) u xs db stored none (rw apart refl) (record { typed = rw none_until refl; present = refl; checked = refl; referred = refl; parents = refl })
 
 module _ (old new : State) (u : Described) (none_until : u.until ≡ None) (v : Version) (has : old.now.schema ≡ schema v) where
   abbrev params : Row

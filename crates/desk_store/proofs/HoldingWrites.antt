@@ -1,12 +1,12 @@
 -- The statements that change the rows of holdings: what their texts mean, what they leave, and why they fail; and what that is on the whole desk.
-use Rattle.std.proofs.Common.{◌≡◌, ℕ, pos, List, [], ◌∷◌, map, filter, codes, true, false, not, ◌&&◌, Option, Some, None, Ok, Result, OnOk, IfErr, nat_eq, refl, ap, ◌∙◌}
+use Rattle.std.proofs.Common.{◌≡◌, ℕ, pos, List, [], ◌∷◌, map, filter, codes, true, false, not, Option, Some, None, Ok, Result, OnOk, IfErr, nat_eq, refl, ap, ◌∙◌}
 use Rattle.std.specs.Prelude.{⊤, option_map}
 use Rattle.std.proofs.Math.Nat.{le_refl}
 use Rattle.std.proofs.lemmas.Map.Views.{any-filter_same}
-use Rattle.std.specs.List.{list_any, list_all}
+use Rattle.std.specs.List.{list_any}
 use Rattle.sqlite.specs.declared.types.Value.TheVariants.{Null, Int}
 use Rattle.sqlite.specs.Order.{Row}
-use Rattle.sqlite.specs.Edit.{edit_of, is_taken}
+use Rattle.sqlite.specs.Edit.{edit_of}
 use Rattle.sqlite.specs.Effect.{value_rows}
 use Rattle.sqlite.specs.Held.{Held, state}
 use Rattle.sqlite.specs.Rowids.TheVariants.{Chosen}
@@ -20,7 +20,7 @@ use Rattle.sqlite.specs.State.{State, IsLive, HasCleanDisk}
 use Rattle.sqlite.specs.Tree.{Trees, put_row}
 use Rattle.sqlite.specs.Values.{or_null}
 use Rattle.sqlite_schema.specs.Names.{same_name}
-use Rattle.sqlite_schema.specs.Rules.{agree, guards, references_fit}
+use Rattle.sqlite_schema.specs.Rules.{references_fit}
 use Rattle.sqlite_sql.specs.declared.ops.BinaryOp.TheVariants.{Compare}
 use Rattle.sqlite_sql.specs.declared.ops.CompareOp.TheVariants.{Eq}
 use Rattle.sqlite_tied.specs.Compute.{everything}
@@ -49,7 +49,6 @@ use Rattle.office_tables.proofs.Casts.{cast_int, cast_null, cast_maybe}
 use Rattle.office_tables.proofs.Causes.{still_unlimited}
 use Rattle.office_tables.proofs.Queries.{choosing}
 use Rattle.office_tables.proofs.statements.DeleteOf.{delete_leaves, delete_faults}
-use Rattle.office_tables.proofs.Fresh.{not_there}
 use Rattle.office_tables.proofs.InsertCauses.{IsWelcome}
 use Rattle.office_tables.proofs.statements.InsertOf.{insert_puts, insert_faults}
 use Rattle.office_tables.proofs.LaterCauses.{last_cause}
@@ -60,6 +59,7 @@ use Rattle.office_tables.proofs.Touching.{touched_again}
 use Rattle.desk_store.proofs.Frames.{with_holdings}
 use Rattle.office_tables.proofs.statements.OnlyOf.{delete_only}
 use Rattle.office_tables.proofs.numbered.PutAgain.{put_gone}
+use Rattle.office_tables.proofs.statements.WelcomeOf.{number_welcome}
 
 -- ---- a container has no row any more
 
@@ -117,10 +117,6 @@ unfolding understood everything
 insert_holding_means Links = record { is = refl; plain = (refl, refl); whole = (le_refl _, refl, refl); unlisted = refl }
 insert_holding_means Spans = record { is = refl; plain = (refl, refl); whole = (le_refl _, refl, refl); unlisted = refl }
 
-holding_alone : (v : Version) (db : Trees) (row : Row) → list_all (λ i. not (guards i holding && list_any (λ r. agree i.order i.columns r i.columns row) (db tables.holding.tree))) (schema v).indexes ≡ true
-holding_alone Links db row = refl
-holding_alone Spans db row = refl
-
 holding_typed : (c p : ℕ) (o : Option ℕ) → is_typed holding (holding_cells (record { container = c; place = p; held_by = o })) ≡ true
 holding_typed c p None = refl
 holding_typed c p (Some o) = refl
@@ -128,17 +124,8 @@ holding_typed c p (Some o) = refl
 holding_welcome : (c p : ℕ) (o : Option ℕ) (xs : List HoldingRow) (v : Version) (db : Trees) → db tables.holding.tree ≡ map holding_cells xs → list_any (λ (x : HoldingRow). nat_eq c x.container) xs ≡ false
     → IsWelcome (schema v) db holding (holding_cells (record { container = c; place = p; held_by = o }))
 holding_welcome c p o xs v db stored none =
-    let row = holding_cells (record { container = c; place = p; held_by = o }) in
-    record {
-      keyed = refl;
-      free = ap (λ rows. is_taken rows row) stored ∙ not_there holding_cells (λ x. x.container) (λ _. refl) c row refl xs none;
-      typed = holding_typed c p o;
-      present = refl;
-      checked = refl;
-      alone = holding_alone v db row;
-      referred = refl;
-      parents = refl;
-    }
+    number_welcome v holding holding_cells (λ x. x.container) (λ _. refl) (record { container = c; place = p; held_by = o }) xs db stored none refl
+    (record { typed = holding_typed c p o; present = refl; checked = refl; referred = refl; parents = refl })
 
 module _ (old new : State) (c p : ℕ) (o : Option ℕ) (v : Version) (has : old.now.schema ≡ schema v) where
   abbrev h : HoldingRow

@@ -1,14 +1,14 @@
 -- The statements that change the rows of orders: what their texts mean, what they leave, and why they fail; and what that is on the whole desk.
-use Rattle.std.proofs.Common.{◌≡◌, ◌≤◌, ◌+◌, ℕ, zero, suc, ℤ, pos, List, [], ◌∷◌, ◌++◌, map, length, drop, codes, Bool, true, false, not, ◌&&◌, cond, ltb, Result, OnOk, IfErr, nat_eq, refl, sym, ap, subst, ◌∙◌, arith}
+use Rattle.std.proofs.Common.{◌≡◌, ◌≤◌, ◌+◌, ℕ, zero, suc, ℤ, pos, List, [], ◌∷◌, ◌++◌, map, length, drop, codes, Bool, true, false, cond, ltb, Result, OnOk, IfErr, nat_eq, refl, sym, ap, subst, ◌∙◌, arith}
 use Rattle.std.specs.Prelude.{⊤}
 use Rattle.std.proofs.Math.Nat.{le_refl}
 use Rattle.std.proofs.lemmas.Bool.{ltb-true}
 use Rattle.std.proofs.lemmas.List.{length-append, length-map}
-use Rattle.std.specs.List.{list_any, list_all}
+use Rattle.std.specs.List.{list_any}
 use Rattle.sqlite.specs.declared.types.Value.TheVariants.{Null, Int}
 use Rattle.sqlite.specs.Order.{Row, column}
 use Rattle.sqlite.specs.Cast.{cast_row}
-use Rattle.sqlite.specs.Edit.{edit_of, is_taken}
+use Rattle.sqlite.specs.Edit.{edit_of}
 use Rattle.sqlite.specs.Effect.{value_rows}
 use Rattle.sqlite.specs.Held.{Held, state}
 use Rattle.sqlite.specs.Rowids.TheVariants.{Chosen}
@@ -21,7 +21,6 @@ use Rattle.sqlite.specs.Listing.{understood}
 use Rattle.sqlite.specs.State.{State, IsLive, HasCleanDisk}
 use Rattle.sqlite.specs.Tree.{Trees, put_row}
 use Rattle.sqlite_schema.specs.Names.{same_name}
-use Rattle.sqlite_schema.specs.Rules.{agree, guards}
 use Rattle.sqlite_sql.specs.declared.ops.BinaryOp.TheVariants.{Compare}
 use Rattle.sqlite_sql.specs.declared.ops.CompareOp.TheVariants.{Eq}
 use Rattle.sqlite_tied.specs.Compute.{everything}
@@ -46,7 +45,6 @@ use Rattle.office_tables.specs.Numbered.{AreCounted}
 use Rattle.desk_store.specs.declared.orders.OrderState.{OrderState}
 use Rattle.office_tables.proofs.Calls.{on_ok_then}
 use Rattle.office_tables.proofs.Casts.{cast_int, cast_null}
-use Rattle.office_tables.proofs.Fresh.{not_there}
 use Rattle.office_tables.proofs.InsertCauses.{IsWelcome}
 use Rattle.office_tables.proofs.Queries.{choosing}
 use Rattle.office_tables.proofs.statements.InsertOf.{insert_puts, insert_faults}
@@ -57,6 +55,7 @@ use Rattle.office_tables.proofs.statements.UpdateOf.{update_leaves, update_fault
 use Rattle.office_tables.proofs.numbered.Counted.{counted_again, counted_free, counted_more, counted_rises, put_end}
 use Rattle.desk_store.proofs.Frames.{with_orders}
 use Rattle.office_tables.proofs.statements.OnlyOf.{update_only}
+use Rattle.office_tables.proofs.statements.WelcomeOf.{number_welcome}
 
 -- ---- a new order
 
@@ -74,21 +73,9 @@ unfolding understood everything
 insert_order_means Links = record { is = refl; plain = (refl, refl); whole = (le_refl _, refl, refl); unlisted = refl }
 insert_order_means Spans = record { is = refl; plain = (refl, refl); whole = (le_refl _, refl, refl); unlisted = refl }
 
-order_alone : (v : Version) (db : Trees) (row : Row) → list_all (λ i. not (guards i orders && list_any (λ r. agree i.order i.columns r i.columns row) (db tables.orders.tree))) (schema v).indexes ≡ true
-order_alone Links db row = refl
-order_alone Spans db row = refl
-
 order_welcome : (o : OrderRow) (xs : List OrderRow) (v : Version) (db : Trees) → db tables.orders.tree ≡ map order_cells xs → list_any (λ (x : OrderRow). nat_eq o.id x.id) xs ≡ false → IsWelcome (schema v) db orders (order_cells o)
-order_welcome o xs v db stored none = record {
-  keyed = refl;
-  free = ap (λ rows. is_taken rows (order_cells o)) stored ∙ not_there order_cells (λ x. x.id) (λ _. refl) o.id (order_cells o) refl xs none;
-  typed = refl;
-  present = refl;
-  checked = refl;
-  alone = order_alone v db (order_cells o);
-  referred = refl;
-  parents = refl;
-}
+order_welcome o xs v db stored none = number_welcome v orders order_cells (λ x. x.id) (λ _. refl) o xs db stored none refl
+    (record { typed = refl; present = refl; checked = refl; referred = refl; parents = refl })
 
 module _ (old new : State) (id ticket container : ℕ) (day : ℤ) (v : Version) (has : old.now.schema ≡ schema v) where
   abbrev x : OrderRow

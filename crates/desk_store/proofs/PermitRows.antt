@@ -1,5 +1,5 @@
 -- The statements on the rows of permits: what their texts mean, what they leave or tell, and why they fail.
-use Rattle.std.proofs.Common.{◌≡◌, ℕ, ℤ, pos, List, [], ◌∷◌, map, filter, codes, true, false, not, ◌&&◌, Result, OnOk, IfOk, IfErr, nat_eq, refl, ap, ◌∙◌}
+use Rattle.std.proofs.Common.{◌≡◌, ℕ, ℤ, pos, List, [], ◌∷◌, map, filter, codes, true, false, Result, OnOk, IfOk, IfErr, nat_eq, refl, ◌∙◌}
 use Rattle.std.proofs.Math.Nat.{le_refl}
 use Rattle.std.proofs.lemmas.Bool.{or_right, eq-eqb}
 use Rattle.std.specs.List.{AllByRecursion, list_any, list_all}
@@ -20,7 +20,7 @@ use Rattle.sqlite.specs.State.{State, IsLive}
 use Rattle.sqlite.specs.Tree.{Trees}
 use Rattle.sqlite_rules.proofs.ListLemmas.{some_from}
 use Rattle.sqlite_schema.specs.Names.{same_name}
-use Rattle.sqlite_schema.specs.Rules.{agree, guards, has_null, has_parent, is_key_of, references_fit}
+use Rattle.sqlite_schema.specs.Rules.{agree, has_null, has_parent, is_key_of, references_fit}
 use Rattle.sqlite_sql.specs.declared.ops.BinaryOp.TheVariants.{Compare}
 use Rattle.sqlite_sql.specs.declared.ops.CompareOp.TheVariants.{Eq}
 use Rattle.sqlite_tied.specs.Compute.{everything}
@@ -46,14 +46,14 @@ use Rattle.office_tables.proofs.Calls.{on_ok_then}
 use Rattle.office_tables.proofs.Casts.{cast_int, cast_null}
 use Rattle.office_tables.proofs.Queries.{asking, choosing}
 use Rattle.office_tables.proofs.statements.DeleteOf.{delete_leaves, delete_faults}
-use Rattle.office_tables.proofs.Fresh.{any_mapped, next_free}
 use Rattle.office_tables.proofs.InsertCauses.{IsWelcome}
 use Rattle.office_tables.proofs.statements.InsertOf.{insert_puts, insert_faults}
 use Rattle.office_tables.proofs.statements.SelectOf.{select_finds, select_faults}
 use Rattle.office_tables.proofs.Steps.{is_referred_to}
 use Rattle.office_tables.proofs.Tests.{only, both, same_number, by_two_ints}
 use Rattle.office_tables.proofs.statements.OnlyOf.{delete_only}
-use Rattle.office_tables.proofs.numbered.OwnNumbers.{none_numbered, all_numbered, those_left}
+use Rattle.office_tables.proofs.numbered.OwnNumbers.{all_numbered, those_left}
+use Rattle.office_tables.proofs.statements.WelcomeOf.{next_welcome, none_agrees}
 
 -- ---- a permit for a unit that has its row
 
@@ -94,11 +94,6 @@ same_permit : (a b : ℤ × PermitRow) → agree plain (1 ∷ 2 ∷ []) (permit_
 unfolding first_key
 same_permit a b = both (same_number a.1.ticket b.1.ticket) (same_number a.1.unit b.1.unit)
 
-no_other : (v : Version) (db : Trees) (row : Row) → list_any (λ r. agree plain (1 ∷ 2 ∷ []) r (1 ∷ 2 ∷ []) row) (db permit.tree) ≡ false
-    → list_all (λ i. not (guards i permit && list_any (λ r. agree i.order i.columns r i.columns row) (db permit.tree))) (schema v).indexes ≡ true
-no_other Links db row h = rw h refl
-no_other Spans db row h = rw h refl
-
 module _ (old new : State) (p : PermitRow) (v : Version) (has : old.now.schema ≡ schema v) where
   abbrev params : Row
   params = Int (pos p.ticket) ∷ Int (pos p.unit) ∷ Int p.until ∷ []
@@ -114,17 +109,11 @@ module _ (old new : State) (p : PermitRow) (v : Version) (has : old.now.schema �
 
   module _ (ps : List PermitRow) (at : HasNumbered permit_cells (old.now.trees tables.permit.tree) ps) (none : list_any (is_permit p.ticket p.unit) ps ≡ false) (known : HasUnitRow p.unit old.now.trees) where
     welcome : IsWelcome (schema v) old.now.trees permit (permit_cells added)
-    welcome = record {
-      keyed = refl;
-      free = next_free permit_cells (λ x. x.0) (λ _. refl) at.numbered (old.now.trees tables.permit.tree) params at.are at.rise;
-      typed = refl;
-      present = refl;
-      checked = refl;
-      alone = no_other v old.now.trees (permit_cells added) (ap (list_any (λ r. agree plain (1 ∷ 2 ∷ []) r (1 ∷ 2 ∷ []) (permit_cells added))) at.are
-          ∙ any_mapped permit_cells _ (λ (x : ℤ × PermitRow). is_permit p.ticket p.unit x.1) (λ x. same_permit x added) at.numbered ∙ none_numbered permit_cells (old.now.trees tables.permit.tree) ps at (is_permit p.ticket p.unit) none);
-      referred = unit_fits v;
-      parents = has_its_unit v old.now.trees (permit_cells added) p.unit refl known;
-    }
+    welcome =
+        let apart : list_any (λ r. agree plain (1 ∷ 2 ∷ []) r (1 ∷ 2 ∷ []) (permit_cells added)) (old.now.trees permit.tree) ≡ false =
+        none_agrees permit_cells (old.now.trees permit.tree) ps at (1 ∷ 2 ∷ []) (permit_cells added) (is_permit p.ticket p.unit) (λ x. same_permit x added) none in
+        next_welcome v permit permit_cells (λ (p : PermitRow). Int (pos p.ticket) ∷ Int (pos p.unit) ∷ Int p.until ∷ []) (λ _. refl) p ps old.now.trees at (rw apart refl)
+        (record { typed = refl; present = refl; checked = refl; referred = unit_fits v; parents = has_its_unit v old.now.trees (permit_cells added) p.unit refl known })
 
     pub insert_permit_faults : IsUnlimited old → IsLive old → (r : Result Unit StoreFault) → Ran insert_permit_text params old new r → IfErr r (HasCause old new)
     insert_permit_faults = insert_faults v 6 permit refl insert_permit_text insert_permit_terms 4 params (insert_permit_means v) old new has (permit_cells added) news refl welcome

@@ -1,8 +1,8 @@
 -- The statements on the rows of readers: what their texts mean, what they leave or tell, and why they fail.
-use Rattle.std.proofs.Common.{◌≡◌, ◌≤◌, ◌<◌, ◌^◌, ℕ, zero, suc, ℤ, pos, List, [], ◌∷◌, map, filter, length, drop, codes, Bool, true, false, not, ◌&&◌, if◌then◌else◌, ltb, Result, OnOk, IfOk, IfErr, nat_eq, refl, ap, ◌∙◌, arith}
+use Rattle.std.proofs.Common.{◌≡◌, ◌≤◌, ◌<◌, ◌^◌, ℕ, zero, suc, ℤ, pos, List, [], ◌∷◌, map, filter, length, drop, codes, Bool, true, false, if◌then◌else◌, ltb, Result, OnOk, IfOk, IfErr, nat_eq, refl, arith}
 use Rattle.std.proofs.Math.Nat.{le_refl}
 use Rattle.std.proofs.lemmas.Bool.{ltb-true}
-use Rattle.std.specs.List.{list_any, list_all}
+use Rattle.std.specs.List.{list_any}
 use Rattle.sqlite.specs.declared.types.Value.TheVariants.{Null, Int, Text}
 use Rattle.std.specs.Prelude.{IsUtf8}
 use Rattle.std.specs.Cmp.{IsTotalOrder, on_total, int_cmp_total}
@@ -12,7 +12,7 @@ use Rattle.std.specs.declared.cmp.Ordering.{Ordering}
 use Rattle.isad_core.specs.Days.{is_day_number}
 use Rattle.sqlite.specs.Order.{Row, column}
 use Rattle.sqlite.specs.Cast.{cast_row}
-use Rattle.sqlite.specs.Edit.{edit_of, is_taken}
+use Rattle.sqlite.specs.Edit.{edit_of}
 use Rattle.sqlite.specs.Effect.{value_rows}
 use Rattle.sqlite.specs.Rowids.TheVariants.{Chosen}
 use Rattle.sqlite.specs.Term.{Term, lit, col, op2}
@@ -24,7 +24,6 @@ use Rattle.sqlite.specs.Listing.{understood}
 use Rattle.sqlite.specs.State.{State, IsLive}
 use Rattle.sqlite.specs.Tree.{Trees}
 use Rattle.sqlite_schema.specs.Names.{same_name}
-use Rattle.sqlite_schema.specs.Rules.{agree, guards}
 use Rattle.sqlite_sql.specs.declared.ops.BinaryOp.TheVariants.{Compare}
 use Rattle.sqlite_sql.specs.declared.ops.CompareOp.TheVariants.{Eq}
 use Rattle.sqlite_tied.specs.Compute.{everything}
@@ -49,7 +48,6 @@ use Rattle.desk_store.specs.Shows.{IsLegibleReader}
 use Rattle.office_tables.specs.Numbered.{AreCounted}
 use Rattle.desk_store.specs.declared.readers.NamedReader.{NamedReader}
 use Rattle.office_tables.proofs.Casts.{cast_int, cast_null}
-use Rattle.office_tables.proofs.Fresh.{not_there}
 use Rattle.office_tables.proofs.InsertCauses.{IsWelcome}
 use Rattle.office_tables.proofs.Queries.{asking, choosing}
 use Rattle.office_tables.proofs.statements.InsertOf.{insert_puts, insert_faults}
@@ -60,6 +58,7 @@ use Rattle.office_tables.proofs.statements.UpdateOf.{update_leaves, update_fault
 use Rattle.office_tables.proofs.numbered.Counted.{counted_rises}
 use Rattle.office_tables.proofs.statements.LastOf.{last_of, last_finds, last_faults}
 use Rattle.office_tables.proofs.statements.OnlyOf.{update_only}
+use Rattle.office_tables.proofs.statements.WelcomeOf.{number_welcome}
 
 -- ---- a new reader
 
@@ -77,21 +76,9 @@ unfolding understood everything
 insert_reader_means Links = record { is = refl; plain = (refl, refl); whole = (le_refl _, refl, refl); unlisted = refl }
 insert_reader_means Spans = record { is = refl; plain = (refl, refl); whole = (le_refl _, refl, refl); unlisted = refl }
 
-reader_alone : (v : Version) (db : Trees) (row : Row) → list_all (λ i. not (guards i reader && list_any (λ r. agree i.order i.columns r i.columns row) (db tables.reader.tree))) (schema v).indexes ≡ true
-reader_alone Links db row = refl
-reader_alone Spans db row = refl
-
 reader_welcome : (r : ReaderRow) (xs : List ReaderRow) (v : Version) (db : Trees) → db tables.reader.tree ≡ map reader_cells xs → list_any (λ (x : ReaderRow). nat_eq r.ticket x.ticket) xs ≡ false → IsWelcome (schema v) db reader (reader_cells r)
-reader_welcome r xs v db stored none = record {
-  keyed = refl;
-  free = ap (λ rows. is_taken rows (reader_cells r)) stored ∙ not_there reader_cells (λ x. x.ticket) (λ _. refl) r.ticket (reader_cells r) refl xs none;
-  typed = refl;
-  present = refl;
-  checked = refl;
-  alone = reader_alone v db (reader_cells r);
-  referred = refl;
-  parents = refl;
-}
+reader_welcome r xs v db stored none = number_welcome v reader reader_cells (λ x. x.ticket) (λ _. refl) r xs db stored none refl
+    (record { typed = refl; present = refl; checked = refl; referred = refl; parents = refl })
 
 module _ (old new : State) (x : ReaderRow) (v : Version) (has : old.now.schema ≡ schema v) where
   abbrev params : Row

@@ -1,13 +1,13 @@
 -- The statements on the rows of seats: what their texts mean, what they leave or tell, and why they fail.
-use Rattle.std.proofs.Common.{◌≡◌, ◌<◌, ◌^◌, ℕ, pos, List, [], ◌∷◌, map, filter, codes, true, false, not, ◌&&◌, Result, OnOk, IfOk, IfErr, nat_eq, refl, ap, ◌∙◌}
+use Rattle.std.proofs.Common.{◌≡◌, ◌<◌, ◌^◌, ℕ, pos, List, [], ◌∷◌, map, filter, codes, true, false, not, Result, OnOk, IfOk, IfErr, nat_eq, refl, ap, ◌∙◌}
 use Rattle.std.proofs.Math.Nat.{le_refl}
 use Rattle.std.specs.Cmp.{IsTotalOrder, on_total, int_cmp_total}
-use Rattle.std.specs.List.{AllByRecursion, list_any, list_all}
+use Rattle.std.specs.List.{AllByRecursion, list_any}
 use Rattle.std.specs.Ordering.{int_cmp}
 use Rattle.std.specs.declared.cmp.Ordering.{Ordering}
 use Rattle.sqlite.specs.declared.types.Value.TheVariants.{Null, Int}
 use Rattle.sqlite.specs.Order.{Row}
-use Rattle.sqlite.specs.Edit.{edit_of, is_taken}
+use Rattle.sqlite.specs.Edit.{edit_of}
 use Rattle.sqlite.specs.Effect.{value_rows}
 use Rattle.sqlite.specs.Rowids.TheVariants.{Chosen}
 use Rattle.sqlite.specs.Term.{Term, lit, col, op2}
@@ -19,7 +19,7 @@ use Rattle.sqlite.specs.Listing.{understood}
 use Rattle.sqlite.specs.State.{State, IsLive}
 use Rattle.sqlite.specs.Tree.{Trees}
 use Rattle.sqlite_schema.specs.Names.{same_name}
-use Rattle.sqlite_schema.specs.Rules.{agree, guards, references_fit}
+use Rattle.sqlite_schema.specs.Rules.{agree, references_fit}
 use Rattle.sqlite_sql.specs.declared.ops.BinaryOp.TheVariants.{Compare}
 use Rattle.sqlite_sql.specs.declared.ops.CompareOp.TheVariants.{Eq}
 use Rattle.sqlite_tied.specs.Compute.{everything}
@@ -42,13 +42,14 @@ use Rattle.desk_store.specs.declared.seating.TakenSeat.{TakenSeat}
 use Rattle.office_tables.proofs.Casts.{cast_int, cast_null}
 use Rattle.office_tables.proofs.Queries.{asking, choosing}
 use Rattle.office_tables.proofs.statements.DeleteOf.{delete_leaves, delete_faults}
-use Rattle.office_tables.proofs.Fresh.{any_mapped, not_there}
+use Rattle.office_tables.proofs.Fresh.{any_mapped}
 use Rattle.office_tables.proofs.InsertCauses.{IsWelcome}
 use Rattle.office_tables.proofs.statements.InsertOf.{insert_puts, insert_faults}
 use Rattle.office_tables.proofs.statements.SelectOf.{select_finds, select_faults}
 use Rattle.office_tables.proofs.Steps.{is_referred_to}
 use Rattle.office_tables.proofs.Tests.{only, same_number, by_one_int}
 use Rattle.office_tables.proofs.statements.OnlyOf.{delete_only}
+use Rattle.office_tables.proofs.statements.WelcomeOf.{number_welcome}
 
 -- ---- a seat is taken
 
@@ -70,23 +71,12 @@ same_ticket : (a b : SeatRow) → agree plain (2 ∷ []) (seat_cells a) (2 ∷ [
 unfolding first_key
 same_ticket a b = only (same_number a.ticket b.ticket)
 
-seat_alone : (v : Version) (db : Trees) (row : Row) → list_any (λ r. agree plain (2 ∷ []) r (2 ∷ []) row) (db tables.seat.tree) ≡ false
-    → list_all (λ i. not (guards i seat && list_any (λ r. agree i.order i.columns r i.columns row) (db tables.seat.tree))) (schema v).indexes ≡ true
-seat_alone Links db row h = rw h refl
-seat_alone Spans db row h = rw h refl
-
 seat_welcome : (s : SeatRow) (xs : List SeatRow) (v : Version) (db : Trees) → db tables.seat.tree ≡ map seat_cells xs → list_any (λ (x : SeatRow). nat_eq s.seat x.seat) xs ≡ false → list_any (λ (x : SeatRow). nat_eq s.ticket x.ticket) xs ≡ false
     → IsWelcome (schema v) db seat (seat_cells s)
-seat_welcome s xs v db stored none other = record {
-  keyed = refl;
-  free = ap (λ rows. is_taken rows (seat_cells s)) stored ∙ not_there seat_cells (λ x. x.seat) (λ _. refl) s.seat (seat_cells s) refl xs none;
-  typed = refl;
-  present = refl;
-  checked = refl;
-  alone = seat_alone v db (seat_cells s) (ap (list_any (λ r. agree plain (2 ∷ []) r (2 ∷ []) (seat_cells s))) stored ∙ any_mapped seat_cells _ (λ (x : SeatRow). nat_eq s.ticket x.ticket) (λ a. same_ticket a s) xs ∙ other);
-  referred = refl;
-  parents = refl;
-}
+seat_welcome s xs v db stored none other =
+    let apart : list_any (λ r. agree plain (2 ∷ []) r (2 ∷ []) (seat_cells s)) (db tables.seat.tree) ≡ false =
+    ap (list_any (λ r. agree plain (2 ∷ []) r (2 ∷ []) (seat_cells s))) stored ∙ any_mapped seat_cells _ (λ (x : SeatRow). nat_eq s.ticket x.ticket) (λ a. same_ticket a s) xs ∙ other in
+    number_welcome v seat seat_cells (λ x. x.seat) (λ _. refl) s xs db stored none (rw apart refl) (record { typed = refl; present = refl; checked = refl; referred = refl; parents = refl })
 
 module _ (old new : State) (s : SeatRow) (v : Version) (has : old.now.schema ≡ schema v) where
   abbrev params : Row

@@ -6,3 +6,4 @@ pub mod SelectOf
 pub mod OnlyOf
 pub mod LastOf
 pub mod CountOf
+pub mod WelcomeOf
