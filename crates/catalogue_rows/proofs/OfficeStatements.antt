@@ -16,14 +16,13 @@ use Rattle.sqlite.specs.Command.TheVariants.{Update, Select}
 use Rattle.sqlite.specs.Listing.{understood}
 use Rattle.sqlite.specs.State.{State, Shown, IsLive}
 use Rattle.sqlite.proofs.Callers.{reads_as, one_permutation}
-use Rattle.sqlite_schema.specs.Names.{same_name}
 use Rattle.sqlite_schema.specs.declared.program.Program.{Program}
 use Rattle.sqlite_sql.specs.declared.ops.BinaryOp.TheVariants.{Compare}
 use Rattle.sqlite_sql.specs.declared.ops.CompareOp.TheVariants.{Eq}
 use Rattle.sqlite_tied.specs.Compute.{everything}
 use Rattle.sqlite_typing.specs.Types.{accepts_program}
 use Rattle.sqlite_value.specs.declared.keys.Key.{Key}
-use Rattle.sqlite_value.specs.Keys.{ascending, joined}
+use Rattle.sqlite_value.specs.Keys.{ascending}
 use Rattle.tree_core.specs.Versions.{Version, Links, Spans, version_number}
 use Rattle.office_tables.specs.Asking.{Finds, Misses}
 use Rattle.office_tables.specs.Changing.{Ran}
@@ -45,8 +44,8 @@ use Rattle.office_tables.proofs.RowReads.{all_caused}
 use Rattle.office_tables.proofs.Rows.{kept_all}
 use Rattle.office_tables.proofs.statements.SelectOf.{select_finds, select_faults}
 use Rattle.office_tables.proofs.Tests.{only, same_number, by_one_int}
-use Rattle.office_tables.proofs.UpdateCauses.{KeepsTable}
 use Rattle.office_tables.proofs.statements.UpdateOf.{update_leaves, update_faults}
+use Rattle.office_tables.proofs.statements.LeafOf.{office_kept}
 
 -- what a row of the table tells: the version, and the rest
 abbrev Telling : Type 0
@@ -73,11 +72,6 @@ pub set_next_means : (v : Version) → Means v set_next_text 1 set_next_command
 unfolding understood everything
 set_next_means Links = record { is = refl; plain = (refl, refl); whole = (le_refl _, refl, refl); unlisted = refl }
 set_next_means Spans = record { is = refl; plain = (refl, refl); whole = (le_refl _, refl, refl); unlisted = refl }
-
-office_kept : (v : Version) → KeepsTable (λ _. false) (schema v) 7 office
-unfolding joined same_name
-office_kept Links = record { listed = refl; apart = refl; spared = refl; fits = refl }
-office_kept Spans = record { listed = refl; apart = refl; spared = refl; fits = refl }
 
 module _ (old new : State) (next : ℕ) (v : Version) (has : old.now.schema ≡ schema v) (version : Version) (o : OfficeRow) (stored : old.now.trees office.tree ≡ office_row version o ∷ [])
     (r : Result Unit StoreFault) (ran : Ran set_next_text (Int (pos next) ∷ []) old new r) where

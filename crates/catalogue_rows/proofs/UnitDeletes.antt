@@ -48,16 +48,12 @@ use Rattle.catalogue_rows.proofs.HousingStatements.{housing_alone}
 use Rattle.catalogue_rows.proofs.Moves.{other_number}
 use Rattle.office_tables.proofs.Queries.{choosing, chosen}
 use Rattle.office_tables.proofs.Rows.{tests as tests_of}
-use Rattle.office_tables.proofs.Steps.{DeletedWith, deleted_with, is_referred_to}
+use Rattle.office_tables.proofs.Steps.{DeletedWith, deleted_with}
 use Rattle.office_tables.proofs.Tests.{only, same_number, same_nat}
 use Rattle.office_tables.proofs.Updates.{deletes_rows}
 use Rattle.catalogue_rows.proofs.Without.{without_one}
 use Rattle.office_tables.proofs.Touching.{touched, touched_then, touched_wider}
-
-pub permit_alone : (v : Version) → is_referred_to (schema v) tables.permit.tree ≡ false
-unfolding joined same_name
-permit_alone Links = refl
-permit_alone Spans = refl
+use Rattle.office_tables.proofs.statements.LeafOf.{permit_alone}
 
 abbrev pub remove_unit_text : List ℕ
 remove_unit_text = codes "DELETE FROM unit WHERE id = ?1"

@@ -55,7 +55,8 @@ use Rattle.catalogue_rows.proofs.Moves.{id_of}
 use Rattle.catalogue_rows.proofs.Removals.{all_kept, still_listed}
 use Rattle.office_tables.proofs.Steps.{DeletedWith, is_referred_to, wrote}
 use Rattle.office_tables.proofs.Tests.{only, same_number}
-use Rattle.catalogue_rows.proofs.UnitDeletes.{keep, permit_alone, remove_unit_text, remove_unit_program, remove_unit_command, remove_unit_removes, shown_units, strict, the_one}
+use Rattle.office_tables.proofs.statements.LeafOf.{permit_fits, permit_alone}
+use Rattle.catalogue_rows.proofs.UnitDeletes.{keep, remove_unit_text, remove_unit_program, remove_unit_command, remove_unit_removes, shown_units, strict, the_one}
 
 -- ---- the tables after some units are gone
 
@@ -168,11 +169,6 @@ unit_fits : (v : Version) → references_fit (schema v) unit false true ≡ true
 unfolding joined same_name
 unit_fits Links = refl
 unit_fits Spans = refl
-
-permit_fits : (v : Version) → references_fit (schema v) permit false true ≡ true
-unfolding joined same_name
-permit_fits Links = refl
-permit_fits Spans = refl
 
 leaf : (v : Version) (child : Table) (place : ℕ) (moves : List (Row × Row)) → is_referred_to (schema v) child.tree ≡ false → references_fit (schema v) child false true ≡ true
     → IsLeaf (schema v) (record { depth = 0; child = child; ref = to_unit place; places = 0 ∷ []; order = plain; deed = Delete; moves = moves })

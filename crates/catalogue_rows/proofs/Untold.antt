@@ -88,7 +88,7 @@ not_nought (c ∷ cs) b h = elim (cases_Bool (is_same c b)) [
     later None h = let e : ◌≡◌ {A = Option ℕ} None (Some 0) = h in cc
     later (Some n) h = let e : Some (suc n) ≡ Some 0 = h in cc
 
-one_less : (o : Option ℕ) (n : ℕ) → option_map suc o ≡ Some n → (m : ℕ) × (o ≡ Some m) × (n ≡ suc m)
+pub one_less : (o : Option ℕ) (n : ℕ) → option_map suc o ≡ Some n → (m : ℕ) × (o ≡ Some m) × (n ≡ suc m)
 one_less None n h = absurd (let e : ◌≡◌ {A = Option ℕ} None (Some n) = h in cc)
 one_less (Some m) n h = (m, refl, let e : Some (suc m) ≡ Some n = h in cc)
 

@@ -10,12 +10,9 @@ use Rattle.sqlite.specs.Command.{Command}
 use Rattle.sqlite.specs.Command.TheVariants.{Update, Delete}
 use Rattle.sqlite.specs.Listing.{understood}
 use Rattle.sqlite.specs.State.{State, IsLive}
-use Rattle.sqlite_schema.specs.Names.{same_name}
-use Rattle.sqlite_schema.specs.Rules.{references_fit}
 use Rattle.sqlite_sql.specs.declared.ops.BinaryOp.TheVariants.{Compare}
 use Rattle.sqlite_sql.specs.declared.ops.CompareOp.TheVariants.{Eq}
 use Rattle.sqlite_tied.specs.Compute.{everything}
-use Rattle.sqlite_value.specs.Keys.{joined}
 use Rattle.tree_core.specs.Versions.{Version, Links, Spans}
 use Rattle.desk_core.specs.DeskRows.{SeatRow}
 use Rattle.office_tables.specs.Changing.{Ran}
@@ -31,11 +28,10 @@ use Rattle.office_tables.specs.Numbered.{AreByNumber}
 use Rattle.office_tables.proofs.Casts.{cast_int, cast_null}
 use Rattle.office_tables.proofs.Queries.{choosing}
 use Rattle.office_tables.proofs.statements.DeleteOf.{delete_leaves, delete_faults}
-use Rattle.office_tables.proofs.Steps.{is_referred_to}
 use Rattle.office_tables.proofs.Tests.{only, same_number}
-use Rattle.office_tables.proofs.UpdateCauses.{KeepsTable}
 use Rattle.office_tables.proofs.statements.UpdateOf.{update_leaves, update_faults}
 use Rattle.office_tables.proofs.statements.OnlyOf.{delete_only, update_only}
+use Rattle.office_tables.proofs.statements.LeafOf.{seat_alone, office_kept, seat_fits}
 
 -- ---- all seats become free
 
@@ -50,16 +46,6 @@ unfolding understood everything
 free_means Links = record { is = refl; plain = (refl, refl); whole = (le_refl _, refl, refl); unlisted = refl }
 free_means Spans = record { is = refl; plain = (refl, refl); whole = (le_refl _, refl, refl); unlisted = refl }
 
-unreferred : (v : Version) → is_referred_to (schema v) tables.seat.tree ≡ false
-unfolding joined same_name
-unreferred Links = refl
-unreferred Spans = refl
-
-fits : (v : Version) → references_fit (schema v) seat false true ≡ true
-unfolding joined same_name
-fits Links = refl
-fits Spans = refl
-
 none_kept : (xs : List SeatRow) → filter (λ _. false) xs ≡ []
 none_kept [] = refl
 none_kept (x ∷ xs) = none_kept xs
@@ -68,14 +54,14 @@ module _ (old new : State) (v : Version) (has : old.now.schema ≡ schema v) (r 
   pub free_leaves : (xs : List SeatRow) → Holds seat seat_cells old xs → AreByNumber (λ (s : SeatRow). s.seat) xs → OnOk r (HasRows tables.seat.tree [] old.now new.now)
   free_leaves xs stored up =
       subst (λ (kept : List SeatRow). OnOk r (HasRows tables.seat.tree (map seat_cells kept) old.now new.now)) (none_kept xs)
-      (delete_leaves v 1 seat refl (unreferred v) free_text [] (col 1 0 ∷ []) [] (free_means v) old new has seat_cells (λ s. pos s.seat) (λ _. refl) xs stored up
+      (delete_leaves v 1 seat refl (seat_alone v) free_text [] (col 1 0 ∷ []) [] (free_means v) old new has seat_cells (λ s. pos s.seat) (λ _. refl) xs stored up
       (λ (s : SeatRow). true) (λ _. refl) (λ s. Int (pos s.seat) ∷ []) (λ _. refl) (λ _. refl) r ran)
 
   pub free_only : OnOk r (OnlyTouches (tables.seat.tree ∷ []) old.now new.now)
-  free_only = delete_only v 1 seat refl free_text _ [] old new has (unreferred v) (free_means v) r ran
+  free_only = delete_only v 1 seat refl free_text _ [] old new has (seat_alone v) (free_means v) r ran
 
   pub free_faults : IsUnlimited old → IsLive old → IfErr r (HasCause old new)
-  free_faults free live = delete_faults v 1 seat refl (unreferred v) free_text [] (col 1 0 ∷ []) [] (free_means v) old new has (fits v) refl free live r ran
+  free_faults free live = delete_faults v 1 seat refl (seat_alone v) free_text [] (col 1 0 ∷ []) [] (free_means v) old new has (seat_fits v) refl free live r ran
 
 -- ---- the day
 
@@ -95,11 +81,6 @@ pub set_day_means : (v : Version) → Means v set_day_text 1 set_day_command
 unfolding understood everything
 set_day_means Links = record { is = refl; plain = (refl, refl); whole = (le_refl _, refl, refl); unlisted = refl }
 set_day_means Spans = record { is = refl; plain = (refl, refl); whole = (le_refl _, refl, refl); unlisted = refl }
-
-office_kept : (v : Version) → KeepsTable (λ _. false) (schema v) 7 office
-unfolding joined same_name
-office_kept Links = record { listed = refl; apart = refl; spared = refl; fits = refl }
-office_kept Spans = record { listed = refl; apart = refl; spared = refl; fits = refl }
 
 module _ (old new : State) (day : ℤ) (v : Version) (has : old.now.schema ≡ schema v) (r : Result Unit StoreFault) (ran : Ran set_day_text (Int day ∷ []) old new r) where
   pub set_day_only : OnOk r (OnlyTouches (tables.office.tree ∷ []) old.now new.now)

@@ -20,7 +20,7 @@ use Rattle.sqlite.specs.State.{State, IsLive}
 use Rattle.sqlite.specs.Tree.{Trees}
 use Rattle.sqlite_rules.proofs.ListLemmas.{some_from}
 use Rattle.sqlite_schema.specs.Names.{same_name}
-use Rattle.sqlite_schema.specs.Rules.{agree, has_null, has_parent, is_key_of, references_fit}
+use Rattle.sqlite_schema.specs.Rules.{agree, has_null, has_parent, is_key_of}
 use Rattle.sqlite_sql.specs.declared.ops.BinaryOp.TheVariants.{Compare}
 use Rattle.sqlite_sql.specs.declared.ops.CompareOp.TheVariants.{Eq}
 use Rattle.sqlite_tied.specs.Compute.{everything}
@@ -49,11 +49,11 @@ use Rattle.office_tables.proofs.statements.DeleteOf.{delete_leaves, delete_fault
 use Rattle.office_tables.proofs.InsertCauses.{IsWelcome}
 use Rattle.office_tables.proofs.statements.InsertOf.{insert_puts, insert_faults}
 use Rattle.office_tables.proofs.statements.SelectOf.{select_finds, select_faults}
-use Rattle.office_tables.proofs.Steps.{is_referred_to}
 use Rattle.office_tables.proofs.Tests.{only, both, same_number, by_two_ints}
 use Rattle.office_tables.proofs.statements.OnlyOf.{delete_only}
 use Rattle.office_tables.proofs.numbered.OwnNumbers.{all_numbered, those_left}
 use Rattle.office_tables.proofs.statements.WelcomeOf.{next_welcome, none_agrees}
+use Rattle.office_tables.proofs.statements.LeafOf.{permit_alone, permit_fits}
 
 -- ---- a permit for a unit that has its row
 
@@ -134,29 +134,19 @@ unfolding understood everything
 clear_permit_means Links = record { is = refl; plain = (refl, refl); whole = (le_refl _, refl, refl); unlisted = refl }
 clear_permit_means Spans = record { is = refl; plain = (refl, refl); whole = (le_refl _, refl, refl); unlisted = refl }
 
-permit_unreferred : (v : Version) → is_referred_to (schema v) tables.permit.tree ≡ false
-unfolding joined same_name
-permit_unreferred Links = refl
-permit_unreferred Spans = refl
-
-permit_fits : (v : Version) → references_fit (schema v) permit false true ≡ true
-unfolding joined same_name
-permit_fits Links = refl
-permit_fits Spans = refl
-
 module _ (old new : State) (t u : ℕ) (v : Version) (has : old.now.schema ≡ schema v) (r : Result Unit StoreFault) (ran : Ran clear_permit_text (Int (pos t) ∷ Int (pos u) ∷ []) old new r) where
   pub clear_permit_leaves : (ps : List PermitRow) → HasNumbered permit_cells (old.now.trees tables.permit.tree) ps → OnOk r (HasNumbered permit_cells (new.now.trees tables.permit.tree) (without_permit t u ps))
   clear_permit_leaves ps at =
       on_ok_then r _ _ (λ has. those_left permit_cells (old.now.trees tables.permit.tree) (new.now.trees tables.permit.tree) ps at (is_permit t u) has.are)
-      (delete_leaves v 6 permit refl (permit_unreferred v) clear_permit_text of_both (col 1 0 ∷ []) (Int (pos t) ∷ Int (pos u) ∷ []) (clear_permit_means v) old new has permit_cells (λ x. x.0) (λ _. refl) at.numbered at.are at.rise
+      (delete_leaves v 6 permit refl (permit_alone v) clear_permit_text of_both (col 1 0 ∷ []) (Int (pos t) ∷ Int (pos u) ∷ []) (clear_permit_means v) old new has permit_cells (λ x. x.0) (λ _. refl) at.numbered at.are at.rise
       (λ (x : ℤ × PermitRow). is_permit t u x.1) (λ x. both (same_number x.1.ticket t) (same_number x.1.unit u)) (λ (x : ℤ × PermitRow). Int x.0 ∷ []) (λ _. refl) (λ _. refl) r ran)
 
   pub clear_permit_only : OnOk r (OnlyTouches (tables.permit.tree ∷ []) old.now new.now)
-  clear_permit_only = delete_only v 6 permit refl clear_permit_text _ (Int (pos t) ∷ Int (pos u) ∷ []) old new has (permit_unreferred v) (clear_permit_means v) r ran
+  clear_permit_only = delete_only v 6 permit refl clear_permit_text _ (Int (pos t) ∷ Int (pos u) ∷ []) old new has (permit_alone v) (clear_permit_means v) r ran
 
   pub clear_permit_faults : IsUnlimited old → IsLive old → IfErr r (HasCause old new)
   clear_permit_faults free live =
-      delete_faults v 6 permit refl (permit_unreferred v) clear_permit_text of_both (col 1 0 ∷ []) (Int (pos t) ∷ Int (pos u) ∷ []) (clear_permit_means v) old new has (permit_fits v) refl free live r ran
+      delete_faults v 6 permit refl (permit_alone v) clear_permit_text of_both (col 1 0 ∷ []) (Int (pos t) ∷ Int (pos u) ∷ []) (clear_permit_means v) old new has (permit_fits v) refl free live r ran
 
 -- ---- the permits of a ticket
 

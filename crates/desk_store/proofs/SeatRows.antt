@@ -18,13 +18,12 @@ use Rattle.sqlite.specs.Source.TheVariants.{Values}
 use Rattle.sqlite.specs.Listing.{understood}
 use Rattle.sqlite.specs.State.{State, IsLive}
 use Rattle.sqlite.specs.Tree.{Trees}
-use Rattle.sqlite_schema.specs.Names.{same_name}
-use Rattle.sqlite_schema.specs.Rules.{agree, references_fit}
+use Rattle.sqlite_schema.specs.Rules.{agree}
 use Rattle.sqlite_sql.specs.declared.ops.BinaryOp.TheVariants.{Compare}
 use Rattle.sqlite_sql.specs.declared.ops.CompareOp.TheVariants.{Eq}
 use Rattle.sqlite_tied.specs.Compute.{everything}
 use Rattle.sqlite_value.specs.declared.keys.Key.{Key}
-use Rattle.sqlite_value.specs.Keys.{ascending, joined, first_key, plain}
+use Rattle.sqlite_value.specs.Keys.{ascending, first_key, plain}
 use Rattle.tree_core.specs.Versions.{Version, Links, Spans}
 use Rattle.desk_core.specs.DeskRows.{SeatRow}
 use Rattle.office_tables.specs.Asking.{Finds, Misses}
@@ -46,10 +45,10 @@ use Rattle.office_tables.proofs.Fresh.{any_mapped}
 use Rattle.office_tables.proofs.InsertCauses.{IsWelcome}
 use Rattle.office_tables.proofs.statements.InsertOf.{insert_puts, insert_faults}
 use Rattle.office_tables.proofs.statements.SelectOf.{select_finds, select_faults}
-use Rattle.office_tables.proofs.Steps.{is_referred_to}
 use Rattle.office_tables.proofs.Tests.{only, same_number, by_one_int}
 use Rattle.office_tables.proofs.statements.OnlyOf.{delete_only}
 use Rattle.office_tables.proofs.statements.WelcomeOf.{number_welcome}
+use Rattle.office_tables.proofs.statements.LeafOf.{seat_alone, seat_fits}
 
 -- ---- a seat is taken
 
@@ -109,28 +108,18 @@ unfolding understood everything
 clear_seat_means Links = record { is = refl; plain = (refl, refl); whole = (le_refl _, refl, refl); unlisted = refl }
 clear_seat_means Spans = record { is = refl; plain = (refl, refl); whole = (le_refl _, refl, refl); unlisted = refl }
 
-seat_unreferred : (v : Version) → is_referred_to (schema v) tables.seat.tree ≡ false
-unfolding joined same_name
-seat_unreferred Links = refl
-seat_unreferred Spans = refl
-
-seat_fits : (v : Version) → references_fit (schema v) seat false true ≡ true
-unfolding joined same_name
-seat_fits Links = refl
-seat_fits Spans = refl
-
 module _ (old new : State) (n : ℕ) (v : Version) (has : old.now.schema ≡ schema v) (r : Result Unit StoreFault) (ran : Ran clear_seat_text (Int (pos n) ∷ []) old new r) where
   pub clear_seat_leaves : (xs : List SeatRow) → Holds seat seat_cells old xs → AreByNumber (λ (s : SeatRow). s.seat) xs → OnOk r (HasRows tables.seat.tree (map seat_cells (filter (λ (s : SeatRow). not (nat_eq n s.seat)) xs)) old.now new.now)
   clear_seat_leaves xs stored up =
-      delete_leaves v 1 seat refl (seat_unreferred v) clear_seat_text with_its_number (col 1 0 ∷ []) (Int (pos n) ∷ []) (clear_seat_means v) old new has seat_cells (λ s. pos s.seat) (λ _. refl) xs stored up
+      delete_leaves v 1 seat refl (seat_alone v) clear_seat_text with_its_number (col 1 0 ∷ []) (Int (pos n) ∷ []) (clear_seat_means v) old new has seat_cells (λ s. pos s.seat) (λ _. refl) xs stored up
       (λ (s : SeatRow). nat_eq n s.seat) (λ s. only (same_number s.seat n)) (λ s. Int (pos s.seat) ∷ []) (λ _. refl) (λ _. refl) r ran
 
   pub clear_seat_only : OnOk r (OnlyTouches (tables.seat.tree ∷ []) old.now new.now)
-  clear_seat_only = delete_only v 1 seat refl clear_seat_text _ (Int (pos n) ∷ []) old new has (seat_unreferred v) (clear_seat_means v) r ran
+  clear_seat_only = delete_only v 1 seat refl clear_seat_text _ (Int (pos n) ∷ []) old new has (seat_alone v) (clear_seat_means v) r ran
 
   pub clear_seat_faults : IsUnlimited old → IsLive old → IfErr r (HasCause old new)
   clear_seat_faults free live =
-      delete_faults v 1 seat refl (seat_unreferred v) clear_seat_text with_its_number (col 1 0 ∷ []) (Int (pos n) ∷ []) (clear_seat_means v) old new has (seat_fits v) refl free live r ran
+      delete_faults v 1 seat refl (seat_alone v) clear_seat_text with_its_number (col 1 0 ∷ []) (Int (pos n) ∷ []) (clear_seat_means v) old new has (seat_fits v) refl free live r ran
 
 -- ---- the seats that are taken
 

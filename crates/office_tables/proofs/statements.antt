@@ -7,3 +7,4 @@ pub mod OnlyOf
 pub mod LastOf
 pub mod CountOf
 pub mod WelcomeOf
+pub mod LeafOf
