@@ -16,9 +16,10 @@ use Rattle.catalogue_core.specs.Merging.{box_number}
 use Rattle.office_tables.specs.Order.{Rises}
 use Rattle.catalogue_rows.specs.Rows.{counted_from}
 use Rattle.catalogue_rows.specs.Shows.{texts_from, element_number, element_cells, housing_cells}
-use Rattle.catalogue_rows.proofs.Numbered.{below_less, counted_rises}
+use Rattle.catalogue_rows.proofs.Numbered.{counted_rises}
 use Rattle.office_tables.proofs.Rows.{had}
 use Rattle.office_tables.proofs.Sorted.{only_order}
+use Rattle.office_tables.proofs.numbered.Counted.{below_less}
 
 module _ {B : Type 0} where
   -- by the number of the cell

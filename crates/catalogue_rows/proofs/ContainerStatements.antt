@@ -1,17 +1,17 @@
 -- The statements on the containers: what their texts mean, what they leave or tell, and why they fail.
-use Rattle.std.proofs.Common.{◌≡◌, ℕ, pos, List, [], ◌∷◌, map, filter, take, codes, true, false, not, ◌&&◌, Result, OnOk, IfOk, IfErr, Ordering, nat_eq, refl, sym, ap, ap₂, subst, ◌∙◌}
+use Rattle.std.proofs.Common.{◌≡◌, ℕ, pos, List, [], ◌∷◌, map, filter, take, codes, true, false, ◌&&◌, Result, OnOk, IfOk, IfErr, Ordering, nat_eq, refl, sym, ap, ap₂, subst, ◌∙◌}
 use Rattle.std.proofs.Math.Nat.{le_refl}
 use Rattle.std.proofs.lemmas.List.{take-map}
 use Rattle.std.proofs.lemmas.Result.{IfOk-weaker}
 use Rattle.std.specs.Bool.{⊤}
-use Rattle.std.specs.List.{AllByRecursion, list_any, list_all}
+use Rattle.std.specs.List.{AllByRecursion, list_any}
 use Rattle.std.specs.Ordering.{int_cmp}
 use Rattle.isad_core.specs.Legible.{IsLegibleBox}
 use Rattle.isad_core.specs.declared.values.BoxKey.{BoxKey}
 use Rattle.isad_core.specs.Boxes.{is_same}
 use Rattle.sqlite.specs.declared.types.Value.TheVariants.{Null, Int, Text}
 use Rattle.sqlite.specs.Order.{Row}
-use Rattle.sqlite.specs.Edit.{edit_of, is_taken}
+use Rattle.sqlite.specs.Edit.{edit_of}
 use Rattle.sqlite.specs.Effect.{value_rows}
 use Rattle.sqlite.specs.Rowids.TheVariants.{Chosen}
 use Rattle.sqlite.specs.Term.{Term, lit, col, op2}
@@ -22,9 +22,8 @@ use Rattle.sqlite.specs.Command.TheVariants.{Insert, Select}
 use Rattle.sqlite.specs.Source.TheVariants.{Values}
 use Rattle.sqlite.specs.Listing.{understood}
 use Rattle.sqlite.specs.State.{State, Shown, IsLive}
-use Rattle.sqlite.specs.Tree.{Trees}
 use Rattle.sqlite.proofs.Callers.{reads_as}
-use Rattle.sqlite_schema.specs.Rules.{agree, guards}
+use Rattle.sqlite_schema.specs.Rules.{agree}
 use Rattle.sqlite_schema.specs.declared.program.Program.{Program}
 use Rattle.sqlite_sql.specs.declared.ops.BinaryOp.TheVariants.{Compare}
 use Rattle.sqlite_sql.specs.declared.ops.CompareOp.TheVariants.{Eq}
@@ -45,14 +44,16 @@ use Rattle.office_tables.specs.declared.fault.StoreFault.{StoreFault}
 use Rattle.catalogue_rows.specs.Rows.{container_row, by_container}
 use Rattle.office_tables.proofs.Casts.{cast_int, cast_null}
 use Rattle.office_tables.proofs.Causes.{read_cause, none_refuse, sums_nothing}
-use Rattle.office_tables.proofs.Fresh.{any_mapped, not_there}
+use Rattle.office_tables.proofs.Fresh.{any_mapped}
 use Rattle.office_tables.proofs.InsertCauses.{IsWelcome}
+use Rattle.office_tables.proofs.Queries.{asking}
 use Rattle.office_tables.proofs.statements.InsertOf.{insert_puts, insert_faults}
 use Rattle.office_tables.proofs.Limits.{limited_query, first_answers}
 use Rattle.office_tables.proofs.RowReads.{all_caused}
 use Rattle.office_tables.proofs.Rows.{kept_all}
-use Rattle.office_tables.proofs.statements.SelectOf.{asking, select_finds, select_faults}
+use Rattle.office_tables.proofs.statements.SelectOf.{select_finds, select_faults}
 use Rattle.office_tables.proofs.Tests.{only, both, same_number, same_bytes, by_one_int}
+use Rattle.office_tables.proofs.statements.WelcomeOf.{number_welcome}
 
 -- a container under its number
 abbrev Numbered : Type 0
@@ -84,11 +85,6 @@ same_container : (m n : ℕ) (a b : BoxKey) → agree plain (2 ∷ 3 ∷ 4 ∷ [
 unfolding first_key
 same_container m n a b = ap₂ ◌&&◌ (same_bytes a.name b.name) (both (same_bytes a.location b.location) (same_bytes a.kind b.kind))
 
-no_other : (v : Version) (db : Trees) (row : Row) → list_any (λ r. agree plain (2 ∷ 3 ∷ 4 ∷ []) r (2 ∷ 3 ∷ 4 ∷ []) row) (db container.tree) ≡ false
-    → list_all (λ i. not (guards i container && list_any (λ r. agree i.order i.columns r i.columns row) (db container.tree))) (schema v).indexes ≡ true
-no_other Links db row h = rw h refl
-no_other Spans db row h = rw h refl
-
 module _ (old new : State) (n : ℕ) (b : BoxKey) (v : Version) (has : old.now.schema ≡ schema v) where
   abbrev params : Row
   params = Int (pos n) ∷ Text b.name ∷ Text b.location ∷ Text b.kind ∷ []
@@ -101,17 +97,10 @@ module _ (old new : State) (n : ℕ) (b : BoxKey) (v : Version) (has : old.now.s
 
   module _ (xs : List Numbered) (stored : Holds container container_row old xs) (none : list_any (λ (c : Numbered). nat_eq n c.0) xs ≡ false) (other : list_any (λ (c : Numbered). is_same c.1 b) xs ≡ false) where
     welcome : IsWelcome (schema v) old.now.trees container (container_row (n, b))
-    welcome = record {
-      keyed = refl;
-      free = ap (λ rows. is_taken rows (container_row (n, b))) stored ∙ not_there container_row (λ c. c.0) (λ _. refl) n (container_row (n, b)) refl xs none;
-      typed = refl;
-      present = refl;
-      checked = refl;
-      alone = no_other v old.now.trees (container_row (n, b)) (ap (list_any (λ r. agree plain (2 ∷ 3 ∷ 4 ∷ []) r (2 ∷ 3 ∷ 4 ∷ []) (container_row (n, b)))) stored
-          ∙ any_mapped container_row _ (λ (c : Numbered). is_same c.1 b) (λ c. same_container c.0 n c.1 b) xs ∙ other);
-      referred = refl;
-      parents = refl;
-    }
+    welcome =
+        let apart : list_any (λ r. agree plain (2 ∷ 3 ∷ 4 ∷ []) r (2 ∷ 3 ∷ 4 ∷ []) (container_row (n, b))) (old.now.trees container.tree) ≡ false =
+        ap (list_any (λ r. agree plain (2 ∷ 3 ∷ 4 ∷ []) r (2 ∷ 3 ∷ 4 ∷ []) (container_row (n, b)))) stored ∙ any_mapped container_row _ (λ (c : Numbered). is_same c.1 b) (λ c. same_container c.0 n c.1 b) xs ∙ other in
+        number_welcome v container container_row (λ c. c.0) (λ _. refl) (n, b) xs old.now.trees stored none (rw apart refl) (record { typed = refl; present = refl; checked = refl; referred = refl; parents = refl })
 
     pub insert_container_faults : IsUnlimited old → IsLive old → (r : Result Unit StoreFault) → Ran insert_container_text params old new r → IfErr r (HasCause old new)
     insert_container_faults = insert_faults v 10 container refl insert_container_text insert_container_terms 5 params (insert_container_means v) old new has (container_row (n, b)) news refl welcome

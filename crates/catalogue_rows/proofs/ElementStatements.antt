@@ -20,7 +20,7 @@ use Rattle.sqlite.specs.Listing.{understood}
 use Rattle.sqlite.specs.State.{State, IsLive}
 use Rattle.sqlite.specs.Tree.{Trees}
 use Rattle.sqlite_schema.specs.Names.{same_name}
-use Rattle.sqlite_schema.specs.Rules.{agree, guards, has_null, has_parent, is_key_of, references_fit}
+use Rattle.sqlite_schema.specs.Rules.{agree, has_null, has_parent, is_key_of, references_fit}
 use Rattle.sqlite_sql.specs.declared.ops.BinaryOp.TheVariants.{Compare}
 use Rattle.sqlite_sql.specs.declared.ops.CompareOp.TheVariants.{Eq}
 use Rattle.sqlite_tied.specs.Compute.{everything}
@@ -42,16 +42,18 @@ use Rattle.catalogue_rows.specs.Rows.{unit_row, ElementRow, element_row, by_elem
 use Rattle.catalogue_rows.specs.declared.answer.Element.{Element}
 use Rattle.sqlite_trees.proofs.ListLemmas.{map-map}
 use Rattle.office_tables.proofs.Calls.{on_ok_then}
-use Rattle.office_tables.proofs.numbered.OwnNumbers.{none_numbered, all_numbered, kept_ordered, those_left}
+use Rattle.office_tables.proofs.numbered.OwnNumbers.{all_numbered, kept_ordered, those_left}
 use Rattle.office_tables.proofs.Casts.{cast_int, cast_null}
-use Rattle.office_tables.proofs.statements.DeleteOf.{removing, delete_leaves, delete_faults}
-use Rattle.office_tables.proofs.Fresh.{any_mapped, next_free}
+use Rattle.office_tables.proofs.Queries.{asking, choosing}
+use Rattle.office_tables.proofs.statements.DeleteOf.{delete_leaves, delete_faults}
+use Rattle.office_tables.proofs.Fresh.{any_mapped}
 use Rattle.office_tables.proofs.InsertCauses.{IsWelcome}
 use Rattle.office_tables.proofs.statements.InsertOf.{insert_puts, insert_faults}
 use Rattle.office_tables.proofs.statements.OnlyOf.{delete_only}
-use Rattle.office_tables.proofs.statements.SelectOf.{asking, select_finds, select_faults}
+use Rattle.office_tables.proofs.statements.SelectOf.{select_finds, select_faults}
 use Rattle.office_tables.proofs.Steps.{is_referred_to}
 use Rattle.office_tables.proofs.Tests.{only, both, same_number, by_two_ints}
+use Rattle.office_tables.proofs.statements.WelcomeOf.{next_welcome, none_agrees}
 
 -- ---- rows that go with a unit
 
@@ -102,11 +104,6 @@ same_element : (a b : ℤ × ElementRow) → agree plain (1 ∷ 2 ∷ []) (eleme
 unfolding first_key
 same_element a b = both (same_number a.1.unit b.1.unit) (same_number a.1.k b.1.k)
 
-no_other : (v : Version) (db : Trees) (row : Row) → list_any (λ r. agree plain (1 ∷ 2 ∷ []) r (1 ∷ 2 ∷ []) row) (db element.tree) ≡ false
-    → list_all (λ i. not (guards i element && list_any (λ r. agree i.order i.columns r i.columns row) (db element.tree))) (schema v).indexes ≡ true
-no_other Links db row h = rw h refl
-no_other Spans db row h = rw h refl
-
 module _ (old new : State) (unit_id k : ℕ) (value : Bytes) (v : Version) (has : old.now.schema ≡ schema v) where
   abbrev params : Row
   params = Int (pos unit_id) ∷ Int (pos k) ∷ Text value ∷ []
@@ -122,18 +119,11 @@ module _ (old new : State) (unit_id k : ℕ) (value : Bytes) (v : Version) (has 
 
   module _ (known : HasUnit old.now.trees unit_id) (xs : List ElementRow) (at : AreElements old.now.trees xs) (none : list_any (λ (e : ElementRow). nat_eq unit_id e.unit && nat_eq k e.k) xs ≡ false) where
     welcome : IsWelcome (schema v) old.now.trees element (element_row added)
-    welcome = record {
-      keyed = refl;
-      free = next_free element_row (λ e. e.0) (λ _. refl) at.rows.numbered (old.now.trees element.tree) params at.rows.are at.rows.rise;
-      typed = refl;
-      present = refl;
-      checked = refl;
-      alone = no_other v old.now.trees (element_row added) (ap (list_any (λ r. agree plain (1 ∷ 2 ∷ []) r (1 ∷ 2 ∷ []) (element_row added))) at.rows.are
-          ∙ any_mapped element_row _ (λ (x : ℤ × ElementRow). nat_eq unit_id x.1.unit && nat_eq k x.1.k) (λ x. same_element x added) at.rows.numbered
-          ∙ none_numbered element_row (old.now.trees element.tree) xs at.rows (λ (e : ElementRow). nat_eq unit_id e.unit && nat_eq k e.k) none);
-      referred = to_unit_fits v;
-      parents = has_its_unit v old.now.trees (element_row added) unit_id refl known;
-    }
+    welcome =
+        let apart : list_any (λ r. agree plain (1 ∷ 2 ∷ []) r (1 ∷ 2 ∷ []) (element_row added)) (old.now.trees element.tree) ≡ false =
+        none_agrees element_row (old.now.trees element.tree) xs at.rows (1 ∷ 2 ∷ []) (element_row added) (λ (e : ElementRow). nat_eq unit_id e.unit && nat_eq k e.k) (λ x. same_element x added) none in
+        next_welcome v element element_row (λ (e : ElementRow). Int (pos e.unit) ∷ Int (pos e.k) ∷ Text e.value ∷ []) (λ _. refl) (record { unit = unit_id; k = k; value = value }) xs old.now.trees at.rows (rw apart refl)
+        (record { typed = refl; present = refl; checked = refl; referred = to_unit_fits v; parents = has_its_unit v old.now.trees (element_row added) unit_id refl known })
 
     pub insert_element_faults : IsUnlimited old → IsLive old → (r : Result Unit StoreFault) → Ran insert_element_text params old new r → IfErr r (HasCause old new)
     insert_element_faults = insert_faults v 9 element refl insert_element_text insert_element_terms 4 params (insert_element_means v) old new has (element_row added) news refl welcome
@@ -154,7 +144,7 @@ abbrev pub clear_elements_text : List ℕ
 clear_elements_text = codes "DELETE FROM element WHERE unit = ?1"
 
 abbrev pub clear_elements_command : Command
-clear_elements_command = Delete 9 (removing element of_unit (col 1 0 ∷ []))
+clear_elements_command = Delete 9 (choosing element of_unit (col 1 0 ∷ []))
 
 pub clear_elements_means : (v : Version) → Means v clear_elements_text 1 clear_elements_command
 unfolding understood everything

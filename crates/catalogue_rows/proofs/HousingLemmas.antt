@@ -21,30 +21,30 @@ use Rattle.office_tables.proofs.numbered.OwnNumbers.{one_more, still_numbered}
 use Rattle.catalogue_rows.proofs.BoxNumbers.{all_apart, all_known, distinct_front, keeps_number, one_apart}
 
 abbrev new_row : Trees → ℕ → ℕ → ℕ → ℤ × HousingRow
-new_row db unit ord container = (next_rowid (db 20), record { unit = unit; ord = ord; container = container })
+new_row db unit ord container = (next_rowid (db tables.housing.tree), record { unit = unit; ord = ord; container = container })
 
 -- one row is put
-one_housing : (old new : Database) (unit ord container : ℕ) (boxes : List BoxKey) (xs : List HousingRow) → AreHoused old.trees boxes xs → PutsRow 20 (housing_row (new_row old.trees unit ord container)) old new
+one_housing : (old new : Database) (unit ord container : ℕ) (boxes : List BoxKey) (xs : List HousingRow) → AreHoused old.trees boxes xs → PutsRow tables.housing.tree (housing_row (new_row old.trees unit ord container)) old new
     → (ys : List HousingRow) × AreHoused new.trees boxes ys × WithHousings unit ((ord, container) ∷ []) xs ys
 one_housing old new unit ord container boxes xs at puts =
     let row : HousingRow = record { unit = unit; ord = ord; container = container } in
     let there : AreHoused new.trees boxes (row ∷ xs) = record {
       containers = puts.only tables.container.tree refl refl ∙ at.containers;
       apart = at.apart;
-      rows = one_more housing_row (λ _. refl) (old.trees 20) (new.trees 20) xs (next_rowid (old.trees 20)) row at.rows puts.rows puts.fresh;
+      rows = one_more housing_row (λ _. refl) (old.trees tables.housing.tree) (new.trees tables.housing.tree) xs (next_rowid (old.trees tables.housing.tree)) row at.rows puts.rows puts.fresh;
     } in
     (row ∷ xs, there, record { more = row ∷ []; are = IsPermutation-refl (row ∷ xs); tell = IsPermutation-refl ((ord, container) ∷ []); theirs = (refl, tt) })
 
 -- a container is numbered, and then the unit lies in it
 pub housed : (old mid new : Database) (unit ord n : ℕ) (key : BoxKey) (boxes : List BoxKey) (xs : List HousingRow) → AreHoused old.trees boxes xs
-    → (n ≡ box_number (with_boxes boxes (key ∷ [])) key) × ShowsContainers mid.trees (with_boxes boxes (key ∷ [])) → OnlyTouches (18 ∷ []) old mid → PutsRow 20 (housing_row (new_row mid.trees unit ord n)) mid new
+    → (n ≡ box_number (with_boxes boxes (key ∷ [])) key) × ShowsContainers mid.trees (with_boxes boxes (key ∷ [])) → OnlyTouches (tables.container.tree ∷ []) old mid → PutsRow tables.housing.tree (housing_row (new_row mid.trees unit ord n)) mid new
     → (ys : List HousingRow) × AreHoused new.trees (with_boxes boxes (key ∷ [])) ys × WithHousings unit ((ord, box_number (with_boxes boxes (key ∷ [])) key) ∷ []) xs ys
 housed old mid new unit ord n key boxes xs at numbered kept puts =
     let all = with_boxes boxes (key ∷ []) in
     let there : AreHoused mid.trees all xs = record {
       containers = numbered.1;
       apart = one_apart boxes key at.apart;
-      rows = still_numbered housing_row (old.trees 20) (mid.trees 20) xs (kept tables.housing.tree refl refl) at.rows;
+      rows = still_numbered housing_row (old.trees tables.housing.tree) (mid.trees tables.housing.tree) xs (kept tables.housing.tree refl refl) at.rows;
     } in
     let it = one_housing mid new unit ord n all xs there puts in
     (it.0, it.1, subst (λ m. WithHousings unit ((ord, m) ∷ []) xs it.0) numbered.0 it.2)

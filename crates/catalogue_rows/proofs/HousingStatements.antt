@@ -1,5 +1,5 @@
 -- The statements on which units lie in which containers: what their texts mean, what they leave or tell, and why they fail.
-use Rattle.std.proofs.Common.{◌≡◌, ℕ, ℤ, pos, List, [], ◌∷◌, map, filter, length, codes, Bool, true, false, not, ◌&&◌, Result, OnOk, IfOk, IfErr, nat_eq, refl, sym, ap, ◌∙◌}
+use Rattle.std.proofs.Common.{◌≡◌, ℕ, ℤ, pos, List, [], ◌∷◌, map, filter, length, codes, Bool, true, false, not, ◌&&◌, Result, OnOk, IfOk, IfErr, nat_eq, refl, sym, ◌∙◌}
 use Rattle.std.proofs.Math.Nat.{le_refl}
 use Rattle.std.specs.Bool.{⊤}
 use Rattle.std.specs.List.{list_any, list_all}
@@ -17,9 +17,8 @@ use Rattle.sqlite.specs.Command.TheVariants.{Insert, Delete, Select}
 use Rattle.sqlite.specs.Source.TheVariants.{Values}
 use Rattle.sqlite.specs.Listing.{understood}
 use Rattle.sqlite.specs.State.{State, IsLive}
-use Rattle.sqlite.specs.Tree.{Trees}
 use Rattle.sqlite_schema.specs.Names.{same_name}
-use Rattle.sqlite_schema.specs.Rules.{agree, guards, references_fit}
+use Rattle.sqlite_schema.specs.Rules.{agree, references_fit}
 use Rattle.sqlite_sql.specs.declared.ops.BinaryOp.TheVariants.{Compare}
 use Rattle.sqlite_sql.specs.declared.ops.CompareOp.TheVariants.{Eq}
 use Rattle.sqlite_tied.specs.Compute.{everything}
@@ -40,17 +39,17 @@ use Rattle.catalogue_rows.specs.Adding.{HasUnit}
 use Rattle.catalogue_rows.specs.Rows.{HousingRow, housing_row, by_housing}
 use Rattle.catalogue_rows.specs.declared.answer.Housing.{Housing}
 use Rattle.office_tables.proofs.Calls.{on_ok_then}
-use Rattle.office_tables.proofs.numbered.OwnNumbers.{none_numbered, kept_ordered, those_left}
+use Rattle.office_tables.proofs.numbered.OwnNumbers.{kept_ordered, those_left}
 use Rattle.office_tables.proofs.Casts.{cast_int, cast_null}
-use Rattle.office_tables.proofs.statements.DeleteOf.{removing, delete_leaves, delete_faults}
-use Rattle.office_tables.proofs.Fresh.{any_mapped, next_free}
+use Rattle.office_tables.proofs.statements.DeleteOf.{delete_leaves, delete_faults}
 use Rattle.office_tables.proofs.InsertCauses.{IsWelcome}
 use Rattle.office_tables.proofs.statements.InsertOf.{insert_puts, insert_faults}
 use Rattle.office_tables.proofs.statements.OnlyOf.{delete_only}
-use Rattle.office_tables.proofs.Queries.{plain_query}
-use Rattle.office_tables.proofs.statements.SelectOf.{asking, select_finds, select_faults}
+use Rattle.office_tables.proofs.Queries.{plain_query, asking, choosing}
+use Rattle.office_tables.proofs.statements.SelectOf.{select_finds, select_faults}
 use Rattle.office_tables.proofs.Steps.{is_referred_to}
 use Rattle.office_tables.proofs.Tests.{only, both, same_number, by_two_ints}
+use Rattle.office_tables.proofs.statements.WelcomeOf.{next_welcome, none_agrees}
 use Rattle.catalogue_rows.proofs.ElementStatements.{of_unit, by_unit, to_unit_fits, has_its_unit}
 
 -- ---- a unit that is put into a container
@@ -77,11 +76,6 @@ same_house : (a b : ℤ × HousingRow) → agree plain (1 ∷ 3 ∷ []) (housing
 unfolding first_key
 same_house a b = both (same_number a.1.unit b.1.unit) (same_number a.1.container b.1.container)
 
-no_other : (v : Version) (db : Trees) (row : Row) → list_any (λ r. agree plain (1 ∷ 2 ∷ []) r (1 ∷ 2 ∷ []) row) (db housing.tree) ≡ false → list_any (λ r. agree plain (1 ∷ 3 ∷ []) r (1 ∷ 3 ∷ []) row) (db housing.tree) ≡ false
-    → list_all (λ i. not (guards i housing && list_any (λ r. agree i.order i.columns r i.columns row) (db housing.tree))) (schema v).indexes ≡ true
-no_other Links db row h k = rw (h, k) refl
-no_other Spans db row h k = rw (h, k) refl
-
 module _ (old new : State) (unit_id ord n : ℕ) (v : Version) (has : old.now.schema ≡ schema v) where
   abbrev params : Row
   params = Int (pos unit_id) ∷ Int (pos ord) ∷ Int (pos n) ∷ []
@@ -98,22 +92,13 @@ module _ (old new : State) (unit_id ord n : ℕ) (v : Version) (has : old.now.sc
   module _ (known : HasUnit old.now.trees unit_id) (xs : List HousingRow) (at : HoldsNumbered housing housing_row old xs)
       (none : list_any (λ (h : HousingRow). nat_eq unit_id h.unit && nat_eq ord h.ord) xs ≡ false) (other : list_any (λ (h : HousingRow). nat_eq unit_id h.unit && nat_eq n h.container) xs ≡ false) where
     welcome : IsWelcome (schema v) old.now.trees housing (housing_row added)
-    welcome = record {
-      keyed = refl;
-      free = next_free housing_row (λ x. x.0) (λ _. refl) at.numbered (old.now.trees housing.tree) params at.are at.rise;
-      typed = refl;
-      present = refl;
-      checked = refl;
-      alone = no_other v old.now.trees (housing_row added)
-          (ap (list_any (λ r. agree plain (1 ∷ 2 ∷ []) r (1 ∷ 2 ∷ []) (housing_row added))) at.are
-          ∙ any_mapped housing_row _ (λ (x : ℤ × HousingRow). nat_eq unit_id x.1.unit && nat_eq ord x.1.ord) (λ x. same_place x added) at.numbered
-          ∙ none_numbered housing_row (old.now.trees housing.tree) xs at (λ (h : HousingRow). nat_eq unit_id h.unit && nat_eq ord h.ord) none)
-          (ap (list_any (λ r. agree plain (1 ∷ 3 ∷ []) r (1 ∷ 3 ∷ []) (housing_row added))) at.are
-          ∙ any_mapped housing_row _ (λ (x : ℤ × HousingRow). nat_eq unit_id x.1.unit && nat_eq n x.1.container) (λ x. same_house x added) at.numbered
-          ∙ none_numbered housing_row (old.now.trees housing.tree) xs at (λ (h : HousingRow). nat_eq unit_id h.unit && nat_eq n h.container) other);
-      referred = to_unit_fits v;
-      parents = has_its_unit v old.now.trees (housing_row added) unit_id refl known;
-    }
+    welcome =
+        let apart : list_any (λ r. agree plain (1 ∷ 2 ∷ []) r (1 ∷ 2 ∷ []) (housing_row added)) (old.now.trees housing.tree) ≡ false =
+        none_agrees housing_row (old.now.trees housing.tree) xs at (1 ∷ 2 ∷ []) (housing_row added) (λ (h : HousingRow). nat_eq unit_id h.unit && nat_eq ord h.ord) (λ x. same_place x added) none in
+        let other_too : list_any (λ r. agree plain (1 ∷ 3 ∷ []) r (1 ∷ 3 ∷ []) (housing_row added)) (old.now.trees housing.tree) ≡ false =
+        none_agrees housing_row (old.now.trees housing.tree) xs at (1 ∷ 3 ∷ []) (housing_row added) (λ (h : HousingRow). nat_eq unit_id h.unit && nat_eq n h.container) (λ x. same_house x added) other in
+        next_welcome v housing housing_row (λ (h : HousingRow). Int (pos h.unit) ∷ Int (pos h.ord) ∷ Int (pos h.container) ∷ []) (λ _. refl) (record { unit = unit_id; ord = ord; container = n }) xs old.now.trees at (rw (apart, other_too) refl)
+        (record { typed = refl; present = refl; checked = refl; referred = to_unit_fits v; parents = has_its_unit v old.now.trees (housing_row added) unit_id refl known })
 
     pub insert_housing_faults : IsUnlimited old → IsLive old → (r : Result Unit StoreFault) → Ran insert_housing_text params old new r → IfErr r (HasCause old new)
     insert_housing_faults = insert_faults v 11 housing refl insert_housing_text insert_housing_terms 4 params (insert_housing_means v) old new has (housing_row added) news refl welcome
@@ -134,7 +119,7 @@ abbrev pub clear_housings_text : List ℕ
 clear_housings_text = codes "DELETE FROM housing WHERE unit = ?1"
 
 abbrev pub clear_housings_command : Command
-clear_housings_command = Delete 11 (removing housing of_unit (col 1 0 ∷ []))
+clear_housings_command = Delete 11 (choosing housing of_unit (col 1 0 ∷ []))
 
 pub clear_housings_means : (v : Version) → Means v clear_housings_text 1 clear_housings_command
 unfolding understood everything

@@ -28,6 +28,7 @@ use Rattle.catalogue_rows.specs.declared.office.OfficeRow.{OfficeRow}
 use Rattle.catalogue_rows.proofs.Finding.{itself}
 use Rattle.catalogue_rows.proofs.HousingLemmas.{same_cells}
 use Rattle.catalogue_core.proofs.NodeLemmas.{nodes_add}
+use Rattle.office_tables.specs.Schema as tables
 use Rattle.catalogue_rows.proofs.Parts.{own_cells, others_cells, all_theirs, without_none}
 use Rattle.office_tables.proofs.Puts.{put_rows, put_rises, put_more, fresh_key}
 use Rattle.office_tables.proofs.Rows.{had, same_test}
@@ -51,7 +52,7 @@ numbered_once db f at n there =
     (once by_number by_number_total v.0 at.units at.rise)
 
 -- a number that was free for a row is no unit's
-pub no_unit : (db : Trees) (f : Forest Unit) → (at : ShowsUnits db f) → (u : Unit) → is_taken (db 14) (unit_row u) ≡ false → has (has_id u.id) f ≡ false
+pub no_unit : (db : Trees) (f : Forest Unit) → (at : ShowsUnits db f) → (u : Unit) → is_taken (db tables.unit.tree) (unit_row u) ≡ false → has (has_id u.id) f ≡ false
 no_unit db f at u free = elim (cases_Bool (has (has_id u.id) f)) [
   | inr none ↦ none
   | inl there ↦ absurd (
@@ -65,9 +66,9 @@ no_unit db f at u free = elim (cases_Bool (has (has_id u.id) f)) [
 -- the tables tell of one unit more
 pub record HasAdded (shows : Trees → Forest ℕ → Type 0) (v : Version) (old new : Database) (o : OfficeRow) (c : Catalogue) (parent : Option ℕ) (u : Unit) (elements : List ElementRow) (housings : List HousingRow) : Type 0 where
   pub schema : new.schema ≡ old.schema
-  pub office : new.trees 13 ≡ office_row v (record o { next_unit = u.id + 1 }) ∷ []
-  pub units : new.trees 14 ≡ put_row (unit_row u) (old.trees 14)
-  pub fresh : is_taken (old.trees 14) (unit_row u) ≡ false
+  pub office : new.trees tables.office.tree ≡ office_row v (record o { next_unit = u.id + 1 }) ∷ []
+  pub units : new.trees tables.unit.tree ≡ put_row (unit_row u) (old.trees tables.unit.tree)
+  pub fresh : is_taken (old.trees tables.unit.tree) (unit_row u) ≡ false
   pub described : IsDescribed u.id u.values c.containers elements housings new.trees
   pub shown : shows new.trees (add nat_eq parent u.id (each (λ (x : Unit). x.id) c.forest))
 

@@ -1,11 +1,11 @@
 -- Containers in their table, numbered one after another.
-use Rattle.std.proofs.Common.{◌≡◌, ℕ, suc, ◌+◌, ◌≤◌, ◌<◌, true, false, cond, List, [], ◌∷◌, ◌++◌, length, map, filter, slice_get, Option, Some, None, Less, Equal, Greater, pos, refl, sym, ap, subst, ◌∙◌, arith, inl, inr}
-use Rattle.std.specs.Prelude.{option_map, unwrap_or, nat_lt}
+use Rattle.std.proofs.Common.{◌≡◌, ℕ, suc, ◌+◌, ◌≤◌, ◌<◌, false, List, [], ◌∷◌, ◌++◌, length, map, filter, slice_get, Option, Some, None, Less, pos, refl, sym, ap, subst, ◌∙◌, arith, inl, inr}
+use Rattle.std.specs.Prelude.{option_map, unwrap_or}
 use Rattle.std.specs.List.{AllByRecursion}
 use Rattle.std.specs.List.Sorted.{IsPermutation, IsSorted}
 use Rattle.std.specs.Ordering.{int_cmp, is_lt}
 use Rattle.std.specs.Cmp.{IsTotalOrder, on_total, int_cmp_total}
-use Rattle.std.proofs.lemmas.Bool.{cases_Bool, lt-ltb, ltb-false}
+use Rattle.std.proofs.lemmas.Bool.{cases_Bool}
 use Rattle.std.proofs.lemmas.Cmp.{back_total}
 use Rattle.std.proofs.lemmas.List.Sorted.{IsPermutation-sym, length_permutation}
 use Rattle.sqlite.specs.Tree.{Trees, put_row}
@@ -17,16 +17,16 @@ use Rattle.isad_core.specs.Boxes.{is_same}
 use Rattle.catalogue_core.specs.Merging.{number_in}
 use Rattle.office_tables.specs.Order.{Rises, IsOrdered}
 use Rattle.office_tables.specs.Put.{put_by}
+use Rattle.office_tables.specs.Schema as tables
 use Rattle.catalogue_rows.specs.Rows.{counted_from, by_container, container_row}
 use Rattle.catalogue_rows.specs.Shows.{ShowsContainers}
 use Rattle.office_tables.proofs.Puts.{put_rows}
 use Rattle.office_tables.proofs.Rows.{had}
 use Rattle.office_tables.proofs.Sorted.{only_order, head_below}
+use Rattle.office_tables.proofs.numbered.Counted.{below_less}
+use Rattle.office_tables.proofs.statements.LastOf.{not_below}
 use Rattle.catalogue_rows.proofs.Offices.{length-counted}
 use Rattle.catalogue_rows.proofs.ContainerStatements.{from_the_last}
-
-pub below_less : (m n : ℕ) → m < n → int_cmp (pos m) (pos n) ≡ Less
-below_less m n h = rw (lt-ltb m n h) refl
 
 pub by_container_total : IsTotalOrder by_container
 by_container_total = on_total (λ (c : ℕ × BoxKey). pos c.0) int_cmp_total
@@ -78,12 +78,6 @@ last_is_there n c (d ∷ cs) =
     let it = last_is_there (n + 1) d cs in
     (it.0, inr (subst (λ m. Has (counted_from (n + 1) (d ∷ cs)) (m, it.0)) {x = n + 1 + length cs} {y = n + suc (length cs)} (omega arith) it.1))
 
-not_below : (m n : ℕ) → is_lt (int_cmp (pos n) (pos m)) ≡ false → m ≤ n
-not_below m n h = elim (cases_Bool (nat_lt n m)) [
-  | inl less ↦ absurd (let e : true ≡ false = ap (λ b. is_lt (cond b Less (cond (nat_lt m n) Greater Equal))) (sym less) ∙ h in cc)
-  | inr not ↦ ltb-false n m not
-]
-
 pub last_number : (cs : List BoxKey) (ys : List (ℕ × BoxKey)) → IsPermutation (counted_from 1 cs) ys → IsSorted from_the_last ys → unwrap_or (slice_get (map (λ (c : ℕ × BoxKey). c.0) ys) 0) 0 ≡ length cs
 last_number cs [] same sorted = sym (sym (length-counted 1 cs) ∙ sym (length_permutation (counted_from 1 cs) [] same))
 last_number [] (y ∷ ys) same sorted = absurd (omega (arith, length_permutation [] (y ∷ ys) same))
@@ -105,7 +99,7 @@ put_last n b (c ∷ cs) =
     rw (below_less n (n + suc (length cs)) (omega arith))
     (ap (λ l. (let x : ℕ × BoxKey = (n, c) in x) ∷ l) (ap (λ m. put_by (λ (c : ℕ × BoxKey). pos c.0) (m, b) (counted_from (n + 1) cs)) (omega arith) ∙ put_last (n + 1) b cs))
 
-pub one_container : (old new : Trees) (n : ℕ) (b : BoxKey) (cs : List BoxKey) → n ≡ length cs + 1 → ShowsContainers old cs → new 18 ≡ put_row (container_row (n, b)) (old 18) → ShowsContainers new (cs ++ b ∷ [])
+pub one_container : (old new : Trees) (n : ℕ) (b : BoxKey) (cs : List BoxKey) → n ≡ length cs + 1 → ShowsContainers old cs → new tables.container.tree ≡ put_row (container_row (n, b)) (old tables.container.tree) → ShowsContainers new (cs ++ b ∷ [])
 one_container old new n b cs is at puts =
     puts ∙ ap (put_row (container_row (n, b))) at ∙ put_rows container_row (λ (c : ℕ × BoxKey). pos c.0) (λ _. refl) (n, b) (counted_from 1 cs)
     ∙ ap (λ m. map container_row (put_by (λ (c : ℕ × BoxKey). pos c.0) (m, b) (counted_from 1 cs))) (is ∙ omega arith)

@@ -16,14 +16,13 @@ use Rattle.sqlite.specs.Command.TheVariants.{Update, Select}
 use Rattle.sqlite.specs.Listing.{understood}
 use Rattle.sqlite.specs.State.{State, Shown, IsLive}
 use Rattle.sqlite.proofs.Callers.{reads_as, one_permutation}
-use Rattle.sqlite_schema.specs.Names.{same_name}
 use Rattle.sqlite_schema.specs.declared.program.Program.{Program}
 use Rattle.sqlite_sql.specs.declared.ops.BinaryOp.TheVariants.{Compare}
 use Rattle.sqlite_sql.specs.declared.ops.CompareOp.TheVariants.{Eq}
 use Rattle.sqlite_tied.specs.Compute.{everything}
 use Rattle.sqlite_typing.specs.Types.{accepts_program}
 use Rattle.sqlite_value.specs.declared.keys.Key.{Key}
-use Rattle.sqlite_value.specs.Keys.{ascending, joined}
+use Rattle.sqlite_value.specs.Keys.{ascending}
 use Rattle.tree_core.specs.Versions.{Version, Links, Spans, version_number}
 use Rattle.office_tables.specs.Asking.{Finds, Misses}
 use Rattle.office_tables.specs.Changing.{Ran}
@@ -33,19 +32,20 @@ use Rattle.office_tables.specs.Meaning.{Means}
 use Rattle.office_tables.specs.Schema.{schema, office, unit, container}
 use Rattle.office_tables.specs.Step.{HasRows, OnlyTouches}
 use Rattle.office_tables.specs.declared.fault.StoreFault.{StoreFault}
-use Rattle.catalogue_rows.specs.Rows.{office_row, settings_cells}
+use Rattle.catalogue_rows.specs.Rows.{office_row, told_cells}
 use Rattle.catalogue_rows.specs.Settings.{AreLegibleSettings}
 use Rattle.catalogue_rows.specs.declared.office.OfficeRow.{OfficeRow}
 use Rattle.office_tables.proofs.Casts.{cast_int, cast_null}
 use Rattle.office_tables.proofs.Causes.{read_cause, none_refuse, counts_always}
 use Rattle.office_tables.proofs.Counts.{summary_query, count_rows, counts}
+use Rattle.office_tables.proofs.Queries.{asking, choosing}
 use Rattle.office_tables.proofs.statements.OnlyOf.{update_only}
 use Rattle.office_tables.proofs.RowReads.{all_caused}
 use Rattle.office_tables.proofs.Rows.{kept_all}
-use Rattle.office_tables.proofs.statements.SelectOf.{asking, select_finds, select_faults}
+use Rattle.office_tables.proofs.statements.SelectOf.{select_finds, select_faults}
 use Rattle.office_tables.proofs.Tests.{only, same_number, by_one_int}
-use Rattle.office_tables.proofs.UpdateCauses.{KeepsTable}
-use Rattle.office_tables.proofs.statements.UpdateOf.{changing, update_leaves, update_faults}
+use Rattle.office_tables.proofs.statements.UpdateOf.{update_leaves, update_faults}
+use Rattle.office_tables.proofs.statements.LeafOf.{office_kept}
 
 -- what a row of the table tells: the version, and the rest
 abbrev Telling : Type 0
@@ -66,17 +66,12 @@ abbrev set_next_columns : List Term
 set_next_columns = col 1 0 ∷ col 1 0 ∷ lit Null ∷ col 1 2 ∷ col 1 3 ∷ col 1 4 ∷ col 1 5 ∷ col 1 6 ∷ col 1 7 ∷ col 1 8 ∷ col 1 9 ∷ col 0 0 ∷ []
 
 abbrev pub set_next_command : Command
-set_next_command = Update 7 (changing office the_one set_next_columns)
+set_next_command = Update 7 (choosing office the_one set_next_columns)
 
 pub set_next_means : (v : Version) → Means v set_next_text 1 set_next_command
 unfolding understood everything
 set_next_means Links = record { is = refl; plain = (refl, refl); whole = (le_refl _, refl, refl); unlisted = refl }
 set_next_means Spans = record { is = refl; plain = (refl, refl); whole = (le_refl _, refl, refl); unlisted = refl }
-
-office_kept : (v : Version) → KeepsTable (λ _. false) (schema v) 7 office
-unfolding joined same_name
-office_kept Links = record { listed = refl; apart = refl; spared = refl; fits = refl }
-office_kept Spans = record { listed = refl; apart = refl; spared = refl; fits = refl }
 
 module _ (old new : State) (next : ℕ) (v : Version) (has : old.now.schema ≡ schema v) (version : Version) (o : OfficeRow) (stored : old.now.trees office.tree ≡ office_row version o ∷ [])
     (r : Result Unit StoreFault) (ran : Ran set_next_text (Int (pos next) ∷ []) old new r) where
@@ -134,16 +129,16 @@ module _ (old new : State) (v : Version) (has : old.now.schema ≡ schema v) (ve
   abbrev the_row : Telling
   the_row = (version, o)
 
-  pub office_is_finds : IfOk r (λ found. Finds settings_cells office_is_text [] old new (items found)) → IfOk r (λ found. items found ≡ o ∷ [])
+  pub office_is_finds : IfOk r (λ found. Finds told_cells office_is_text [] old new (items found)) → IfOk r (λ found. items found ≡ o ∷ [])
   office_is_finds found =
       IfOk-weaker r _ _ (λ all it. it.2 ∙ ap (map (λ (x : Telling). x.1)) (one_permutation the_row it.0 it.1.0))
       (select_finds v office office_is_text [] office_is_columns by_one office_is_names [] (office_is_means v) old new has telling_row (the_row ∷ []) stored
-      (λ _. true) (λ _. refl) (λ x. settings_cells x.1) (λ _. Int (pos 1) ∷ []) (λ _. refl) (λ _ _. Equal) (λ _. refl) (λ a b. by_one_int (pos 1) (pos 1)) settings_cells items (λ x. x.1) (λ _. refl) r found)
+      (λ _. true) (λ _. refl) (λ x. told_cells x.1) (λ _. Int (pos 1) ∷ []) (λ _. refl) (λ _ _. Equal) (λ _. refl) (λ a b. by_one_int (pos 1) (pos 1)) told_cells items (λ x. x.1) (λ _. refl) r found)
 
-  pub office_is_faults : AreLegibleSettings o → IsUnlimited old → IfErr r (Misses settings_cells AreLegibleSettings office_is_text [] old new) → IfErr r (HasCause old new)
+  pub office_is_faults : AreLegibleSettings o → IsUnlimited old → IfErr r (Misses told_cells AreLegibleSettings office_is_text [] old new) → IfErr r (HasCause old new)
   office_is_faults legible free =
       select_faults v office office_is_text [] office_is_columns by_one office_is_names [] (office_is_means v) old new has telling_row (the_row ∷ []) stored
-      (λ _. true) (λ _. refl) (λ x. settings_cells x.1) (λ _. Int (pos 1) ∷ []) (λ _. refl) (λ _ _. Equal) (λ _. refl) (λ a b. by_one_int (pos 1) (pos 1)) settings_cells items (λ x. x.1) (λ _. refl)
+      (λ _. true) (λ _. refl) (λ x. told_cells x.1) (λ _. Int (pos 1) ∷ []) (λ _. refl) (λ _ _. Equal) (λ _. refl) (λ a b. by_one_int (pos 1) (pos 1)) told_cells items (λ x. x.1) (λ _. refl)
       AreLegibleSettings refl free (legible, tt) r
 
 -- ---- how many there are

@@ -7,6 +7,7 @@ use Rattle.std.proofs.lemmas.Bool.{eqb-true, eq-eqb, ne_eqb, eqb-false}
 use Rattle.std.proofs.lemmas.List.{map-append, append_assoc}
 use Rattle.std.proofs.lemmas.List.Elements.{filter-append}
 use Rattle.std.proofs.lemmas.List.Sorted.{IsPermutation-trans, IsPermutation-map, IsPermutation-append_comm, IsPermutation-append_left, IsPermutation-append_right}
+use Rattle.std.proofs.Math.Bool.{and-false}
 use Rattle.sqlite_trees.proofs.ListLemmas.{all_weaker, all-append, all-filter, all-permutation, filter_all, filter_none, IsPermutation-filter}
 use Rattle.catalogue_rows.specs.Adding.{WithCells}
 use Rattle.office_tables.proofs.Rows.{filters, same_test}
@@ -71,11 +72,7 @@ module _ {A C : Type 0} (unit_of : A → ℕ) (cell_of : A → C) where
       subst (λ l. IsPermutation l (cells_of u ys)) (ap₂ ◌++◌ none same) (both_parts u n cells xs ys w)
     where
       at : (v : ℕ) (b : Bool) → nat_eq u v ≡ b → (not (nat_eq n v) && b) ≡ b
-      at v false e = right_false (not (nat_eq n v))
-        where
-          right_false : (c : Bool) → (c && false) ≡ false
-          right_false true = refl
-          right_false false = refl
+      at v false e = and-false (not (nat_eq n v))
       at v true e = let k : nat_eq n v ≡ false = ap (nat_eq n) (sym (eqb-true u v e)) ∙ apart in rw k refl
 
       still : (v : ℕ) → (not (nat_eq n v) && nat_eq u v) ≡ nat_eq u v

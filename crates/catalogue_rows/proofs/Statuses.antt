@@ -6,7 +6,7 @@ use Rattle.std.specs.declared.cmp.Ordering.TheVariants.{Less}
 use Rattle.std.specs.List.{AllByRecursion, list_any}
 use Rattle.std.specs.List.Sorted.{IsPermutation}
 use Rattle.std.proofs.lemmas.List.Sorted.{IsPermutation-map}
-use Rattle.std.proofs.lemmas.List.{map-append}
+use Rattle.std.proofs.Math.Bool.{or-false, or_assoc}
 use Rattle.sqlite.specs.Effect.{Database}
 use Rattle.sqlite.specs.Tree.{Trees}
 use Rattle.office_tables.proofs.numbered.OwnNumbers.{still_numbered}
@@ -14,18 +14,16 @@ use Rattle.sqlite_trees.proofs.ListLemmas.{all-append, ascending-map, ascending_
 use Rattle.tree_core.specs.Forest.{Forest, Empty, Node, nodes, each, has, tree, branch}
 use Rattle.catalogue_core.specs.Bounds.{IsBounded}
 use Rattle.tree_core.specs.Versions.{Version}
+use Rattle.tree_core.proofs.EachLemmas.{nodes-each}
 use Rattle.catalogue_core.specs.Units.{Unit, has_id}
 use Rattle.catalogue_core.specs.Merging.{Catalogue}
 use Rattle.office_tables.specs.Order.{Rises}
 use Rattle.catalogue_core.specs.Statuses.{with_status, is_chosen, chosen_units}
+use Rattle.catalogue_core.proofs.EachOf.{all_split}
 use Rattle.catalogue_rows.specs.Rows.{unit_row, by_number, ElementRow, HousingRow, element_row, housing_row}
 use Rattle.catalogue_rows.specs.Shows.{Shows, element_cells, elements_of, housing_cells, housings_of}
 use Rattle.office_tables.specs.Step.{HasRows}
 use Rattle.catalogue_rows.specs.declared.office.OfficeRow.{OfficeRow}
-
-pub nodes_each : {A B : Type 0} (g : A → B) (f : Forest A) → nodes (each g f) ≡ map g (nodes f)
-nodes_each g Empty = refl
-nodes_each g (Node a children others) = ap (λ l. g a ∷ l) (ap₂ ◌++◌ (nodes_each g children) (nodes_each g others) ∙ sym (map-append g (nodes children) (nodes others)))
 
 pub each_each : {A B C : Type 0} (g : A → B) (h : B → C) (k : A → C) → ((x : A) → h (g x) ≡ k x) → (f : Forest A) → each h (each g f) ≡ each k f
 each_each g h k same Empty = refl
@@ -42,15 +40,15 @@ all_map g P Q f (x ∷ xs) h = (f x h.0, all_map g P Q f xs h.1)
 -- units that keep their numbers, and units that keep their values too
 module _ (g : Unit → Unit) (same_id : (u : Unit) → (g u).id ≡ u.id) where
   pub still_there : (f : Forest Unit) (id : ℕ) → has (has_id id) (each g f) ≡ has (has_id id) f
-  still_there f id = ap (list_any (has_id id)) (nodes_each g f) ∙ any_map g (has_id id) (has_id id) (λ u. ap (nat_eq id) (same_id u)) (nodes f)
+  still_there f id = ap (list_any (has_id id)) (nodes-each g f) ∙ any_map g (has_id id) (has_id id) (λ u. ap (nat_eq id) (same_id u)) (nodes f)
 
   pub rising : (units : List Unit) → Rises by_number units → Rises by_number (map g units)
   rising units up = ascending-map (λ a b. by_number a b ≡ Less) g units
       (ascending_weaker (λ a b. by_number a b ≡ Less) (λ a b. by_number (g a) (g b) ≡ Less) (λ a b h. ap₂ (λ m n. int_cmp (pos m) (pos n)) (same_id a) (same_id b) ∙ h) units up)
 
   module _ (same_values : (u : Unit) → (g u).values ≡ u.values) where
-    pub shows_changed : (v : Version) (shows : Trees → Forest ℕ → Type 0) → ((old new : Trees) (f : Forest ℕ) → new 24 ≡ old 24 → shows old f → shows new f)
-        → (old new : Database) (o : OfficeRow) (c : Catalogue) (it : Shows shows v old o c) → new.schema ≡ old.schema → HasRows 14 (map unit_row (map g it.catalogue.units.units)) old new
+    pub shows_changed : (v : Version) (shows : Trees → Forest ℕ → Type 0) → ((old new : Trees) (f : Forest ℕ) → new tables.link.tree ≡ old tables.link.tree → shows old f → shows new f)
+        → (old new : Database) (o : OfficeRow) (c : Catalogue) (it : Shows shows v old o c) → new.schema ≡ old.schema → HasRows tables.unit.tree (map unit_row (map g it.catalogue.units.units)) old new
         → Shows shows v new o (record c { forest = each g c.forest })
     shows_changed v shows same old new o c it schema_is wrote =
         let at = it.catalogue in
@@ -65,12 +63,12 @@ module _ (g : Unit → Unit) (same_id : (u : Unit) → (g u).id ≡ u.id) where
               units = map g at.units.units;
               rows = wrote.are;
               rise = rising at.units.units at.units.rise;
-              are = subst (λ l. IsPermutation l (map g at.units.units)) (sym (nodes_each g f)) (IsPermutation-map g (nodes f) at.units.units at.units.are);
+              are = subst (λ l. IsPermutation l (map g at.units.units)) (sym (nodes-each g f)) (IsPermutation-map g (nodes f) at.units.units at.units.are);
             };
             elements = record {
               elements = at.elements.elements;
-              rows = still_numbered element_row (old.trees 16) (new.trees 16) at.elements.elements (kept tables.element.tree refl refl) at.elements.rows;
-              are = subst (AllByRecursion (λ (u : Unit). IsPermutation (element_cells u.values) (elements_of u.id at.elements.elements))) (sym (nodes_each g f))
+              rows = still_numbered element_row (old.trees tables.element.tree) (new.trees tables.element.tree) at.elements.elements (kept tables.element.tree refl refl) at.elements.rows;
+              are = subst (AllByRecursion (λ (u : Unit). IsPermutation (element_cells u.values) (elements_of u.id at.elements.elements))) (sym (nodes-each g f))
                   (all_map g (λ (u : Unit). IsPermutation (element_cells u.values) (elements_of u.id at.elements.elements)) (λ (u : Unit). IsPermutation (element_cells u.values) (elements_of u.id at.elements.elements))
                   (λ u h. rw (same_id u, same_values u) h) (nodes f) at.elements.are);
               others = all_weaker (λ (e : ElementRow). has (has_id e.unit) f ≡ true) (λ (e : ElementRow). has (has_id e.unit) (each g f) ≡ true) (λ e h. still_there f e.unit ∙ h) at.elements.elements at.elements.others;
@@ -78,8 +76,8 @@ module _ (g : Unit → Unit) (same_id : (u : Unit) → (g u).id ≡ u.id) where
             containers = kept tables.container.tree refl refl ∙ at.containers;
             housings = record {
               housings = at.housings.housings;
-              rows = still_numbered housing_row (old.trees 20) (new.trees 20) at.housings.housings (kept tables.housing.tree refl refl) at.housings.rows;
-              are = subst (AllByRecursion (λ (u : Unit). IsPermutation (housing_cells c.containers u.values) (housings_of u.id at.housings.housings))) (sym (nodes_each g f))
+              rows = still_numbered housing_row (old.trees tables.housing.tree) (new.trees tables.housing.tree) at.housings.housings (kept tables.housing.tree refl refl) at.housings.rows;
+              are = subst (AllByRecursion (λ (u : Unit). IsPermutation (housing_cells c.containers u.values) (housings_of u.id at.housings.housings))) (sym (nodes-each g f))
                   (all_map g (λ (u : Unit). IsPermutation (housing_cells c.containers u.values) (housings_of u.id at.housings.housings)) (λ (u : Unit). IsPermutation (housing_cells c.containers u.values) (housings_of u.id at.housings.housings))
                   (λ u h. rw (same_id u, same_values u) h) (nodes f) at.housings.are);
               others = all_weaker (λ (h : HousingRow). has (has_id h.unit) f ≡ true) (λ (h : HousingRow). has (has_id h.unit) (each g f) ≡ true) (λ e h. still_there f e.unit ∙ h) at.housings.housings at.housings.others;
@@ -94,16 +92,8 @@ kept_by view true x y same = same
 kept_by view false x y same = refl
 
 pub any_more : (p : ℕ → Bool) (xs : List ℕ) (x : ℕ) → list_any p (xs ++ x ∷ []) ≡ (list_any p xs || p x)
-any_more p [] x = or_none (p x)
-  where
-    or_none : (b : Bool) → (b || false) ≡ b
-    or_none true = refl
-    or_none false = refl
-any_more p (y ∷ ys) x = ap (λ b. p y || b) (any_more p ys x) ∙ over (p y) (list_any p ys) (p x)
-  where
-    over : (a b c : Bool) → (a || (b || c)) ≡ ((a || b) || c)
-    over true b c = refl
-    over false b c = refl
+any_more p [] x = or-false (p x)
+any_more p (y ∷ ys) x = ap (λ b. p y || b) (any_more p ys x) ∙ sym (or_assoc (p y) (list_any p ys) (p x))
 
 abbrev drafted : Bool → Bool → Unit → Unit
 drafted draft b u = if b then record u { draft = draft } else u
@@ -134,22 +124,18 @@ status_of_none draft c = ap (λ f. record c { forest = f }) (each_none c.forest)
     each_none Empty = refl
     each_none (Node u children others) = rw (each_none children, each_none others) refl
 
-pub draft_step : (v : Version) (shows : Trees → Forest ℕ → Type 0) → ((old new : Trees) (f : Forest ℕ) → new 24 ≡ old 24 → shows old f → shows new f)
+pub draft_step : (v : Version) (shows : Trees → Forest ℕ → Type 0) → ((old new : Trees) (f : Forest ℕ) → new tables.link.tree ≡ old tables.link.tree → shows old f → shows new f)
     → (old new : Database) (o : OfficeRow) (c : Catalogue) (draft : Bool) (ids : List ℕ) (id : ℕ) (it : Shows shows v old o (with_status ids draft c)) → new.schema ≡ old.schema
-    → HasRows 14 (map unit_row (map (λ (u : Unit). drafted draft (has_id id u) u) it.catalogue.units.units)) old new → Shows shows v new o (with_status (ids ++ id ∷ []) draft c)
+    → HasRows tables.unit.tree (map unit_row (map (λ (u : Unit). drafted draft (has_id id u) u) it.catalogue.units.units)) old new → Shows shows v new o (with_status (ids ++ id ∷ []) draft c)
 draft_step v shows same old new o c draft ids id it schema_is wrote =
     subst (λ f. Shows shows v new o (record c { forest = f })) (drafts_more draft ids id c)
     (shows_changed (λ u. drafted draft (has_id id u) u) (one_drafted draft id) (λ u. kept_by (λ (u : Unit). u.values) (has_id id u) (record u { draft = draft }) u refl) v shows same old new o (with_status ids draft c) it schema_is wrote)
-
-halves : {A : Type 0} (P : A → Type 0) (xs ys : List A) → AllByRecursion P (xs ++ ys) → AllByRecursion P xs × AllByRecursion P ys
-halves P [] ys h = (tt, h)
-halves P (x ∷ xs) ys h = let rest = halves P xs ys h.1 in ((h.0, rest.0), rest.1)
 
 -- what holds of each node holds of those of a branch
 pub all_branch : {A : Type 0} (P : A → Type 0) (is : A → Bool) (f : Forest A) → AllByRecursion P (nodes f) → AllByRecursion P (branch is f)
 all_branch P is Empty h = tt
 all_branch P is (Node a children others) h =
-    let parts = halves P (nodes children) (nodes others) h.1 in
+    let parts = all_split P (nodes children) (nodes others) h.1 in
     elim (is a) as (λ b. AllByRecursion P (nodes (if b then Node a children Empty else if has is children then tree is children else tree is others))) [
       | true ↦ (h.0, all-append P (nodes children) [] parts.0 tt)
       | false ↦ elim (has is children) as (λ b. AllByRecursion P (nodes (if b then tree is children else tree is others))) [ true ↦ all_branch P is children parts.0 | false ↦ all_branch P is others parts.1 ]

@@ -10,18 +10,19 @@ use Rattle.catalogue_rows.specs.Adding.{text_cells, WithTexts, AreElements}
 use Rattle.catalogue_rows.specs.Rows.{ElementRow, element_row}
 use Rattle.catalogue_rows.specs.Shows.{texts_from, element_number}
 use Rattle.office_tables.specs.Step.{PutsRow}
+use Rattle.office_tables.specs.Schema as tables
 use Rattle.office_tables.proofs.numbered.OwnNumbers.{one_more}
 
 abbrev new_row : Trees → ℕ → ℕ → Bytes → ℤ × ElementRow
-new_row db unit k value = (next_rowid (db 16), record { unit = unit; k = k; value = value })
+new_row db unit k value = (next_rowid (db tables.element.tree), record { unit = unit; k = k; value = value })
 
 -- one row is put
-pub one_element : (old new : Database) (unit k : ℕ) (value : Bytes) (xs : List ElementRow) → AreElements old.trees xs → PutsRow 16 (element_row (new_row old.trees unit k value)) old new
+pub one_element : (old new : Database) (unit k : ℕ) (value : Bytes) (xs : List ElementRow) → AreElements old.trees xs → PutsRow tables.element.tree (element_row (new_row old.trees unit k value)) old new
     → (ys : List ElementRow) × AreElements new.trees ys × WithTexts unit ((k, value) ∷ []) xs ys
 one_element old new unit k value xs at puts =
     let row : ElementRow = record { unit = unit; k = k; value = value } in (
       row ∷ xs,
-      record { rows = one_more element_row (λ _. refl) (old.trees 16) (new.trees 16) xs (next_rowid (old.trees 16)) row at.rows puts.rows puts.fresh },
+      record { rows = one_more element_row (λ _. refl) (old.trees tables.element.tree) (new.trees tables.element.tree) xs (next_rowid (old.trees tables.element.tree)) row at.rows puts.rows puts.fresh },
       record { more = row ∷ []; are = IsPermutation-refl (row ∷ xs); tell = IsPermutation-refl ((k, value) ∷ []); theirs = (refl, tt) },
     )
 

@@ -1,10 +1,10 @@
 -- DELETE of a unit, with its elements, its housings and the permits for it.
 use Rattle.office_tables.specs.Schema as tables
-use Rattle.std.proofs.Common.{◌≡◌, inl, inr, ℕ, ℤ, pos, List, [], ◌∷◌, map, filter, find, codes, Bool, true, false, ◌&&◌, ◌||◌, not, cond, Some, None, unwrap_or, Ok, if◌then◌else◌, nat_eq, refl, sym, ap, ap₂, subst, ◌∙◌}
+use Rattle.std.proofs.Common.{◌≡◌, inl, inr, ℕ, ℤ, pos, List, [], ◌∷◌, map, filter, find, codes, Bool, true, false, ◌&&◌, ◌||◌, not, cond, Some, None, unwrap_or, Ok, nat_eq, refl, sym, ap, ap₂, subst, ◌∙◌}
 use Rattle.std.proofs.lemmas.Bool.{eq-eqb, eqb-true, cases_Bool}
 use Rattle.std.specs.List.{AllByRecursion, list_any}
-use Rattle.std.specs.List.Sorted.{IsPermutation, IsSorted}
-use Rattle.std.specs.declared.cmp.Ordering.TheVariants.{Equal, Less}
+use Rattle.std.specs.List.Sorted.{IsPermutation}
+use Rattle.std.specs.declared.cmp.Ordering.TheVariants.{Less}
 use Rattle.sqlite.specs.declared.types.Value.TheVariants.{Null, Int}
 use Rattle.sqlite.specs.Order.{Row, column}
 use Rattle.sqlite.specs.Table.{Table}
@@ -13,14 +13,13 @@ use Rattle.sqlite.specs.Edit.{edit_of, taken_by, row_at}
 use Rattle.sqlite.specs.Rowids.TheVariants.{Given}
 use Rattle.sqlite.specs.Ops.{binary, is_true}
 use Rattle.sqlite.specs.Term.{col, op2}
-use Rattle.sqlite.specs.Query.{inner, end}
 use Rattle.sqlite.specs.Collation.TheVariants.{Binary}
 use Rattle.sqlite.specs.Command.{Command}
 use Rattle.sqlite.specs.Command.TheVariants as command
 use Rattle.sqlite.specs.Effect.{Database, Answers}
 use Rattle.sqlite.specs.Listing.{understood}
 use Rattle.sqlite.specs.declared.run.Mode.{Mode}
-use Rattle.sqlite.specs.State.{State, Shows, Writes, Executes, mode_of}
+use Rattle.sqlite.specs.State.{State, Writes, Executes, mode_of}
 use Rattle.sqlite.proofs.Callers.{IsPlain, command_of, statement_of, runs_as, one_permutation}
 use Rattle.sqlite_rules.specs.Action.{works, Work, loses, Settles, is_child_of}
 use Rattle.sqlite_rules.specs.Calls.{ids_of}
@@ -47,24 +46,20 @@ use Rattle.office_tables.proofs.Cascades.{IsCascade, three_works, cascade_rows, 
 use Rattle.catalogue_rows.proofs.ElementStatements.{element_alone}
 use Rattle.catalogue_rows.proofs.HousingStatements.{housing_alone}
 use Rattle.catalogue_rows.proofs.Moves.{other_number}
-use Rattle.office_tables.proofs.Queries.{plain_query, answers}
+use Rattle.office_tables.proofs.Queries.{choosing, chosen}
 use Rattle.office_tables.proofs.Rows.{tests as tests_of}
-use Rattle.office_tables.proofs.Steps.{DeletedWith, deleted_with, is_referred_to}
+use Rattle.office_tables.proofs.Steps.{DeletedWith, deleted_with}
 use Rattle.office_tables.proofs.Tests.{only, same_number, same_nat}
 use Rattle.office_tables.proofs.Updates.{deletes_rows}
 use Rattle.catalogue_rows.proofs.Without.{without_one}
 use Rattle.office_tables.proofs.Touching.{touched, touched_then, touched_wider}
-
-pub permit_alone : (v : Version) → is_referred_to (schema v) 10 ≡ false
-unfolding joined same_name
-permit_alone Links = refl
-permit_alone Spans = refl
+use Rattle.office_tables.proofs.statements.LeafOf.{permit_alone}
 
 abbrev pub remove_unit_text : List ℕ
 remove_unit_text = codes "DELETE FROM unit WHERE id = ?1"
 
 abbrev pub remove_unit_program : Program
-remove_unit_program = record { lets = []; body = plain_query (inner 14 end) (op2 (Compare Eq Binary) (col 1 0) (col 0 0) ∷ []) (col 1 0 ∷ []) [] }
+remove_unit_program = choosing unit (op2 (Compare Eq Binary) (col 1 0) (col 0 0) ∷ []) (col 1 0 ∷ [])
 
 abbrev pub remove_unit_command : Command
 remove_unit_command = command.Delete 8 remove_unit_program
@@ -92,7 +87,7 @@ lost : (u : Unit) → loses plain (0 ∷ []) (unit_row u, []) ≡ true
 unfolding first_key
 lost u = ap₂ (λ a b. (a && true) && not (b && true)) (same_number u.id u.id ∙ eq-eqb u.id u.id refl) (no_null (pos u.id))
 
-works_are : (v : Version) (u : Unit) → works (schema v) Enforced 0 14 (unit_row u ∷ []) [] ≡ work_on permit 2 u ∷ work_on element 1 u ∷ work_on housing 1 u ∷ []
+works_are : (v : Version) (u : Unit) → works (schema v) Enforced 0 tables.unit.tree (unit_row u ∷ []) [] ≡ work_on permit 2 u ∷ work_on element 1 u ∷ work_on housing 1 u ∷ []
 unfolding joined same_name
 works_are Links u = rw (lost u) refl
 works_are Spans u = rw (lost u) refl
@@ -124,45 +119,43 @@ module _ (old new : State) (id : ℕ) (count : ℕ) (v : Version) (has : old.now
   pub remove_unit_it : DeletedWith (schema v) 8 unit refl (mode_of old) (Int (pos id) ∷ []) remove_unit_program old.now new.now
   remove_unit_it = deleted_with (schema v) 8 unit refl old.step_limit (mode_of old) (Int (pos id) ∷ []) (statement_of remove_unit_text (understood (schema v) remove_unit_text)) remove_unit_program old.now new.now remove_unit_w.tally has remove_unit_w.changed
 
-  pub remove_unit_went : (new.now.schema ≡ schema v) × Shows old new new.now (if old.in_transaction then old.committed else new.now) old.in_transaction
-  remove_unit_went = (remove_unit_it.schema_is, remove_unit_w.shown)
-
 -- keys are enforced, and none is in doubt
 abbrev pub strict : Mode
 strict = record { keys = Enforced; in_doubt = false; may_wait = false }
 
 -- the statement shows the numbers of the units that have this one
-pub shown_units : (old : Database) (id : ℕ) (rows : List Row) → Answers old remove_unit_program (Int (pos id) ∷ []) rows → (xs : List Unit) → old.trees 14 ≡ map unit_row xs
-    → (ys : List Unit) × IsPermutation (filter (keep id) xs) ys × IsSorted (λ _ _. Equal) ys × (rows ≡ map (λ (x : Unit). Int (pos x.id) ∷ []) ys)
-shown_units old id rows answer xs from = answers 14 (op2 (Compare Eq Binary) (col 1 0) (col 0 0) ∷ []) (col 1 0 ∷ []) [] old.trees (Int (pos id) ∷ []) unit_row xs (keep id) (λ (x : Unit). Int (pos x.id) ∷ []) (λ _. []) (λ _ _. Equal)
-    from (λ x. only (same_number x.id id)) (λ _. refl) (λ _. refl) (λ _ _. refl) rows (answer.answer Null)
+pub shown_units : (old : Database) (id : ℕ) (rows : List Row) → Answers old remove_unit_program (Int (pos id) ∷ []) rows → (xs : List Unit) → old.trees tables.unit.tree ≡ map unit_row xs
+    → (ys : List Unit) × IsPermutation (filter (keep id) xs) ys × (rows ≡ map (λ (x : Unit). Int (pos x.id) ∷ []) ys)
+shown_units old id rows answer xs from =
+    chosen tables.unit.tree (op2 (Compare Eq Binary) (col 1 0) (col 0 0) ∷ []) (col 1 0 ∷ []) old.trees (Int (pos id) ∷ []) unit_row (λ (x : Unit). Int (pos x.id) ∷ []) xs (keep id) from
+    (λ x. only (same_number x.id id)) (λ _. refl) rows (answer.answer Null)
 
-module _ (old new : Database) (id : ℕ) (units : List Unit) (u : Unit) (v : Version) (stored : old.trees 14 ≡ map unit_row units) (up : Rises by_number units)
+module _ (old new : Database) (id : ℕ) (units : List Unit) (u : Unit) (v : Version) (stored : old.trees tables.unit.tree ≡ map unit_row units) (up : Rises by_number units)
     (id_is : u.id ≡ id) (there : filter (keep id) units ≡ u ∷ []) (it : DeletedWith (schema v) 8 unit refl strict (Int (pos id) ∷ []) remove_unit_program old new) where
-  got : (xs : List Unit) → old.trees 14 ≡ map unit_row xs → (ys : List Unit) × IsPermutation (filter (keep id) xs) ys × IsSorted (λ _ _. Equal) ys × (it.rows ≡ map (λ (x : Unit). Int (pos x.id) ∷ []) ys)
+  got : (xs : List Unit) → old.trees tables.unit.tree ≡ map unit_row xs → (ys : List Unit) × IsPermutation (filter (keep id) xs) ys × (it.rows ≡ map (λ (x : Unit). Int (pos x.id) ∷ []) ys)
   got = shown_units old id it.rows it.answer
 
-  units_left : (xs : List Unit) → old.trees 14 ≡ map unit_row xs → Rises by_number xs → it.next 14 ≡ map unit_row (without (λ (x : Unit). x.id) (id ∷ []) xs)
+  units_left : (xs : List Unit) → old.trees tables.unit.tree ≡ map unit_row xs → Rises by_number xs → it.next tables.unit.tree ≡ map unit_row (without (λ (x : Unit). x.id) (id ∷ []) xs)
   units_left xs from rise =
       let found = got xs from in
-      it.applies.rows ∙ deletes_rows unit unit_row (λ x. pos x.id) (λ _. refl) old.trees xs from rise (keep id) found.0 found.1 (λ (x : Unit). Int (pos x.id) ∷ []) (λ _. refl) it.rows found.3
+      it.applies.rows ∙ deletes_rows unit unit_row (λ x. pos x.id) (λ _. refl) old.trees xs from rise (keep id) found.0 found.1 (λ (x : Unit). Int (pos x.id) ∷ []) (λ _. refl) it.rows found.2
       ∙ ap (map unit_row) (without_one (λ (x : Unit). x.id) id xs)
 
   ids : ids_of it.rows ≡ pos u.id ∷ []
-  ids = let found = got units stored in ap ids_of (found.3 ∙ ap (map (λ (x : Unit). Int (pos x.id) ∷ [])) (one_permutation u found.0 (subst (λ l. IsPermutation l found.0) there found.1)))
+  ids = let found = got units stored in ap ids_of (found.2 ∙ ap (map (λ (x : Unit). Int (pos x.id) ∷ [])) (one_permutation u found.0 (subst (λ l. IsPermutation l found.0) there found.1)))
 
   same_row : (x : Unit) → has_rowid (pos u.id) (unit_row x) ≡ keep u.id x
   same_row x = tests_of unit_row (λ x. pos x.id) (λ _. refl) (pos u.id) x ∙ same_nat x.id u.id
 
   taken : taken_by old.trees (edit_of old.trees unit (ids_of it.rows) Given 0 []) ≡ unit_row u ∷ []
   taken =
-      ap (map (row_at (old.trees 14))) ids
+      ap (map (row_at (old.trees tables.unit.tree))) ids
       ∙ ap (λ rows. row_at rows (pos u.id) ∷ []) stored
       ∙ ap (λ o. unwrap_or o [] ∷ []) (found_one unit_row (has_rowid (pos u.id)) (keep u.id) same_row units u (ap (λ n. filter (keep n) units) id_is ∙ there))
 
   cascade : (first : Trees) × (second : Trees) × IsCascade (schema v) Enforced (work_on housing 1 u) it.next first × IsCascade (schema v) Enforced (work_on element 1 u) first second × IsCascade (schema v) Enforced (work_on permit 2 u) second new.trees
   cascade = three_works (schema v) Enforced it.next new.trees (work_on permit 2 u) (work_on element 1 u) (work_on housing 1 u) (permit_alone v) (element_alone v) (housing_alone v)
-      (subst (λ ws. Settles (schema v) Enforced it.next ws (Ok new.trees)) (ap (λ olds. works (schema v) Enforced 0 14 olds []) taken ∙ works_are v u) it.settles)
+      (subst (λ ws. Settles (schema v) Enforced it.next ws (Ok new.trees)) (ap (λ olds. works (schema v) Enforced 0 tables.unit.tree olds []) taken ∙ works_are v u) it.settles)
 
   abbrev first : Trees
   first = cascade.0
@@ -170,17 +163,17 @@ module _ (old new : Database) (id : ℕ) (units : List Unit) (u : Unit) (v : Ver
   abbrev second : Trees
   second = cascade.1
 
-  to_next : OnlyTouches (14 ∷ []) old (record old { trees = it.next })
-  to_next = touched v old (record old { trees = it.next }) 14 it.applies.tables
+  to_next : OnlyTouches (tables.unit.tree ∷ []) old (record old { trees = it.next })
+  to_next = touched v old (record old { trees = it.next }) tables.unit.tree it.applies.tables
 
-  to_first : OnlyTouches (20 ∷ []) (record old { trees = it.next }) (record old { trees = first })
-  to_first = touched v (record old { trees = it.next }) (record old { trees = first }) 20 (cascade_apart (schema v) Enforced (work_on housing 1 u) it.next first cascade.2)
+  to_first : OnlyTouches (tables.housing.tree ∷ []) (record old { trees = it.next }) (record old { trees = first })
+  to_first = touched v (record old { trees = it.next }) (record old { trees = first }) tables.housing.tree (cascade_apart (schema v) Enforced (work_on housing 1 u) it.next first cascade.2)
 
-  to_second : OnlyTouches (16 ∷ []) (record old { trees = first }) (record old { trees = second })
-  to_second = touched v (record old { trees = first }) (record old { trees = second }) 16 (cascade_apart (schema v) Enforced (work_on element 1 u) first second cascade.3)
+  to_second : OnlyTouches (tables.element.tree ∷ []) (record old { trees = first }) (record old { trees = second })
+  to_second = touched v (record old { trees = first }) (record old { trees = second }) tables.element.tree (cascade_apart (schema v) Enforced (work_on element 1 u) first second cascade.3)
 
-  to_new : OnlyTouches (10 ∷ []) (record old { trees = second }) new
-  to_new = touched v (record old { trees = second }) new 10 (cascade_apart (schema v) Enforced (work_on permit 2 u) second new.trees cascade.4)
+  to_new : OnlyTouches (tables.permit.tree ∷ []) (record old { trees = second }) new
+  to_new = touched v (record old { trees = second }) new tables.permit.tree (cascade_apart (schema v) Enforced (work_on permit 2 u) second new.trees cascade.4)
 
   same_test_as : {A : Type 0} (number : A → ℕ) (xs : List A) → filter (λ x. not (nat_eq u.id (number x))) xs ≡ without number (id ∷ []) xs
   same_test_as number xs = ap (λ n. filter (λ x. not (nat_eq n (number x))) xs) id_is ∙ without_one number id xs
@@ -191,25 +184,25 @@ module _ (old new : Database) (id : ℕ) (units : List Unit) (u : Unit) (v : Ver
     units = λ xs from rise. to_new tables.unit.tree refl refl ∙ to_second tables.unit.tree refl refl ∙ to_first tables.unit.tree refl refl ∙ units_left xs from rise;
     elements = λ xs has.
         let at = to_first tables.element.tree refl refl ∙ to_next tables.element.tree refl refl ∙ has.are in
-        subst (HasNumbered element_row (new.trees 16)) (same_test_as (λ (e : ElementRow). e.unit) xs)
-        (those_left element_row (old.trees 16) (new.trees 16) xs has (λ (e : ElementRow). nat_eq u.id e.unit)
+        subst (HasNumbered element_row (new.trees tables.element.tree)) (same_test_as (λ (e : ElementRow). e.unit) xs)
+        (those_left element_row (old.trees tables.element.tree) (new.trees tables.element.tree) xs has (λ (e : ElementRow). nat_eq u.id e.unit)
         (to_new tables.element.tree refl refl
         ∙ cascade_rows (schema v) Enforced (work_on element 1 u) element_row (λ e. e.0) (λ _. refl) first second has.numbered at has.rise (λ e. nat_eq u.id e.1.unit) (λ e. child_is element 1 u e.1.unit (element_row e) refl) cascade.3));
     housings = λ xs has.
         let at = to_next tables.housing.tree refl refl ∙ has.are in
-        subst (HasNumbered housing_row (new.trees 20)) (same_test_as (λ (h : HousingRow). h.unit) xs)
-        (those_left housing_row (old.trees 20) (new.trees 20) xs has (λ (h : HousingRow). nat_eq u.id h.unit)
+        subst (HasNumbered housing_row (new.trees tables.housing.tree)) (same_test_as (λ (h : HousingRow). h.unit) xs)
+        (those_left housing_row (old.trees tables.housing.tree) (new.trees tables.housing.tree) xs has (λ (h : HousingRow). nat_eq u.id h.unit)
         (to_new tables.housing.tree refl refl ∙ to_second tables.housing.tree refl refl
         ∙ cascade_rows (schema v) Enforced (work_on housing 1 u) housing_row (λ h. h.0) (λ _. refl) it.next first has.numbered at has.rise (λ h. nat_eq u.id h.1.unit) (λ h. child_is housing 1 u h.1.unit (housing_row h) refl) cascade.2));
     permits = λ xs has.
         let at = to_second tables.permit.tree refl refl ∙ to_first tables.permit.tree refl refl ∙ to_next tables.permit.tree refl refl ∙ has.are in
-        subst (HasNumbered permit_cells (new.trees 10)) (same_test_as (λ (p : PermitRow). p.unit) xs)
-        (those_left permit_cells (old.trees 10) (new.trees 10) xs has (λ (p : PermitRow). nat_eq u.id p.unit)
+        subst (HasNumbered permit_cells (new.trees tables.permit.tree)) (same_test_as (λ (p : PermitRow). p.unit) xs)
+        (those_left permit_cells (old.trees tables.permit.tree) (new.trees tables.permit.tree) xs has (λ (p : PermitRow). nat_eq u.id p.unit)
         (cascade_rows (schema v) Enforced (work_on permit 2 u) permit_cells (λ p. p.0) (λ _. refl) second new.trees has.numbered at has.rise (λ p. nat_eq u.id p.1.unit) (λ p. child_is permit 2 u p.1.unit (permit_cells p) refl) cascade.4));
-    only = touched_wider (14 ∷ 20 ∷ 16 ∷ 10 ∷ []) (10 ∷ 14 ∷ 16 ∷ 20 ∷ []) old new refl
-        (touched_then (14 ∷ 20 ∷ []) (16 ∷ 10 ∷ []) old (record old { trees = first }) new
-        (touched_then (14 ∷ []) (20 ∷ []) old (record old { trees = it.next }) (record old { trees = first }) to_next to_first)
-        (touched_then (16 ∷ []) (10 ∷ []) (record old { trees = first }) (record old { trees = second }) new to_second to_new));
+    only = touched_wider (tables.unit.tree ∷ tables.housing.tree ∷ tables.element.tree ∷ tables.permit.tree ∷ []) (tables.permit.tree ∷ tables.unit.tree ∷ tables.element.tree ∷ tables.housing.tree ∷ []) old new refl
+        (touched_then (tables.unit.tree ∷ tables.housing.tree ∷ []) (tables.element.tree ∷ tables.permit.tree ∷ []) old (record old { trees = first }) new
+        (touched_then (tables.unit.tree ∷ []) (tables.housing.tree ∷ []) old (record old { trees = it.next }) (record old { trees = first }) to_next to_first)
+        (touched_then (tables.element.tree ∷ []) (tables.permit.tree ∷ []) (record old { trees = first }) (record old { trees = second }) new to_second to_new));
   }
 
 -- ---- the one unit of a number

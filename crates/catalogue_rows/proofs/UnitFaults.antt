@@ -42,6 +42,7 @@ use Rattle.catalogue_rows.specs.Removals.{without, AreRemoved, IsTold}
 use Rattle.catalogue_rows.specs.Rows.{unit_row, ElementRow, element_row, HousingRow, housing_row}
 use Rattle.tree_core.specs.Versions.{Version, Links, Spans}
 use Rattle.office_tables.specs.Schema.{schema, place_table, unit, element, housing, permit, to_unit}
+use Rattle.office_tables.specs.Schema as tables
 use Rattle.catalogue_core.specs.Units.{Unit}
 use Rattle.office_tables.proofs.Causes.{none_refuse, sums_nothing}
 use Rattle.catalogue_rows.proofs.ElementStatements.{element_alone, element_fits}
@@ -54,7 +55,8 @@ use Rattle.catalogue_rows.proofs.Moves.{id_of}
 use Rattle.catalogue_rows.proofs.Removals.{all_kept, still_listed}
 use Rattle.office_tables.proofs.Steps.{DeletedWith, is_referred_to, wrote}
 use Rattle.office_tables.proofs.Tests.{only, same_number}
-use Rattle.catalogue_rows.proofs.UnitDeletes.{keep, permit_alone, remove_unit_text, remove_unit_program, remove_unit_command, remove_unit_removes, shown_units, strict, the_one}
+use Rattle.office_tables.proofs.statements.LeafOf.{permit_fits, permit_alone}
+use Rattle.catalogue_rows.proofs.UnitDeletes.{keep, remove_unit_text, remove_unit_program, remove_unit_command, remove_unit_removes, shown_units, strict, the_one}
 
 -- ---- the tables after some units are gone
 
@@ -72,13 +74,13 @@ told_after gone old new told removed = record {
   permit_rows = removed.permits told.permits told.permit_rows;
 }
 
-unit_key : (v : Version) (place : ℕ) → parent_key (schema v).tables (to_unit place) ≡ Some (14, 0 ∷ [], plain)
+unit_key : (v : Version) (place : ℕ) → parent_key (schema v).tables (to_unit place) ≡ Some (tables.unit.tree, 0 ∷ [], plain)
 unfolding joined same_name
 unit_key v place = refl
 
 module _ (v : Version) (place : ℕ) where
   -- a row that tells a number has a parent where a unit has that number
-  parent_of : (db : Trees) (units : List Unit) → db 14 ≡ map unit_row units → (r : Row) (n : ℕ) → column r place ≡ Int (pos n)
+  parent_of : (db : Trees) (units : List Unit) → db tables.unit.tree ≡ map unit_row units → (r : Row) (n : ℕ) → column r place ≡ Int (pos n)
       → has_parent (schema v).tables db r (to_unit place) ≡ list_any (λ (u : Unit). nat_eq n u.id) units
   unfolding first_key
   parent_of db units stored r n is =
@@ -90,7 +92,7 @@ module _ (v : Version) (place : ℕ) where
 
   -- where all rows had their units before, those that are left have them still
   children_left : {R : Type 0} (cells : ℤ × R → Row) (number : R → ℕ) → ((x : ℤ × R) → column (cells x) place ≡ Int (pos (number x.1))) → (gone : List ℕ) (old new : Trees) (units : List Unit)
-      → old 14 ≡ map unit_row units → new 14 ≡ map unit_row (without id_of gone units) → (tree : ℕ) (xs : List R) → HasNumbered cells (old tree) xs → HasNumbered cells (new tree) (without number gone xs)
+      → old tables.unit.tree ≡ map unit_row units → new tables.unit.tree ≡ map unit_row (without id_of gone units) → (tree : ℕ) (xs : List R) → HasNumbered cells (old tree) xs → HasNumbered cells (new tree) (without number gone xs)
       → AllByRecursion (λ r. (has_parent (schema v).tables old r (to_unit place) && true) ≡ true) (old tree) → AllByRecursion (λ r. (has_parent (schema v).tables new r (to_unit place) && true) ≡ true) (new tree)
   children_left {R} cells number tells gone old new units was now tree xs before after all =
       let P = λ (r : Row). (has_parent (schema v).tables old r (to_unit place) && true) ≡ true in
@@ -121,17 +123,17 @@ parents_left v old new gone told keeps removed =
               (
                 free 8,
                 (
-                  children_left v 2 permit_cells (λ p. p.unit) (λ _. refl) gone old.trees new.trees told.units told.unit_rows now 10 told.permits told.permit_rows (removed.permits told.permits told.permit_rows) keeps.1.1.1.1.1.1.0,
+                  children_left v 2 permit_cells (λ p. p.unit) (λ _. refl) gone old.trees new.trees told.units told.unit_rows now tables.permit.tree told.permits told.permit_rows (removed.permits told.permits told.permit_rows) keeps.1.1.1.1.1.1.0,
                   (
                     free 13,
                     (
                       free 14,
                       (
-                        children_left v 1 element_row (λ e. e.unit) (λ _. refl) gone old.trees new.trees told.units told.unit_rows now 16 told.elements told.element_rows (removed.elements told.elements told.element_rows) keeps.1.1.1.1.1.1.1.1.1.0,
+                        children_left v 1 element_row (λ e. e.unit) (λ _. refl) gone old.trees new.trees told.units told.unit_rows now tables.element.tree told.elements told.element_rows (removed.elements told.elements told.element_rows) keeps.1.1.1.1.1.1.1.1.1.0,
                         (
                           free 18,
                           (
-                            children_left v 1 housing_row (λ h. h.unit) (λ _. refl) gone old.trees new.trees told.units told.unit_rows now 20 told.housings told.housing_rows (removed.housings told.housings told.housing_rows) keeps.1.1.1.1.1.1.1.1.1.1.1.0,
+                            children_left v 1 housing_row (λ h. h.unit) (λ _. refl) gone old.trees new.trees told.units told.unit_rows now tables.housing.tree told.housings told.housing_rows (removed.housings told.housings told.housing_rows) keeps.1.1.1.1.1.1.1.1.1.1.1.0,
                             (
                               last v,
                               tt,
@@ -168,17 +170,12 @@ unfolding joined same_name
 unit_fits Links = refl
 unit_fits Spans = refl
 
-permit_fits : (v : Version) → references_fit (schema v) permit false true ≡ true
-unfolding joined same_name
-permit_fits Links = refl
-permit_fits Spans = refl
-
 leaf : (v : Version) (child : Table) (place : ℕ) (moves : List (Row × Row)) → is_referred_to (schema v) child.tree ≡ false → references_fit (schema v) child false true ≡ true
     → IsLeaf (schema v) (record { depth = 0; child = child; ref = to_unit place; places = 0 ∷ []; order = plain; deed = Delete; moves = moves })
 leaf v child place moves alone fit = record { bare = record { depth = 0; child = child; ref = to_unit place; places = 0 ∷ []; order = plain; deed = Delete; moves = moves }; is = refl; alone = alone; fit = fit }
 
 -- what goes with units are rows that nothing refers to
-unit_leaves : (v : Version) (olds : List Row) → AllByRecursion (IsLeaf (schema v)) (works (schema v) Enforced 0 14 olds [])
+unit_leaves : (v : Version) (olds : List Row) → AllByRecursion (IsLeaf (schema v)) (works (schema v) Enforced 0 tables.unit.tree olds [])
 unfolding joined same_name
 unit_leaves Links olds = elim (cases_Bool (list_any (loses plain (0 ∷ [])) (pairs olds []))) [
   | inl some ↦ rw some (leaf Links permit 2 _ (permit_alone Links) (permit_fits Links), (leaf Links element 1 _ (element_alone Links) (element_fits Links), (leaf Links housing 1 _ (housing_alone Links) (housing_fits Links), tt)))
@@ -199,10 +196,10 @@ module _ (v : Version) (db : Trees) (id : ℕ) (told : IsTold db) (rows : List R
   -- where no unit has the number nothing is written
   nothing_gone : rows ≡ [] → Writes (schema v) Enforced db (edit_of db unit (ids_of rows) Given 0 []) (Ok after) → Refers All (schema v) after
   nothing_gone none writes =
-      let applies = one_step (schema v) Enforced db after (edit_of db unit [] Given 0 []) (no_works (schema v) Enforced 0 14 []) (subst (λ rows. Writes (schema v) Enforced db (edit_of db unit (ids_of rows) Given 0 []) (Ok after)) none writes) in
-      refers_same All (schema v) db after (λ t listed. elim (cases_eq t.tree 14) [
+      let applies = one_step (schema v) Enforced db after (edit_of db unit [] Given 0 []) (no_works (schema v) Enforced 0 tables.unit.tree []) (subst (λ rows. Writes (schema v) Enforced db (edit_of db unit (ids_of rows) Given 0 []) (Ok after)) none writes) in
+      refers_same All (schema v) db after (λ t listed. elim (cases_eq t.tree tables.unit.tree) [
         | inl same ↦ subst (λ k. after k ≡ db k) (sym same) applies.rows
-        | inr other ↦ all_has (λ (t : Table). t.tree ≢ 14 → after t.tree ≡ db t.tree) (schema v).tables t applies.tables listed other
+        | inr other ↦ all_has (λ (t : Table). t.tree ≢ tables.unit.tree → after t.tree ≡ db t.tree) (schema v).tables t applies.tables listed other
       ]) (obeys.rules ForeignKey)
 
   parents : Writes (schema v) Enforced db (edit_of db unit (ids_of rows) Given 0 []) (Ok after) → Refers All (schema v) after
@@ -215,7 +212,7 @@ module _ (v : Version) (db : Trees) (id : ℕ) (told : IsTold db) (rows : List R
     | inr none ↦
         let found = shown_units before id rows answer told.units told.unit_rows in
         let ys : found.0 ≡ [] = empty found.0 (omega (arith, ap length (none_left (keep id) told.units none), length_permutation (filter (keep id) told.units) found.0 found.1)) in
-        nothing_gone (found.3 ∙ ap (map (λ (x : Unit). Int (pos x.id) ∷ [])) ys) writes
+        nothing_gone (found.2 ∙ ap (map (λ (x : Unit). Int (pos x.id) ∷ [])) ys) writes
   ]
 
 pub remove_unit_cause : (old new : State) (id : ℕ) (v : Version) → old.now.schema ≡ schema v → IsTold old.now.trees → IsLive old → IsUnlimited old → (e : Error) → Executes remove_unit_text (Int (pos id) ∷ []) old new (Err e) → HasCause old new (fault_of e)

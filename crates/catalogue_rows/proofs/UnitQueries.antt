@@ -32,11 +32,12 @@ use Rattle.office_tables.specs.Faults.{IsUnlimited, HasCause}
 use Rattle.office_tables.specs.Meaning.{Means}
 use Rattle.office_tables.specs.Order.{IsOrdered}
 use Rattle.office_tables.specs.Schema.{schema, unit}
+use Rattle.office_tables.specs.Schema as tables
 use Rattle.office_tables.specs.Step.{Holds}
 use Rattle.office_tables.specs.declared.fault.StoreFault.{StoreFault}
 use Rattle.catalogue_rows.specs.Rows.{unit_row, by_number}
-use Rattle.office_tables.proofs.Queries.{plain_query}
-use Rattle.office_tables.proofs.statements.SelectOf.{asking, select_finds, select_faults}
+use Rattle.office_tables.proofs.Queries.{plain_query, asking}
+use Rattle.office_tables.proofs.statements.SelectOf.{select_finds, select_faults}
 use Rattle.catalogue_rows.proofs.UnitWrites.{with_its_number}
 use Rattle.office_tables.proofs.Tests.{only, both, same_number, same_bytes, by_one_int}
 
@@ -87,7 +88,7 @@ module _ (old new : State) (id : ℕ) (v : Version) (has : old.now.schema ≡ sc
       (λ (u : Unit). nat_eq id u.id) (λ u. only (same_number u.id id)) (λ u. cells (tell u)) (λ (u : Unit). Int (pos u.id) ∷ []) tells by_number (λ _. refl) (λ a b. by_one_int (pos a.id) (pos b.id))
       cells items tell (λ _. refl) r
 
-  pub numbered_faults : (IsLegible : T → Type 0) → accepts_program (schema v) [] (plain_query (inner 14 end) with_its_number project in_order) (Int (pos id) ∷ []) ≡ true → AllByRecursion (λ u. IsLegible (tell u)) xs → IsUnlimited old
+  pub numbered_faults : (IsLegible : T → Type 0) → accepts_program (schema v) [] (plain_query (inner tables.unit.tree end) with_its_number project in_order) (Int (pos id) ∷ []) ≡ true → AllByRecursion (λ u. IsLegible (tell u)) xs → IsUnlimited old
       → IfErr r (Misses cells IsLegible sql (Int (pos id) ∷ []) old new) → IfErr r (HasCause old new)
   numbered_faults IsLegible accepted legible free =
       select_faults v unit sql with_its_number project in_order names (Int (pos id) ∷ []) means old new has unit_row xs stored

@@ -1,15 +1,15 @@
 -- The statements that write the row of a unit: what their texts mean, what they leave, and why they fail.
-use Rattle.std.proofs.Common.{◌≡◌, ℕ, zero, suc, ℤ, pos, List, [], ◌∷◌, map, drop, codes, Bool, true, false, not, ◌&&◌, if◌then◌else◌, ltb, Option, Some, None, Result, OnOk, IfErr, nat_eq, refl, sym, ap, ◌∙◌, arith}
+use Rattle.std.proofs.Common.{◌≡◌, ℕ, zero, suc, ℤ, pos, List, [], ◌∷◌, map, drop, codes, Bool, true, false, if◌then◌else◌, ltb, Option, Some, None, Result, OnOk, IfErr, nat_eq, refl, sym, ap, ◌∙◌, arith}
 use Rattle.std.proofs.Math.Nat.{le_refl}
 use Rattle.std.proofs.lemmas.Bool.{ltb-true}
-use Rattle.std.specs.List.{list_any, list_all}
+use Rattle.std.specs.List.{list_any}
 use Rattle.isad_core.specs.declared.values.Values.{«Values» as Description}
 use Rattle.sqlite.specs.declared.types.Value.{Value}
 use Rattle.sqlite.specs.declared.types.Value.TheVariants.{Null, Int, Text}
 use Rattle.sqlite.specs.Order.{Row, column}
 use Rattle.sqlite.specs.Values.{or_null}
 use Rattle.sqlite.specs.Cast.{cast_row}
-use Rattle.sqlite.specs.Edit.{edit_of, is_taken, id_in}
+use Rattle.sqlite.specs.Edit.{edit_of, id_in}
 use Rattle.sqlite.specs.Effect.{value_rows}
 use Rattle.sqlite.specs.Rowids.TheVariants.{Chosen}
 use Rattle.sqlite.specs.Term.{Term, lit, col, op2, eval_all}
@@ -23,7 +23,7 @@ use Rattle.sqlite.specs.State.{State, IsLive}
 use Rattle.sqlite.specs.Tree.{Trees}
 use Rattle.sqlite_rules.specs.Steps.{is_typed}
 use Rattle.sqlite_schema.specs.Names.{same_name}
-use Rattle.sqlite_schema.specs.Rules.{agree, guards}
+use Rattle.sqlite_schema.specs.Rules.{agree}
 use Rattle.sqlite_sql.specs.declared.ops.BinaryOp.TheVariants.{Compare}
 use Rattle.sqlite_sql.specs.declared.ops.CompareOp.TheVariants.{Eq}
 use Rattle.sqlite_tied.specs.Compute.{everything}
@@ -37,18 +37,20 @@ use Rattle.office_tables.specs.Flags.{flag}
 use Rattle.office_tables.specs.Meaning.{Means}
 use Rattle.office_tables.specs.Order.{Rises}
 use Rattle.office_tables.specs.Schema.{schema, unit}
+use Rattle.office_tables.specs.Schema as tables
 use Rattle.office_tables.specs.Step.{Holds, HasRows, PutsRow, OnlyTouches}
 use Rattle.office_tables.specs.declared.fault.StoreFault.{StoreFault}
 use Rattle.catalogue_rows.specs.Rows.{unit_row, by_number}
 use Rattle.office_tables.proofs.Casts.{cast_int, cast_null, cast_maybe}
-use Rattle.office_tables.proofs.Fresh.{any_mapped, not_there}
+use Rattle.office_tables.proofs.Fresh.{any_mapped}
 use Rattle.office_tables.proofs.InsertCauses.{IsWelcome}
 use Rattle.office_tables.proofs.statements.InsertOf.{insert_puts, insert_faults}
 use Rattle.office_tables.proofs.statements.OnlyOf.{update_only}
-use Rattle.office_tables.proofs.Queries.{plain_query}
+use Rattle.office_tables.proofs.Queries.{plain_query, choosing}
 use Rattle.office_tables.proofs.Tests.{only, both, same_number, same_bytes}
 use Rattle.office_tables.proofs.UpdateCauses.{KeepsTable}
-use Rattle.office_tables.proofs.statements.UpdateOf.{changing, update_leaves, update_faults}
+use Rattle.office_tables.proofs.statements.UpdateOf.{update_leaves, update_faults}
+use Rattle.office_tables.proofs.statements.WelcomeOf.{number_welcome}
 
 -- ---- a new unit
 
@@ -70,23 +72,12 @@ same_origin : (a b : Described) → agree plain (2 ∷ 3 ∷ []) (unit_row a) (2
 unfolding first_key
 same_origin a b = both (same_bytes a.source b.source) (same_bytes a.legacy b.legacy)
 
-unit_alone : (v : Version) (db : Trees) (row : Row) → list_any (λ r. agree plain (2 ∷ 3 ∷ []) r (2 ∷ 3 ∷ []) row) (db 14) ≡ false
-    → list_all (λ i. not (guards i unit && list_any (λ r. agree i.order i.columns r i.columns row) (db 14))) (schema v).indexes ≡ true
-unit_alone Links db row h = rw h refl
-unit_alone Spans db row h = rw h refl
-
-unit_welcome : (u : Described) (xs : List Described) (v : Version) (db : Trees) → u.until ≡ None → db 14 ≡ map unit_row xs → list_any (has_id u.id) xs ≡ false → list_any (is_from u.source u.legacy) xs ≡ false
+unit_welcome : (u : Described) (xs : List Described) (v : Version) (db : Trees) → u.until ≡ None → db tables.unit.tree ≡ map unit_row xs → list_any (has_id u.id) xs ≡ false → list_any (is_from u.source u.legacy) xs ≡ false
     → IsWelcome (schema v) db unit (unit_row u)
-unit_welcome u xs v db none_until stored none other = record {
-  keyed = refl;
-  free = ap (λ rows. is_taken rows (unit_row u)) stored ∙ not_there unit_row (λ x. x.id) (λ _. refl) u.id (unit_row u) refl xs none;
-  typed = rw none_until refl;
-  present = refl;
-  checked = refl;
-  alone = unit_alone v db (unit_row u) (ap (list_any (λ r. agree plain (2 ∷ 3 ∷ []) r (2 ∷ 3 ∷ []) (unit_row u))) stored ∙ any_mapped unit_row _ (is_from u.source u.legacy) (λ a. same_origin a u) xs ∙ other);
-  referred = refl;
-  parents = refl;
-}
+unit_welcome u xs v db none_until stored none other =
+    let apart : list_any (λ r. agree plain (2 ∷ 3 ∷ []) r (2 ∷ 3 ∷ []) (unit_row u)) (db tables.unit.tree) ≡ false =
+    ap (list_any (λ r. agree plain (2 ∷ 3 ∷ []) r (2 ∷ 3 ∷ []) (unit_row u))) stored ∙ any_mapped unit_row _ (is_from u.source u.legacy) (λ a. same_origin a u) xs ∙ other in
+    number_welcome v unit unit_row (λ x. x.id) (λ _. refl) u xs db stored none (rw apart refl) (record { typed = rw none_until refl; present = refl; checked = refl; referred = refl; parents = refl })
 
 module _ (old new : State) (u : Described) (none_until : u.until ≡ None) (v : Version) (has : old.now.schema ≡ schema v) where
   abbrev params : Row
@@ -95,7 +86,7 @@ module _ (old new : State) (u : Described) (none_until : u.until ≡ None) (v : 
   news : (edit_of old.now.trees unit [] Chosen 0 (value_rows params 7 1 insert_unit_terms)).news ≡ unit_row u ∷ []
   news = rw (none_until, cast_int (pos u.id), cast_null, cast_int (flag u.draft)) refl
 
-  pub insert_unit_puts : (r : Result Unit StoreFault) → Ran insert_unit_text params old new r → OnOk r (PutsRow 14 (unit_row u) old.now new.now)
+  pub insert_unit_puts : (r : Result Unit StoreFault) → Ran insert_unit_text params old new r → OnOk r (PutsRow tables.unit.tree (unit_row u) old.now new.now)
   insert_unit_puts = insert_puts v 8 unit refl insert_unit_text insert_unit_terms 7 params (insert_unit_means v) old new has (unit_row u) news
 
   pub insert_unit_faults : (xs : List Described) → Holds unit unit_row old xs → list_any (has_id u.id) xs ≡ false → list_any (is_from u.source u.legacy) xs ≡ false → IsUnlimited old → IsLive old
@@ -132,17 +123,17 @@ abbrev pub with_its_number : List Term
 with_its_number = op2 (Compare Eq Binary) (col 1 0) (col 0 0) ∷ []
 
 -- an UPDATE of the unit with this number, of other columns than those of its keys
-module _ (old new : State) (id : ℕ) (v : Version) (has : old.now.schema ≡ schema v) (sql : List ℕ) (project : List Term) (value : Value) (means : Means v sql 2 (Update 8 (changing unit with_its_number project)))
+module _ (old new : State) (id : ℕ) (v : Version) (has : old.now.schema ≡ schema v) (sql : List ℕ) (project : List Term) (value : Value) (means : Means v sql 2 (Update 8 (choosing unit with_its_number project)))
     (source : Described → Row) (shows : (x : Described) → eval_all project ((Int (pos id) ∷ value ∷ []) ∷ unit_row x ∷ []) ≡ source x) (numbered : (x : Described) → column (source x) 0 ≡ Int (pos x.id))
     (changed : Described → Described) (same_id : (x : Described) → (changed x).id ≡ x.id) (same_source : (x : Described) → (changed x).source ≡ x.source) (same_legacy : (x : Described) → (changed x).legacy ≡ x.legacy)
     (casts : (x : Described) → cast_row unit (drop 1 (source x)) ≡ unit_row (changed x)) (xs : List Described) (stored : Holds unit unit_row old xs) (up : Rises by_number xs)
     (r : Result Unit StoreFault) (ran : Ran sql (Int (pos id) ∷ value ∷ []) old new r) where
-  set_leaves : OnOk r (HasRows 14 (map unit_row (map (λ (x : Described). if nat_eq id x.id then changed x else x) xs)) old.now new.now)
+  set_leaves : OnOk r (HasRows tables.unit.tree (map unit_row (map (λ (x : Described). if nat_eq id x.id then changed x else x) xs)) old.now new.now)
   set_leaves =
       update_leaves v 8 unit refl sql with_its_number project (Int (pos id) ∷ value ∷ []) means old new has unit_row (λ x. pos x.id) (λ _. refl) xs stored up
       (λ x. nat_eq id x.id) (λ u. only (same_number u.id id)) source shows (λ x. ap id_in (numbered x)) changed (λ x. ap pos (same_id x)) (λ x _ _. casts x) r ran
 
-  set_faults : accepts_program (schema v) [] (plain_query (inner 14 end) with_its_number project []) (Int (pos id) ∷ value ∷ []) ≡ true → IsUnlimited old → IsLive old → IfErr r (HasCause old new)
+  set_faults : accepts_program (schema v) [] (plain_query (inner tables.unit.tree end) with_its_number project []) (Int (pos id) ∷ value ∷ []) ≡ true → IsUnlimited old → IsLive old → IfErr r (HasCause old new)
   set_faults accepted free live =
       update_faults v 8 unit refl sql with_its_number project (Int (pos id) ∷ value ∷ []) means old new has unit_row (λ x. pos x.id) (λ _. refl) xs stored up
       (λ x. nat_eq id x.id) (λ u. only (same_number u.id id)) source shows (λ x. ap id_in (numbered x)) changed (λ x. ap pos (same_id x)) (λ x _ _. casts x)
@@ -158,7 +149,7 @@ abbrev set_level_columns : List Term
 set_level_columns = col 1 0 ∷ col 1 0 ∷ lit Null ∷ col 1 2 ∷ col 1 3 ∷ col 0 1 ∷ col 1 5 ∷ col 1 6 ∷ []
 
 abbrev pub set_level_command : Command
-set_level_command = Update 8 (changing unit with_its_number set_level_columns)
+set_level_command = Update 8 (choosing unit with_its_number set_level_columns)
 
 pub set_level_means : (v : Version) → Means v set_level_text 2 set_level_command
 unfolding understood everything
@@ -170,7 +161,7 @@ module _ (old new : State) (id : ℕ) (values : Description) (v : Version) (has 
   abbrev source_of_level : Described → Row
   source_of_level x = Int (pos x.id) ∷ Int (pos x.id) ∷ Null ∷ Text x.source ∷ Text x.legacy ∷ Text values.level ∷ Int (flag x.draft) ∷ or_null Int x.until ∷ []
 
-  pub set_level_leaves : OnOk r (HasRows 14 (map unit_row (map (λ (x : Described). if nat_eq id x.id then record x { values = values } else x) xs)) old.now new.now)
+  pub set_level_leaves : OnOk r (HasRows tables.unit.tree (map unit_row (map (λ (x : Described). if nat_eq id x.id then record x { values = values } else x) xs)) old.now new.now)
   set_level_leaves =
       set_leaves old new id v has set_level_text set_level_columns (Text values.level) (set_level_means v) source_of_level (λ _. refl) (λ _. refl) (λ (x : Described). record x { values = values }) (λ _. refl) (λ _. refl) (λ _. refl)
       (λ x. rw (cast_int (pos x.id), cast_null, cast_int (flag x.draft), cast_maybe x.until) refl) xs stored up r ran
@@ -189,7 +180,7 @@ abbrev set_draft_columns : List Term
 set_draft_columns = col 1 0 ∷ col 1 0 ∷ lit Null ∷ col 1 2 ∷ col 1 3 ∷ col 1 4 ∷ col 0 1 ∷ col 1 6 ∷ []
 
 abbrev pub set_draft_command : Command
-set_draft_command = Update 8 (changing unit with_its_number set_draft_columns)
+set_draft_command = Update 8 (choosing unit with_its_number set_draft_columns)
 
 pub set_draft_means : (v : Version) → Means v set_draft_text 2 set_draft_command
 unfolding understood everything
@@ -201,7 +192,7 @@ module _ (old new : State) (id : ℕ) (draft : Bool) (v : Version) (has : old.no
   abbrev source_of_draft : Described → Row
   source_of_draft x = Int (pos x.id) ∷ Int (pos x.id) ∷ Null ∷ Text x.source ∷ Text x.legacy ∷ Text x.values.level ∷ Int (flag draft) ∷ or_null Int x.until ∷ []
 
-  pub set_draft_leaves : OnOk r (HasRows 14 (map unit_row (map (λ (x : Described). if nat_eq id x.id then record x { draft = draft } else x) xs)) old.now new.now)
+  pub set_draft_leaves : OnOk r (HasRows tables.unit.tree (map unit_row (map (λ (x : Described). if nat_eq id x.id then record x { draft = draft } else x) xs)) old.now new.now)
   set_draft_leaves =
       set_leaves old new id v has set_draft_text set_draft_columns (Int (flag draft)) (set_draft_means v) source_of_draft (λ _. refl) (λ _. refl) (λ (x : Described). record x { draft = draft }) (λ _. refl) (λ _. refl) (λ _. refl)
       (λ x. rw (cast_int (pos x.id), cast_null, cast_int (flag draft), cast_maybe x.until) refl) xs stored up r ran
@@ -220,14 +211,14 @@ abbrev set_until_columns : List Term
 set_until_columns = col 1 0 ∷ col 1 0 ∷ lit Null ∷ col 1 2 ∷ col 1 3 ∷ col 1 4 ∷ col 1 5 ∷ col 0 1 ∷ []
 
 abbrev pub set_until_command : Command
-set_until_command = Update 8 (changing unit with_its_number set_until_columns)
+set_until_command = Update 8 (choosing unit with_its_number set_until_columns)
 
 pub set_until_means : (v : Version) → Means v set_until_text 2 set_until_command
 unfolding understood everything
 set_until_means Links = record { is = refl; plain = (refl, refl); whole = (le_refl _, refl, refl); unlisted = refl }
 set_until_means Spans = record { is = refl; plain = (refl, refl); whole = (le_refl _, refl, refl); unlisted = refl }
 
-until_accepted : (v : Version) (id : ℕ) (until : Option ℤ) → accepts_program (schema v) [] (plain_query (inner 14 end) with_its_number set_until_columns []) (Int (pos id) ∷ or_null Int until ∷ []) ≡ true
+until_accepted : (v : Version) (id : ℕ) (until : Option ℤ) → accepts_program (schema v) [] (plain_query (inner tables.unit.tree end) with_its_number set_until_columns []) (Int (pos id) ∷ or_null Int until ∷ []) ≡ true
 until_accepted Links id None = refl
 until_accepted Links id (Some n) = refl
 until_accepted Spans id None = refl
@@ -238,7 +229,7 @@ module _ (old new : State) (id : ℕ) (until : Option ℤ) (v : Version) (has : 
   abbrev source_of_until : Described → Row
   source_of_until x = Int (pos x.id) ∷ Int (pos x.id) ∷ Null ∷ Text x.source ∷ Text x.legacy ∷ Text x.values.level ∷ Int (flag x.draft) ∷ or_null Int until ∷ []
 
-  pub set_until_leaves : OnOk r (HasRows 14 (map unit_row (map (λ (x : Described). if nat_eq id x.id then record x { until = until } else x) xs)) old.now new.now)
+  pub set_until_leaves : OnOk r (HasRows tables.unit.tree (map unit_row (map (λ (x : Described). if nat_eq id x.id then record x { until = until } else x) xs)) old.now new.now)
   set_until_leaves =
       set_leaves old new id v has set_until_text set_until_columns (or_null Int until) (set_until_means v) source_of_until (λ _. refl) (λ _. refl) (λ (x : Described). record x { until = until }) (λ _. refl) (λ _. refl) (λ _. refl)
       (λ x. rw (cast_int (pos x.id), cast_null, cast_int (flag x.draft), cast_maybe until) refl) xs stored up r ran

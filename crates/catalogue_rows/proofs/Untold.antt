@@ -3,7 +3,7 @@ use Rattle.std.proofs.Common.{◌≡◌, ℕ, ℤ, pos, suc, ◌+◌, ◌<◌, �
 use Rattle.std.specs.Prelude.{◌&&◌, option_map, unwrap_or}
 use Rattle.std.specs.List.{AllByRecursion, list_any, list_all}
 use Rattle.std.specs.Ordering.{int_cmp, match_ordering}
-use Rattle.std.proofs.lemmas.Bool.{cases_Bool, and_parts, and_right, or_parts, or_from, ne_eqb, false≢true}
+use Rattle.std.proofs.lemmas.Bool.{cases_Bool, and_parts, and_right, or_parts, or_from, ne_eqb, false≢true, not-true}
 use Rattle.std.proofs.Math.Seq.{split_at}
 use Rattle.std.proofs.lemmas.List.Sums.{length-filter, count_by-le-length}
 use Rattle.std.proofs.lemmas.List.Folds.{list_any-append}
@@ -25,6 +25,7 @@ use Rattle.catalogue_rows.specs.Rows.{unit_row, ElementRow, HousingRow, counted_
 use Rattle.office_tables.specs.Put.{put_by}
 use Rattle.catalogue_rows.specs.Shows.{texts_from, element_number}
 use Rattle.catalogue_core.specs.Units.{Unit, has_id}
+use Rattle.office_tables.specs.Schema as tables
 use Rattle.catalogue_rows.proofs.BoxNumbers.{all_apart, all_known, box_itself, still_known, unknown_unnumbered, same_box}
 use Rattle.catalogue_rows.proofs.Finding.{itself}
 use Rattle.catalogue_rows.proofs.HousingLemmas.{cells_in, same_cells}
@@ -87,7 +88,7 @@ not_nought (c ∷ cs) b h = elim (cases_Bool (is_same c b)) [
     later None h = let e : ◌≡◌ {A = Option ℕ} None (Some 0) = h in cc
     later (Some n) h = let e : Some (suc n) ≡ Some 0 = h in cc
 
-one_less : (o : Option ℕ) (n : ℕ) → option_map suc o ≡ Some n → (m : ℕ) × (o ≡ Some m) × (n ≡ suc m)
+pub one_less : (o : Option ℕ) (n : ℕ) → option_map suc o ≡ Some n → (m : ℕ) × (o ≡ Some m) × (n ≡ suc m)
 one_less None n h = absurd (let e : ◌≡◌ {A = Option ℕ} None (Some n) = h in cc)
 one_less (Some m) n h = (m, refl, let e : Some (suc m) ≡ Some n = h in cc)
 
@@ -148,18 +149,14 @@ apart_before p (x ∷ seen) b rest h =
           let whole : x ∷ filter p (filter other (distinct all)) ≡ x ∷ all = rw passes at h in
           let later : filter (λ y. other y && p y) (distinct all) ≡ all = sym (filters other p (distinct all)) ∙ cc in
           let kept = has_filtered (λ y. other y && p y) (distinct all) b (subst (λ l. Has l b) (sym later) (has_right seen (b ∷ rest) b (inl refl))) in
-          let differs : is_same x b ≡ false = negated (is_same x b) (and_parts (other b) (p b) kept.1).0 in
+          let differs : is_same x b ≡ false = not-true (is_same x b) (and_parts (other b) (p b) kept.1).0 in
           or_from (is_same b x) (list_any (is_same b) seen) (same_sym b x ∙ differs) (apart_before (λ y. other y && p y) seen b rest later)
       | inr stops ↦
           let whole : filter p (filter other (distinct all)) ≡ x ∷ all = rw stops at h in
           let kept = has_filtered p (filter other (distinct all)) x (subst (λ l. Has l x) (sym whole) (inl refl)) in
-          let differs : is_same x x ≡ false = negated (is_same x x) (has_filtered other (distinct all) x kept.0).1 in
+          let differs : is_same x x ≡ false = not-true (is_same x x) (has_filtered other (distinct all) x kept.0).1 in
           absurd (false≢true (sym differs ∙ box_itself x))
     ]
-  where
-    negated : (b : Bool) → not b ≡ true → b ≡ false
-    negated true h = absurd (false≢true h)
-    negated false h = refl
 
 pub not_seen : (told : List BoxKey) (i : ℕ) (b : BoxKey) → i < length told → b ≡ get_or told i b → distinct told ≡ told → list_any (is_same b) (take i told) ≡ false
 not_seen told i b low is once =
@@ -231,7 +228,7 @@ none_alike k (c ∷ cs) b none =
 -- ---- units
 
 -- the unit's row stays
-pub unit_still : (old new : Trees) (unit : ℕ) → new 14 ≡ old 14 → HasUnit old unit → HasUnit new unit
+pub unit_still : (old new : Trees) (unit : ℕ) → new tables.unit.tree ≡ old tables.unit.tree → HasUnit old unit → HasUnit new unit
 unit_still old new unit same it = record { units = it.units; rows = same ∙ it.rows; there = it.there }
 
 -- a unit that is not there has no row of another table
@@ -243,11 +240,7 @@ none_yet unit_of unit f xs missing all =
 
 -- what was taken out is there no more
 pub none_left : {A : Type 0} (p : A → Bool) (xs : List A) → list_any p (filter (λ x. not (p x)) xs) ≡ false
-none_left p xs = none_passes p (filter (λ x. not (p x)) xs) (all_from (λ x. p x ≡ false) (filter (λ x. not (p x)) xs) (λ x h. not_true (p x) (has_filtered (λ x. not (p x)) xs x h).1))
-  where
-    not_true : (b : Bool) → not b ≡ true → b ≡ false
-    not_true true h = absurd (false≢true h)
-    not_true false h = refl
+none_left p xs = none_passes p (filter (λ x. not (p x)) xs) (all_from (λ x. p x ≡ false) (filter (λ x. not (p x)) xs) (λ x h. not-true (p x) (has_filtered (λ x. not (p x)) xs x h).1))
 
 put_has : {A : Type 0} (key : A → ℤ) (new : A) (xs : List A) → Has (put_by key new xs) new
 put_has key new [] = inl refl
@@ -258,7 +251,7 @@ put_has key new (x ∷ xs) = elim (int_cmp (key x) (key new)) as (λ o. Has (mat
 ]
 
 -- a unit that was added has its row
-pub unit_added : (old new : Trees) (u : Unit) (units : List Unit) → old 14 ≡ map unit_row units → new 14 ≡ put_row (unit_row u) (old 14) → HasUnit new u.id
+pub unit_added : (old new : Trees) (u : Unit) (units : List Unit) → old tables.unit.tree ≡ map unit_row units → new tables.unit.tree ≡ put_row (unit_row u) (old tables.unit.tree) → HasUnit new u.id
 unit_added old new u units at put =
     let key = λ (x : Unit). pos x.id in
     record {
@@ -268,7 +261,7 @@ unit_added old new u units at put =
     }
 
 -- a unit that was given other values has its row
-pub unit_valued : (new : Trees) (unit : ℕ) (values : Values) (units : List Unit) → new 14 ≡ map unit_row (map (λ (x : Unit). if nat_eq unit x.id then record x { values = values } else x) units) → list_any (has_id unit) units ≡ true → HasUnit new unit
+pub unit_valued : (new : Trees) (unit : ℕ) (values : Values) (units : List Unit) → new tables.unit.tree ≡ map unit_row (map (λ (x : Unit). if nat_eq unit x.id then record x { values = values } else x) units) → list_any (has_id unit) units ≡ true → HasUnit new unit
 unit_valued new unit values units at there =
     let valued = λ (x : Unit). if nat_eq unit x.id then record x { values = values } else x in
     let it = some_has (has_id unit) units there in

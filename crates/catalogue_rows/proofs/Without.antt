@@ -4,16 +4,12 @@ use Rattle.std.specs.List.{list_any}
 use Rattle.std.proofs.lemmas.List.Folds.{list_any-append}
 use Rattle.tree_core.proofs.Lists.{eqb_comm}
 use Rattle.catalogue_rows.specs.Removals.{without}
-use Rattle.office_tables.proofs.Rows.{same_test, filters, kept_all}
+use Rattle.office_tables.proofs.Rows.{same_test, filters, kept_all, neither}
 use Rattle.catalogue_rows.proofs.Statuses.{any_more}
 
 module _ {A : Type 0} (key : A → ℕ) where
   pub without_none : (xs : List A) → without key [] xs ≡ xs
   without_none xs = kept_all xs
-
-  neither : (a b : Bool) → (not a && not b) ≡ not (a || b)
-  neither true b = refl
-  neither false b = refl
 
   pub without_more : (ids : List ℕ) (id : ℕ) (xs : List A) → filter (λ x. not (nat_eq id (key x))) (without key ids xs) ≡ without key (ids ++ id ∷ []) xs
   without_more ids id xs =

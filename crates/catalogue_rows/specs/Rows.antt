@@ -8,26 +8,38 @@ use Rattle.sqlite.specs.Order.{Row}
 use Rattle.sqlite.specs.Values.{or_null}
 use Rattle.isad_core.specs.declared.values.BoxKey.{BoxKey}
 use Rattle.tree_core.specs.declared.rows.Link.{Link}
-use Rattle.tree_core.specs.Versions.{Version}
+use Rattle.tree_core.specs.Versions.{Version, Links}
 use Rattle.catalogue_core.specs.Units.{Unit}
 use Rattle.catalogue_rows.specs.declared.office.OfficeRow.{OfficeRow}
 pub use Rattle.tree_core.specs.Versions.{version_number}
 pub use Rattle.catalogue_core.specs.CatalogueRows.{ElementRow, HousingRow}
 pub use Rattle.office_tables.specs.Flags.{flag}
+pub use Rattle.office_tables.specs.Shared.{container_row}
+use Rattle.office_tables.specs.Shared.{settings_cells, office_cells}
+use Rattle.catalogue_core.specs.CatalogueRows as row
 
 -- ---- office
 
-abbrev pub settings_cells : OfficeRow → Row
-settings_cells o =
-    Text o.country ∷ Text o.repo ∷ Int (pos o.seats) ∷ Int (pos o.daily) ∷ Int (pos o.hands) ∷ Int (pos o.run_size) ∷ Int o.day
-    ∷ Int (pos o.next_unit) ∷ []
-
-abbrev pub office_cells : Version → OfficeRow → Row
-office_cells version o =
-    Int (pos (version_number version)) ∷ settings_cells o
+-- what the office's row is in this version
+abbrev pub told_in : Version → OfficeRow → row.OfficeRow
+told_in version o = record {
+  version = version_number version;
+  country = o.country;
+  repo = o.repo;
+  seats = o.seats;
+  daily = o.daily;
+  hands = o.hands;
+  run_size = o.run_size;
+  day = o.day;
+  next_unit = o.next_unit;
+}
 
 abbrev pub office_row : Version → OfficeRow → Row
-office_row version o = Int (pos 1) ∷ Null ∷ office_cells version o
+office_row version o = office_cells (told_in version o)
+
+-- the same in either version
+abbrev pub told_cells : OfficeRow → Row
+told_cells o = settings_cells (told_in Links o)
 
 -- ---- units
 
@@ -47,9 +59,6 @@ abbrev pub by_element : ElementRow → ElementRow → Ordering
 by_element a b = ordering_then (int_cmp (pos a.unit) (pos b.unit)) (int_cmp (pos a.k) (pos b.k))
 
 -- ---- containers, numbered from 1
-
-abbrev pub container_row : ℕ × BoxKey → Row
-container_row (n, b) = Int (pos n) ∷ Null ∷ Text b.name ∷ Text b.location ∷ Text b.kind ∷ []
 
 abbrev pub by_container : ℕ × BoxKey → ℕ × BoxKey → Ordering
 by_container a b = int_cmp (pos a.0) (pos b.0)

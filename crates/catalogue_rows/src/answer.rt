@@ -84,9 +84,9 @@ impl FromRow for Housing {
 
 impl FromRow for OfficeRow {
     ghost use Rattle.catalogue_rows.specs.Settings.{AreLegibleSettings};
-    ghost use Rattle.catalogue_rows.specs.Rows.{settings_cells};
+    ghost use Rattle.catalogue_rows.specs.Rows.{told_cells};
 
-    ghost cells = { settings_cells };
+    ghost cells = { told_cells };
 
     ghost is_legible = { AreLegibleSettings };
 

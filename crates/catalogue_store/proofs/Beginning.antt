@@ -27,9 +27,9 @@ shows_beginning v shows same start mid new o made schema_is puts placed =
         office = puts.rows ∙ ap (put_row (office_row v o)) none.0;
         next = refl;
         units = record { units = []; rows = kept tables.unit.tree refl refl ∙ none.1.0; rise = tt; are = IsPermutation-refl [] };
-        elements = record { elements = []; rows = none_there element_row (new.trees 16) (kept tables.element.tree refl refl ∙ none.1.1.0); are = tt; others = tt };
+        elements = record { elements = []; rows = none_there element_row (new.trees tables.element.tree) (kept tables.element.tree refl refl ∙ none.1.1.0); are = tt; others = tt };
         containers = kept tables.container.tree refl refl ∙ none.1.1.1.0;
-        housings = record { housings = []; rows = none_there housing_row (new.trees 20) (kept tables.housing.tree refl refl ∙ none.1.1.1.1.0); are = tt; others = tt };
+        housings = record { housings = []; rows = none_there housing_row (new.trees tables.housing.tree) (kept tables.housing.tree refl refl ∙ none.1.1.1.1.0); are = tt; others = tt };
       };
       shown = same mid.trees new.trees Empty (kept tables.link.tree refl refl) placed;
     }

@@ -10,6 +10,7 @@ use Rattle.isad_core.specs.Boxes.{is_same}
 use Rattle.catalogue_core.specs.Merging.{number_in, box_number}
 use Rattle.catalogue_rows.specs.Rows.{counted_from}
 use Rattle.catalogue_rows.proofs.BoxNumbers.{same_box}
+use Rattle.catalogue_rows.proofs.Untold.{one_less}
 use Rattle.office_tables.proofs.Rows.{had, map_has}
 
 from_its_number : (n : ℕ) (cs : List BoxKey) → (x : ℕ × BoxKey) → Has (counted_from (n + 1) cs) x → n < x.0
@@ -26,10 +27,6 @@ positive (c ∷ cs) b n h = at (is_same c b) (number_in cs b) h
     at false None e = absurd (cc)
     at false (Some m) e = let k : suc m ≡ n = cc in omega (arith, k)
 
-pub later : (o : Option ℕ) (n : ℕ) → option_map suc o ≡ Some n → (m : ℕ) × (o ≡ Some m) × (n ≡ suc m)
-later None n e = absurd (cc)
-later (Some m) n e = (m, refl, cc)
-
 named : (k : ℕ) (cs : List BoxKey) (b : BoxKey) (n : ℕ) (x : ℕ × BoxKey) → Has (counted_from (k + 1) cs) x → number_in cs b ≡ Some n → x.0 ≡ k + n → x.1 ≡ b
 named k [] b n x h is at = absurd h
 named k (c ∷ cs) b n x h is at = elim (cases_Bool (is_same c b)) [
@@ -39,7 +36,7 @@ named k (c ∷ cs) b n x h is at = elim (cases_Bool (is_same c b)) [
       first h n_is (same_box c b same)
   | inr differs ↦
       let rest : option_map suc (number_in cs b) ≡ Some n = rw differs at is in
-      let m = later (number_in cs b) n rest in
+      let m = one_less (number_in cs b) n rest in
       more m.0 (λ h e. named (k + 1) cs b m.0 x h m.1 e) h m.1 m.2
 ]
   where

@@ -7,12 +7,13 @@ use Rattle.isad_core.specs.declared.values.BoxKey.{BoxKey}
 use Rattle.isad_core.specs.declared.values.Values.{Values}
 use Rattle.isad_core.specs.Boxes.{distinct, is_same}
 use Rattle.tree_core.specs.Forest.{Forest, Empty, Node, nodes, join, put_below, add}
+use Rattle.tree_core.proofs.EachLemmas.{nodes-each}
 use Rattle.catalogue_core.specs.Describing.{with_boxes, KnowsItsContainers, with_unit, with_values}
 use Rattle.catalogue_core.specs.Merging.{Catalogue}
 use Rattle.catalogue_core.specs.Units.{Unit, has_id}
 use Rattle.catalogue_rows.proofs.BoxNumbers.{all_apart, all_known, still_known}
 use Rattle.catalogue_core.proofs.NodeLemmas.{nodes_join}
-use Rattle.catalogue_rows.proofs.Statuses.{nodes_each, all_map}
+use Rattle.catalogue_rows.proofs.Statuses.{all_map}
 
 module _ {A : Type 0} (P : A → Type 0) where
   both : (xs ys : List A) → AllByRecursion P (xs ++ ys) → AllByRecursion P xs × AllByRecursion P ys
@@ -59,7 +60,7 @@ known_valued c unit values knows =
     let valued = λ (u : Unit). if has_id unit u then record u { values = values } else u in
     record {
       apart = all_apart cs bs knows.apart;
-      known = subst (AllByRecursion (IsKnown all)) (sym (nodes_each valued c.forest))
+      known = subst (AllByRecursion (IsKnown all)) (sym (nodes-each valued c.forest))
           (all_map valued (IsKnown all) (IsKnown cs) (λ u h. elim (has_id unit u) as (λ b. IsKnown all (cond b (record u { values = values }) u)) [
             | true ↦ all_known cs bs knows.apart
             | false ↦ known_still cs bs knows.apart u h

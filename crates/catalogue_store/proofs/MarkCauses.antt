@@ -1,6 +1,5 @@
 -- Why reading marks fails: never for the units of a catalogue within its limits.
-use Rattle.std.proofs.Common.{◌≡◌, inl, inr, ℕ, ◌<◌, ◌≤◌, ◌^◌, List, [], ◌∷◌, map, filter, length, get_or, Some, None, slice_get, Result, Ok, Err, OnErr, nat_eq, refl, sym, ap, subst, ◌∙◌, arith}
-use Rattle.std.specs.Prelude.{IfErr}
+use Rattle.std.proofs.Common.{◌≡◌, inl, inr, ℕ, ◌<◌, ◌≤◌, ◌^◌, List, [], ◌∷◌, map, filter, length, get_or, Some, None, slice_get, nat_eq, refl, sym, ap, subst, ◌∙◌, arith}
 use Rattle.std.specs.List.{AllByRecursion}
 use Rattle.std.proofs.lemmas.Bool.{eq-eqb}
 use Rattle.std.proofs.lemmas.List.{get_or-map, length-map}
@@ -11,6 +10,7 @@ use Rattle.sqlite_rules.proofs.ListLemmas.{all_has, has_filtered, has_kept}
 use Rattle.sqlite_trees.proofs.ListLemmas.{all-get_or, all-permutation, all_from_map}
 use Rattle.tree_core.specs.Forest.{Forest, nodes}
 use Rattle.tree_core.specs.declared.rows.Span.{Span}
+use Rattle.tree_core.proofs.EachLemmas.{nodes-each}
 use Rattle.catalogue_core.specs.Bounds.{IsKept, IsLegibleUnit}
 use Rattle.catalogue_store.specs.Attaching.{AreAttached}
 use Rattle.catalogue_core.specs.Marking.{names}
@@ -20,12 +20,6 @@ use Rattle.catalogue_core.specs.Units.{Unit}
 use Rattle.catalogue_rows.specs.declared.answer.Status.{Status}
 use Rattle.catalogue_store.proofs.MarkReads.{blank_unit}
 use Rattle.office_tables.proofs.Rows.{had}
-use Rattle.catalogue_rows.proofs.Statuses.{nodes_each}
-
--- why a last call fails, which leaves this
-pub if_err_with : {X E : Type 0} (r : Result X E) (P : Type 0) (Q : E → Type 0) → (P → IfErr r Q) → OnErr r P → IfErr r Q
-if_err_with (Ok x) P Q f p = tt
-if_err_with (Err e) P Q f p = f p
 
 -- ---- the units of a catalogue
 
@@ -35,7 +29,7 @@ legible_units db c at kept = all-permutation IsLegibleUnit (nodes c.forest) at.u
 low_ids : (c : Catalogue) → IsKept c → AllByRecursion (λ (u : Unit). u.id < 2 ^ 63) (nodes c.forest)
 low_ids c kept =
     all_from_map (λ (id : ℕ). id < 2 ^ 63) (λ (u : Unit). u.id) (nodes c.forest)
-    (subst (AllByRecursion (λ (id : ℕ). id < 2 ^ 63)) (nodes_each (λ (u : Unit). u.id) c.forest) kept.places.low)
+    (subst (AllByRecursion (λ (id : ℕ). id < 2 ^ 63)) (nodes-each (λ (u : Unit). u.id) c.forest) kept.places.low)
 
 pub low_id : (c : Catalogue) → IsKept c → (u : Unit) → Has (nodes c.forest) u → u.id < 2 ^ 63
 low_id c kept u there = all_has (λ (u : Unit). u.id < 2 ^ 63) (nodes c.forest) u (low_ids c kept) there

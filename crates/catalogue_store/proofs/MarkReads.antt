@@ -24,8 +24,7 @@ use Rattle.catalogue_core.specs.Units.{Unit}
 use Rattle.catalogue_rows.specs.declared.answer.Status.{Status}
 use Rattle.catalogue_rows.proofs.Offices.{length-counted}
 use Rattle.office_tables.proofs.Rows.{had}
-use Rattle.office_tables.proofs.Reading.{first_kept}
-use Rattle.catalogue_store.proofs.Climbing.{first_of}
+use Rattle.office_tables.proofs.Reading.{first_shown}
 
 -- ---- the status
 
@@ -54,8 +53,7 @@ unfolding status_of
 status_read db f at id u found s there same is first =
     let in_units : Has at.units u = had at.units (nodes f) (IsPermutation-sym (nodes f) at.units at.are) u there in
     let e : s ≡ status_of u =
-    some_same u s (first ∙ ap (λ l. slice_get l 0) is ∙ first_of status_of (filter (λ (x : Unit). nat_eq id x.id) at.units)
-    ∙ ap (option_map status_of) (first_kept (λ (x : Unit). nat_eq id x.id) at.units ∙ found_unit at.units id u at.rise in_units same)) in
+    some_same u s (first ∙ first_shown status_of (λ (x : Unit). nat_eq id x.id) at.units found is ∙ ap (option_map status_of) (found_unit at.units id u at.rise in_units same)) in
     (ap (λ (x : Status). x.draft) e, ap (λ (x : Status). x.until) e)
 
 -- ---- whether it names containers of its own

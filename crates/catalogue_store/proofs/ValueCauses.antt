@@ -21,9 +21,8 @@ use Rattle.catalogue_core.specs.Merging.{number_in, box_number}
 use Rattle.catalogue_rows.specs.Rows.{counted_from, ElementRow}
 use Rattle.catalogue_rows.specs.Shows.{ShowsElements, texts_from, element_number, element_cells, elements_of}
 use Rattle.catalogue_core.specs.Units.{Unit, has_id}
-use Rattle.catalogue_store.proofs.BoxReads.{later}
 use Rattle.office_tables.proofs.Rows.{had, has_map, map_has}
-use Rattle.catalogue_rows.proofs.Untold.{numbered}
+use Rattle.catalogue_rows.proofs.Untold.{numbered, one_less}
 
 -- a call that does not fail
 pub never_fails : {X E : Type 0} (r : Result X E) (Q : E → Type 0) → IsOk r → IfErr r Q
@@ -74,7 +73,7 @@ counted_there k (c ∷ cs) b n is = elim (cases_Bool (is_same c b)) [
       let n_is : 1 ≡ n = cc in
       ((k + 1, c), inl refl, omega (arith, n_is), omega (arith, n_is))
   | inr differs ↦
-      let m = later (number_in cs b) n (rw differs at is) in
+      let m = one_less (number_in cs b) n (rw differs at is) in
       let rest = counted_there (k + 1) cs b m.0 m.1 in
       (rest.0, inr rest.1, omega (arith, rest.2, m.2), omega (arith, rest.3, m.2))
 ]

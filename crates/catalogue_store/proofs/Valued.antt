@@ -17,12 +17,13 @@ use Rattle.catalogue_core.specs.Describing.{with_boxes, with_values, KnowsItsCon
 use Rattle.catalogue_core.specs.Merging.{Catalogue}
 use Rattle.catalogue_rows.specs.Rows.{unit_row, ElementRow, HousingRow}
 use Rattle.tree_core.specs.Versions.{Version}
+use Rattle.tree_core.proofs.EachLemmas.{nodes-each}
 use Rattle.catalogue_rows.specs.Shows.{Shows, element_cells, elements_of, housing_cells, housings_of}
 use Rattle.catalogue_core.specs.Units.{Unit, has_id}
 use Rattle.catalogue_rows.specs.declared.office.OfficeRow.{OfficeRow}
 use Rattle.catalogue_rows.proofs.HousingLemmas.{same_cells}
 use Rattle.catalogue_rows.proofs.Parts.{own_cells, others_cells, all_theirs}
-use Rattle.catalogue_rows.proofs.Statuses.{nodes_each, each_each, all_map, kept_by, rising, still_there}
+use Rattle.catalogue_rows.proofs.Statuses.{each_each, all_map, kept_by, rising, still_there}
 
 -- what tells the unit's values in the tables is what tells these, and all else is as it was
 pub record HasValued (old new : Database) (unit : ℕ) (values : Values) (units : List Unit) (elements : List ElementRow) (housings : List HousingRow) (boxes : List BoxKey) : Type 0 where
@@ -50,7 +51,7 @@ module _ (unit : ℕ) (values : Values) where
       → AllByRecursion (λ u. IsPermutation (element_cells u.values) (elements_of u.id xs)) (nodes f) → AllByRecursion (λ u. IsPermutation (element_cells u.values) (elements_of u.id ys)) (nodes (each valued f))
   elements_still f xs ys told all =
       let P = λ (n : ℕ) (v : Values). IsPermutation (element_cells v) (elements_of n ys) in
-      subst (AllByRecursion (λ (u : Unit). P u.id u.values)) (sym (nodes_each valued f))
+      subst (AllByRecursion (λ (u : Unit). P u.id u.values)) (sym (nodes-each valued f))
       (all_map valued (λ (u : Unit). P u.id u.values) (λ (u : Unit). IsPermutation (element_cells u.values) (elements_of u.id xs))
       (λ u h. by_values P u (own_cells (λ (e : ElementRow). e.unit) cell_of unit (element_cells values) xs ys told)
       (λ apart. IsPermutation-trans (element_cells u.values) (elements_of u.id xs) (elements_of u.id ys) h (others_cells (λ (e : ElementRow). e.unit) cell_of unit u.id (element_cells values) xs ys apart told)))
@@ -66,7 +67,7 @@ module _ (unit : ℕ) (values : Values) where
       let P = λ (n : ℕ) (v : Values). IsPermutation (housing_cells more v) (housings_of n ys) in
       let Q = λ (u : Unit). IsPermutation (housing_cells more u.values) (housings_of u.id xs) in
       let still = all_both (IsKnown boxes) (λ (u : Unit). IsPermutation (housing_cells boxes u.values) (housings_of u.id xs)) Q (λ u k h. subst (λ l. IsPermutation l (housings_of u.id xs)) (sym (same u k)) h) (nodes f) known all in
-      subst (AllByRecursion (λ (u : Unit). P u.id u.values)) (sym (nodes_each valued f))
+      subst (AllByRecursion (λ (u : Unit). P u.id u.values)) (sym (nodes-each valued f))
       (all_map valued (λ (u : Unit). P u.id u.values) Q
       (λ u h. by_values P u (own_cells (λ (h : HousingRow). h.unit) housing_cell unit (housing_cells more values) xs ys told)
       (λ apart. IsPermutation-trans (housing_cells more u.values) (housings_of u.id xs) (housings_of u.id ys) h (others_cells (λ (h : HousingRow). h.unit) housing_cell unit u.id (housing_cells more values) xs ys apart told)))
@@ -91,7 +92,7 @@ module _ (unit : ℕ) (values : Values) where
             units = map valued at.units.units;
             rows = wrote.units_are;
             rise = rising valued same_id at.units.units at.units.rise;
-            are = subst (λ l. IsPermutation l (map valued at.units.units)) (sym (nodes_each valued f)) (IsPermutation-map valued (nodes f) at.units.units at.units.are);
+            are = subst (λ l. IsPermutation l (map valued at.units.units)) (sym (nodes-each valued f)) (IsPermutation-map valued (nodes f) at.units.units at.units.are);
           };
           elements = record {
             elements = made.elements;

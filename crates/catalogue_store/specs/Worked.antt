@@ -8,7 +8,7 @@ use Rattle.tree_core.specs.declared.rows.Link.{Link}
 use Rattle.catalogue_core.specs.Merging.{Catalogue}
 use Rattle.catalogue_rows.specs.Rows.{office_row, unit_row, ElementRow, element_row, container_row, HousingRow, housing_row, link_row}
 use Rattle.tree_core.specs.Versions.{Links}
-use Rattle.office_tables.specs.Schema.{schema}
+use Rattle.office_tables.specs.Schema.{schema, office, unit, element, container, housing, link}
 use Rattle.catalogue_core.specs.Units.{Unit}
 use Rattle.catalogue_rows.specs.declared.office.OfficeRow.{OfficeRow}
 
@@ -60,12 +60,12 @@ link_rows = record { id = 1; parent = None; ord = 1 } ∷ record { id = 2; paren
 
 abbrev pub rows : Trees
 rows tree =
-    if tree == 13 then office_row Links settings ∷ []
-    else if tree == 14 then unit_row fonds ∷ unit_row series ∷ []
-    else if tree == 16 then map element_row element_rows
-    else if tree == 18 then container_row (1, box) ∷ []
-    else if tree == 20 then map housing_row housing_rows
-    else if tree == 24 then map link_row link_rows
+    if tree == office.tree then office_row Links settings ∷ []
+    else if tree == unit.tree then unit_row fonds ∷ unit_row series ∷ []
+    else if tree == element.tree then map element_row element_rows
+    else if tree == container.tree then container_row (1, box) ∷ []
+    else if tree == housing.tree then map housing_row housing_rows
+    else if tree == link.tree then map link_row link_rows
     else []
 
 abbrev pub tables : Database

@@ -1,5 +1,5 @@
 -- The statement on a container: what its text means, what it tells, and why it fails. And the container that it tells.
-use Rattle.std.proofs.Common.{◌≡◌, ◌<◌, ℕ, pos, List, [], ◌∷◌, length, map, filter, find, codes, true, false, ◌++◌, Option, Some, None, Result, IfOk, IfErr, Ordering, nat_eq, refl, sym, ap, ◌∙◌, arith}
+use Rattle.std.proofs.Common.{◌≡◌, ◌<◌, ℕ, pos, List, [], ◌∷◌, length, map, filter, find, codes, true, false, ◌++◌, Option, Some, None, Result, IfOk, IfErr, Ordering, nat_eq, refl, sym, ap, arith}
 use Rattle.std.proofs.Math.Nat.{le_refl}
 use Rattle.std.specs.Prelude.{IsSome, option_map, option_to_list, slice_get}
 use Rattle.std.specs.Cmp.{IsTotalOrder, on_total, int_cmp_total}
@@ -24,11 +24,12 @@ use Rattle.office_tables.specs.Faults.{IsUnlimited, HasCause}
 use Rattle.office_tables.specs.Meaning.{Means}
 use Rattle.office_tables.specs.Order.{IsOrdered}
 use Rattle.office_tables.specs.Schema.{schema, container}
-use Rattle.office_tables.specs.Shared.{box_cells}
+use Rattle.office_tables.specs.Shared.{container_row}
 use Rattle.office_tables.specs.Step.{Holds}
 use Rattle.office_tables.specs.declared.fault.StoreFault.{StoreFault}
-use Rattle.office_tables.proofs.Reading.{first_kept}
-use Rattle.office_tables.proofs.statements.SelectOf.{asking, select_finds, select_faults}
+use Rattle.office_tables.proofs.Reading.{first_shown}
+use Rattle.office_tables.proofs.Queries.{asking}
+use Rattle.office_tables.proofs.statements.SelectOf.{select_finds, select_faults}
 use Rattle.office_tables.proofs.Tests.{only, same_number, by_one_int}
 use Rattle.desk_store.proofs.CardRows.{in_order}
 
@@ -65,27 +66,23 @@ unfolding understood everything
 box_means Links = record { is = refl; plain = (refl, refl); whole = (le_refl _, refl, refl); unlisted = refl }
 box_means Spans = record { is = refl; plain = (refl, refl); whole = (le_refl _, refl, refl); unlisted = refl }
 
-module _ (old new : State) (n : ℕ) (v : Version) (has : old.now.schema ≡ schema v) (bs : List Numbered) (stored : Holds container box_cells old bs) {X : Type 0} (items : X → List BoxKey) (r : Result X StoreFault) where
+module _ (old new : State) (n : ℕ) (v : Version) (has : old.now.schema ≡ schema v) (bs : List Numbered) (stored : Holds container container_row old bs) {X : Type 0} (items : X → List BoxKey) (r : Result X StoreFault) where
   pub box_finds : IfOk r (λ found. Finds written_cells box_text (Int (pos n) ∷ []) old new (items found))
       → IfOk r (λ found. (ys : List Numbered) × IsOrdered by_number (filter (λ (b : Numbered). nat_eq n b.0) bs) ys × (items found ≡ map (λ (b : Numbered). b.1) ys))
   box_finds =
-      select_finds v container box_text with_its_number box_columns in_order box_names (Int (pos n) ∷ []) (box_means v) old new has box_cells bs stored
+      select_finds v container box_text with_its_number box_columns in_order box_names (Int (pos n) ∷ []) (box_means v) old new has container_row bs stored
       (λ (b : Numbered). nat_eq n b.0) (λ b. only (same_number b.0 n)) (λ b. written_cells b.1) (λ (b : Numbered). Int (pos b.0) ∷ []) (λ _. refl) by_number (λ _. refl) (λ a b. by_one_int (pos a.0) (pos b.0))
       written_cells items (λ (b : Numbered). b.1) (λ _. refl) r
 
   pub box_faults : AllByRecursion (λ (b : Numbered). IsLegibleBox b.1) bs → IsUnlimited old → IfErr r (Misses written_cells IsLegibleBox box_text (Int (pos n) ∷ []) old new) → IfErr r (HasCause old new)
   box_faults legible free =
-      select_faults v container box_text with_its_number box_columns in_order box_names (Int (pos n) ∷ []) (box_means v) old new has box_cells bs stored
+      select_faults v container box_text with_its_number box_columns in_order box_names (Int (pos n) ∷ []) (box_means v) old new has container_row bs stored
       (λ (b : Numbered). nat_eq n b.0) (λ b. only (same_number b.0 n)) (λ b. written_cells b.1) (λ (b : Numbered). Int (pos b.0) ∷ []) (λ _. refl) by_number (λ _. refl) (λ a b. by_one_int (pos a.0) (pos b.0))
       written_cells items (λ (b : Numbered). b.1) (λ _. refl) IsLegibleBox refl free legible r
 
-first_mapped : (bs : List Numbered) → slice_get (map (λ (b : Numbered). b.1) bs) 0 ≡ option_map (λ (b : Numbered). b.1) (slice_get bs 0)
-first_mapped [] = refl
-first_mapped (b ∷ bs) = refl
-
 -- the first of the rows tells what is written on it
 pub box_told : (n : ℕ) (bs : List Numbered) (found : List BoxKey) → found ≡ map (λ (b : Numbered). b.1) (filter (λ (b : Numbered). nat_eq n b.0) bs) → slice_get found 0 ≡ option_map (λ (b : Numbered). b.1) (find (λ (b : Numbered). nat_eq n b.0) bs)
-box_told n bs found are = ap (λ l. slice_get l 0) are ∙ first_mapped (filter (λ (b : Numbered). nat_eq n b.0) bs) ∙ ap (option_map (λ (b : Numbered). b.1)) (first_kept (λ (b : Numbered). nat_eq n b.0) bs)
+box_told n bs found are = first_shown (λ (b : Numbered). b.1) (λ (b : Numbered). nat_eq n b.0) bs found are
 
 -- what an iterator gives first is the first of its items
 pub first_out : {A : Type 0} (r : Option A) (xs rest : List A) → xs ≡ option_to_list r ++ rest → (0 < length xs → IsSome r) → r ≡ slice_get xs 0

@@ -29,8 +29,9 @@ use Rattle.office_tables.specs.Order.{IsOrdered}
 use Rattle.office_tables.specs.Schema.{schema, run}
 use Rattle.office_tables.specs.Step.{Holds}
 use Rattle.office_tables.specs.declared.fault.StoreFault.{StoreFault}
-use Rattle.office_tables.proofs.Reading.{first_kept}
-use Rattle.office_tables.proofs.statements.SelectOf.{asking, select_finds, select_faults}
+use Rattle.office_tables.proofs.Reading.{first_shown}
+use Rattle.office_tables.proofs.Queries.{asking}
+use Rattle.office_tables.proofs.statements.SelectOf.{select_finds, select_faults}
 use Rattle.office_tables.proofs.Tests.{only, same_number, by_one_int}
 use Rattle.desk_store.specs.Rows.{run_cells}
 use Rattle.desk_store.specs.Stacks.{Stacks, box_with, IsToldLine}
@@ -90,13 +91,8 @@ found_by p (y ∷ ys) x e = elim (cases_Bool (p y)) [
   | inr other ↦ found_by p ys x (sym (ap (λ b. cond b (Some y) (find p ys)) other) ∙ e)
 ]
 
-first_mapped : (xs : List RunRow) → slice_get (map day_of xs) 0 ≡ option_map day_of (slice_get xs 0)
-first_mapped [] = refl
-first_mapped (x ∷ xs) = refl
-
 pub day_told : (n : ℕ) (xs : List RunRow) (found : List RunDay) → found ≡ map day_of (filter (λ (x : RunRow). nat_eq n x.id) xs) → slice_get found 0 ≡ option_map day_of (find (λ (x : RunRow). nat_eq n x.id) xs)
-day_told n xs found are =
-    ap (λ l. slice_get l 0) are ∙ first_mapped (filter (λ (x : RunRow). nat_eq n x.id) xs) ∙ ap (option_map day_of) (first_kept (λ (x : RunRow). nat_eq n x.id) xs)
+day_told n xs found are = first_shown day_of (λ (x : RunRow). nat_eq n x.id) xs found are
 
 -- it is the run that was asked for
 pub same_run : (n : ℕ) (xs : List RunRow) (x : RunRow) → find (λ (x : RunRow). nat_eq n x.id) xs ≡ Some x → n ≡ x.id

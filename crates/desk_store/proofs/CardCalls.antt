@@ -1,25 +1,14 @@
 -- A reader's card: its parts are read one after another, and nothing is changed between them.
-use Rattle.std.proofs.Common.{◌≡◌, ℕ, ℤ, suc, ◌+◌, ◌<◌, ◌≤◌, ◌^◌, ◌&&◌, true, false, Bool, cond, nat_eq, List, [], ◌∷◌, map, filter, length, find, Some, None, Result, Ok, Err, refl, sym, ap, subst, ◌∙◌, arith}
+use Rattle.std.proofs.Common.{◌≡◌, ℕ, ℤ, suc, ◌+◌, ◌<◌, ◌≤◌, ◌^◌, ◌&&◌, true, false, Bool, cond, nat_eq, List, [], ◌∷◌, map, filter, length, find, Some, None, refl, sym, ap, subst, ◌∙◌, arith}
 use Rattle.std.specs.Prelude.{⊤, nat_lt, option_map, slice_get}
 use Rattle.std.specs.List.{AllByRecursion, count_by}
 use Rattle.std.proofs.lemmas.Bool.Decides.{nat_tests}
 use Rattle.std.proofs.lemmas.List.{length-map}
 use Rattle.std.proofs.lemmas.List.Sums.{length-filter, count_by-le-length}
-use Rattle.sqlite.specs.Effect.{Database}
-use Rattle.sqlite.specs.Held.{Held, state}
-use Rattle.sqlite.specs.State.{State, HasCleanDisk}
-use Rattle.sqlite_trees.specs.declared.store.Store as store
+use Rattle.sqlite.specs.Held.{state}
 use Rattle.isad_core.specs.Limits.{most_orders}
 use Rattle.desk_core.specs.DeskRows.{Desk, ReaderRow, SeatRow, OrderRow}
-use Rattle.office_tables.specs.Calls.{Tells}
-use Rattle.office_tables.specs.Faults.{IsUnlimited, HasCause}
-use Rattle.office_tables.specs.Step.{IsCut, Looks}
-use Rattle.office_tables.specs.declared.fault.StoreFault.{StoreFault}
-use Rattle.office_tables.proofs.Calls.{cut_then}
-use Rattle.office_tables.proofs.Causes.{still_unlimited}
-use Rattle.office_tables.proofs.LaterCauses.{next_cause}
 use Rattle.desk_store.specs.Readers.{is_live, live_orders, held_with, seat_of, placed_on, card_of}
-use Rattle.desk_store.specs.Shows.{ShowsDesk, ShowsRoom, IsLegible}
 use Rattle.office_tables.specs.Numbered.{AreCounted}
 use Rattle.desk_store.specs.declared.cards.LiveOrder.{LiveOrder}
 use Rattle.desk_store.specs.declared.cards.ReaderCard.{ReaderCard}
@@ -28,38 +17,6 @@ use Rattle.desk_store.specs.declared.seating.TakenSeat.{TakenSeat}
 use Rattle.office_tables.proofs.numbered.Counted.{counted_within}
 use Rattle.desk_store.proofs.ReaderRows.{named}
 use Rattle.desk_store.proofs.SeatRows.{taken}
-
--- ---- a call that reads in several steps
-
--- the same desk is still shown
-pub shown_after : (a b : State) → Looks a b → HasCleanDisk b → (d : Desk) → ShowsDesk a.now.trees d → ShowsDesk b.now.trees d
-shown_after a b looked clean d shown = subst (λ (db : Database). ShowsDesk db.trees d) (sym (looked.same clean)) shown
-
-module _ {S Y : Type 0} (g : store.Ghosts S) (before mid after : Held S) (answer : ⊤ → Desk → Y → Type 0) where
-  abbrev a : State
-  a = state g before
-
-  abbrev b : State
-  b = state g mid
-
-  abbrev c : State
-  c = state g after
-
-  -- it ends with the fault of a step
-  pub told_not : Looks a b → (e : StoreFault) → IsCut b c → ((d : Desk) → ShowsDesk b.now.trees d → IsLegible d → HasCleanDisk c → IsUnlimited b → HasCause b c e)
-      → (r : Result Y StoreFault) → r ≡ Err e → Tells g ShowsRoom IsLegible before after r (λ _. ⊤) answer
-  told_not looked e cut why r is =
-      subst (λ (r : Result Y StoreFault). Tells g ShowsRoom IsLegible before after r (λ _. ⊤) answer) (sym is)
-      (record {
-        answers = λ clean beside d shown. tt;
-        looks = tt;
-        cut = cut_then a b c looked.goes.on cut;
-        faults = λ beside d shown may kept clean free. next_cause a b c looked.goes.on cut clean e (λ cleaner. why d (shown_after a b looked cleaner d shown) kept clean (still_unlimited a b looked.goes.on free));
-      })
-
-  -- it ends with what was read
-  pub told_all : Looks a c → (y : Y) → (HasCleanDisk c → (d : Desk) → ShowsDesk a.now.trees d → answer tt d y) → Tells g ShowsRoom IsLegible before after (Ok y) (λ _. ⊤) answer
-  told_all looked y is = record { answers = λ clean beside d shown. is clean d shown; looks = looked; cut = tt; faults = λ beside d shown may kept clean free. tt }
 
 -- ---- a number that was not given
 

@@ -14,7 +14,8 @@ use Rattle.sqlite_value.specs.Keys.{ascending}
 use Rattle.sqlite_value.proofs.OrderLemmas.{value_cmp-Int}
 use Rattle.office_tables.specs.Asking.{Finds}
 use Rattle.office_tables.specs.Order.{IsOrdered}
-use Rattle.office_tables.proofs.statements.SelectOf.{asking, select_finds, select_faults}
+use Rattle.office_tables.proofs.Queries.{asking}
+use Rattle.office_tables.proofs.statements.SelectOf.{select_finds, select_faults}
 use Rattle.office_tables.proofs.Tests.{flag, by_one_int}
 use Rattle.desk_store.specs.Readers.{is_live}
 use Rattle.desk_store.specs.declared.cards.OrderLine.{OrderLine}

@@ -1,12 +1,12 @@
 -- The statements that change the rows of holdings: what their texts mean, what they leave, and why they fail; and what that is on the whole desk.
-use Rattle.std.proofs.Common.{◌≡◌, ℕ, pos, List, [], ◌∷◌, map, filter, codes, true, false, not, ◌&&◌, Option, Some, None, Ok, Result, OnOk, IfErr, nat_eq, refl, ap, ◌∙◌}
+use Rattle.std.proofs.Common.{◌≡◌, ℕ, pos, List, [], ◌∷◌, map, filter, codes, true, false, not, Option, Some, None, Ok, Result, OnOk, IfErr, nat_eq, refl, ap, ◌∙◌}
 use Rattle.std.specs.Prelude.{⊤, option_map}
 use Rattle.std.proofs.Math.Nat.{le_refl}
 use Rattle.std.proofs.lemmas.Map.Views.{any-filter_same}
-use Rattle.std.specs.List.{list_any, list_all}
+use Rattle.std.specs.List.{list_any}
 use Rattle.sqlite.specs.declared.types.Value.TheVariants.{Null, Int}
 use Rattle.sqlite.specs.Order.{Row}
-use Rattle.sqlite.specs.Edit.{edit_of, is_taken}
+use Rattle.sqlite.specs.Edit.{edit_of}
 use Rattle.sqlite.specs.Effect.{value_rows}
 use Rattle.sqlite.specs.Held.{Held, state}
 use Rattle.sqlite.specs.Rowids.TheVariants.{Chosen}
@@ -20,7 +20,7 @@ use Rattle.sqlite.specs.State.{State, IsLive, HasCleanDisk}
 use Rattle.sqlite.specs.Tree.{Trees, put_row}
 use Rattle.sqlite.specs.Values.{or_null}
 use Rattle.sqlite_schema.specs.Names.{same_name}
-use Rattle.sqlite_schema.specs.Rules.{agree, guards, references_fit}
+use Rattle.sqlite_schema.specs.Rules.{references_fit}
 use Rattle.sqlite_sql.specs.declared.ops.BinaryOp.TheVariants.{Compare}
 use Rattle.sqlite_sql.specs.declared.ops.CompareOp.TheVariants.{Eq}
 use Rattle.sqlite_tied.specs.Compute.{everything}
@@ -37,6 +37,7 @@ use Rattle.office_tables.specs.Changing.{Leaves, Ran}
 use Rattle.office_tables.specs.Faults.{Excused, IsUnlimited, HasCause}
 use Rattle.office_tables.specs.Meaning.{Means}
 use Rattle.office_tables.specs.Schema.{schema, holding}
+use Rattle.office_tables.specs.Schema as tables
 use Rattle.office_tables.specs.Step.{Goes, Holds, HasRows, OnlyTouches, PutsRow}
 use Rattle.office_tables.specs.declared.fault.StoreFault.{StoreFault}
 use Rattle.desk_store.specs.Holdings.{put_down, with_place}
@@ -46,8 +47,8 @@ use Rattle.office_tables.specs.Numbered.{AreByNumber}
 use Rattle.office_tables.proofs.Calls.{early, goes_then, cut_then, on_ok_then, on_err_then}
 use Rattle.office_tables.proofs.Casts.{cast_int, cast_null, cast_maybe}
 use Rattle.office_tables.proofs.Causes.{still_unlimited}
-use Rattle.office_tables.proofs.statements.DeleteOf.{removing, delete_leaves, delete_faults}
-use Rattle.office_tables.proofs.Fresh.{not_there}
+use Rattle.office_tables.proofs.Queries.{choosing}
+use Rattle.office_tables.proofs.statements.DeleteOf.{delete_leaves, delete_faults}
 use Rattle.office_tables.proofs.InsertCauses.{IsWelcome}
 use Rattle.office_tables.proofs.statements.InsertOf.{insert_puts, insert_faults}
 use Rattle.office_tables.proofs.LaterCauses.{last_cause}
@@ -58,6 +59,7 @@ use Rattle.office_tables.proofs.Touching.{touched_again}
 use Rattle.desk_store.proofs.Frames.{with_holdings}
 use Rattle.office_tables.proofs.statements.OnlyOf.{delete_only}
 use Rattle.office_tables.proofs.numbered.PutAgain.{put_gone}
+use Rattle.office_tables.proofs.statements.WelcomeOf.{number_welcome}
 
 -- ---- a container has no row any more
 
@@ -68,14 +70,14 @@ abbrev with_its_number : List Term
 with_its_number = op2 (Compare Eq Binary) (col 1 0) (col 0 0) ∷ []
 
 abbrev pub clear_holding_command : Command
-clear_holding_command = Delete 3 (removing holding with_its_number (col 1 0 ∷ []))
+clear_holding_command = Delete 3 (choosing holding with_its_number (col 1 0 ∷ []))
 
 pub clear_holding_means : (v : Version) → Means v clear_holding_text 1 clear_holding_command
 unfolding understood everything
 clear_holding_means Links = record { is = refl; plain = (refl, refl); whole = (le_refl _, refl, refl); unlisted = refl }
 clear_holding_means Spans = record { is = refl; plain = (refl, refl); whole = (le_refl _, refl, refl); unlisted = refl }
 
-holding_unreferred : (v : Version) → is_referred_to (schema v) 6 ≡ false
+holding_unreferred : (v : Version) → is_referred_to (schema v) tables.holding.tree ≡ false
 unfolding joined same_name
 holding_unreferred Links = refl
 holding_unreferred Spans = refl
@@ -87,12 +89,12 @@ holding_fits Spans = refl
 
 module _ (old new : State) (n : ℕ) (v : Version) (has : old.now.schema ≡ schema v) (r : Result Unit StoreFault) (ran : Ran clear_holding_text (Int (pos n) ∷ []) old new r) where
   pub clear_holding_leaves : (xs : List HoldingRow) → Holds holding holding_cells old xs → AreByNumber (λ (h : HoldingRow). h.container) xs
-      → OnOk r (HasRows 6 (map holding_cells (filter (λ (h : HoldingRow). not (nat_eq n h.container)) xs)) old.now new.now)
+      → OnOk r (HasRows tables.holding.tree (map holding_cells (filter (λ (h : HoldingRow). not (nat_eq n h.container)) xs)) old.now new.now)
   clear_holding_leaves xs stored up =
       delete_leaves v 3 holding refl (holding_unreferred v) clear_holding_text with_its_number (col 1 0 ∷ []) (Int (pos n) ∷ []) (clear_holding_means v) old new has holding_cells (λ h. pos h.container) (λ _. refl) xs stored up
       (λ (h : HoldingRow). nat_eq n h.container) (λ h. only (same_number h.container n)) (λ h. Int (pos h.container) ∷ []) (λ _. refl) (λ _. refl) r ran
 
-  pub clear_holding_only : OnOk r (OnlyTouches (6 ∷ []) old.now new.now)
+  pub clear_holding_only : OnOk r (OnlyTouches (tables.holding.tree ∷ []) old.now new.now)
   clear_holding_only = delete_only v 3 holding refl clear_holding_text _ (Int (pos n) ∷ []) old new has (holding_unreferred v) (clear_holding_means v) r ran
 
   pub clear_holding_faults : IsUnlimited old → IsLive old → IfErr r (HasCause old new)
@@ -115,28 +117,15 @@ unfolding understood everything
 insert_holding_means Links = record { is = refl; plain = (refl, refl); whole = (le_refl _, refl, refl); unlisted = refl }
 insert_holding_means Spans = record { is = refl; plain = (refl, refl); whole = (le_refl _, refl, refl); unlisted = refl }
 
-holding_alone : (v : Version) (db : Trees) (row : Row) → list_all (λ i. not (guards i holding && list_any (λ r. agree i.order i.columns r i.columns row) (db 6))) (schema v).indexes ≡ true
-holding_alone Links db row = refl
-holding_alone Spans db row = refl
-
 holding_typed : (c p : ℕ) (o : Option ℕ) → is_typed holding (holding_cells (record { container = c; place = p; held_by = o })) ≡ true
 holding_typed c p None = refl
 holding_typed c p (Some o) = refl
 
-holding_welcome : (c p : ℕ) (o : Option ℕ) (xs : List HoldingRow) (v : Version) (db : Trees) → db 6 ≡ map holding_cells xs → list_any (λ (x : HoldingRow). nat_eq c x.container) xs ≡ false
+holding_welcome : (c p : ℕ) (o : Option ℕ) (xs : List HoldingRow) (v : Version) (db : Trees) → db tables.holding.tree ≡ map holding_cells xs → list_any (λ (x : HoldingRow). nat_eq c x.container) xs ≡ false
     → IsWelcome (schema v) db holding (holding_cells (record { container = c; place = p; held_by = o }))
 holding_welcome c p o xs v db stored none =
-    let row = holding_cells (record { container = c; place = p; held_by = o }) in
-    record {
-      keyed = refl;
-      free = ap (λ rows. is_taken rows row) stored ∙ not_there holding_cells (λ x. x.container) (λ _. refl) c row refl xs none;
-      typed = holding_typed c p o;
-      present = refl;
-      checked = refl;
-      alone = holding_alone v db row;
-      referred = refl;
-      parents = refl;
-    }
+    number_welcome v holding holding_cells (λ x. x.container) (λ _. refl) (record { container = c; place = p; held_by = o }) xs db stored none refl
+    (record { typed = holding_typed c p o; present = refl; checked = refl; referred = refl; parents = refl })
 
 module _ (old new : State) (c p : ℕ) (o : Option ℕ) (v : Version) (has : old.now.schema ≡ schema v) where
   abbrev h : HoldingRow
@@ -148,7 +137,7 @@ module _ (old new : State) (c p : ℕ) (o : Option ℕ) (v : Version) (has : old
   news : (edit_of old.now.trees holding [] Chosen 0 (value_rows params 4 1 insert_holding_terms)).news ≡ holding_cells h ∷ []
   news = rw (cast_int (pos c), cast_null, cast_int (pos p), cast_maybe (option_map pos o)) refl
 
-  pub insert_holding_puts : (r : Result Unit StoreFault) → Ran insert_holding_text params old new r → OnOk r (PutsRow 6 (holding_cells h) old.now new.now)
+  pub insert_holding_puts : (r : Result Unit StoreFault) → Ran insert_holding_text params old new r → OnOk r (PutsRow tables.holding.tree (holding_cells h) old.now new.now)
   insert_holding_puts = insert_puts v 3 holding refl insert_holding_text insert_holding_terms 4 params (insert_holding_means v) old new has (holding_cells h) news
 
   values_type : accepts_terms insert_holding_terms params ≡ true
@@ -174,9 +163,9 @@ module _ {S : Type 0} (g : store.Ghosts S) (before mid : Held S) (n : ℕ) where
   abbrev b : State
   b = state g mid
 
-  module _ (goes : Goes a b) (rows : HasCleanDisk b → (xs : List HoldingRow) → Holds holding holding_cells a xs → AreByNumber (λ (x : HoldingRow). x.container) xs → HasRows 6 (map holding_cells (without n xs)) a.now b.now)
-      (only : HasCleanDisk b → OnlyTouches (6 ∷ []) a.now b.now) where
-    pub shelved : Makes g ShowsRoom IsLegible before mid (Ok (tt {0})) (λ _. ⊤) (with_place n Shelf) (6 ∷ [])
+  module _ (goes : Goes a b) (rows : HasCleanDisk b → (xs : List HoldingRow) → Holds holding holding_cells a xs → AreByNumber (λ (x : HoldingRow). x.container) xs → HasRows tables.holding.tree (map holding_cells (without n xs)) a.now b.now)
+      (only : HasCleanDisk b → OnlyTouches (tables.holding.tree ∷ []) a.now b.now) where
+    pub shelved : Makes g ShowsRoom IsLegible before mid (Ok (tt {0})) (λ _. ⊤) (with_place n Shelf) (tables.holding.tree ∷ [])
     shelved = record {
       shows_made = λ clean beside d shown may.
           let has = rows clean d.holdings shown.holdings shown.holdings_rise in
@@ -194,23 +183,23 @@ module _ {S : Type 0} (g : store.Ghosts S) (before mid : Held S) (n : ℕ) where
       abbrev here : HoldingRow
       here = record { container = n; place = p; held_by = o }
 
-      module _ (r : Result Unit StoreFault) (leaves : Leaves b z r) (puts : HasCleanDisk z → OnOk r (PutsRow 6 (holding_cells here) b.now z.now))
+      module _ (r : Result Unit StoreFault) (leaves : Leaves b z r) (puts : HasCleanDisk z → OnOk r (PutsRow tables.holding.tree (holding_cells here) b.now z.now))
           (faults : (xs : List HoldingRow) → Holds holding holding_cells b xs → list_any (λ (x : HoldingRow). nat_eq n x.container) xs ≡ false → Excused b z r) where
         back : HasCleanDisk z → HasCleanDisk b
         back = early b z _ leaves.crash
 
-        moved : HasCleanDisk z → PutsRow 6 (holding_cells here) b.now z.now → (d : Desk) → ShowsDesk a.now.trees d → ShowsDesk z.now.trees (record d { holdings = put_down here d.holdings })
+        moved : HasCleanDisk z → PutsRow tables.holding.tree (holding_cells here) b.now z.now → (d : Desk) → ShowsDesk a.now.trees d → ShowsDesk z.now.trees (record d { holdings = put_down here d.holdings })
         moved clean put d shown =
             let has = rows (back clean) d.holdings shown.holdings shown.holdings_rise in
-            with_holdings a.now z.now d shown (put_down here d.holdings) (touched_again (6 ∷ []) a.now b.now z.now has.only put.only)
+            with_holdings a.now z.now d shown (put_down here d.holdings) (touched_again (tables.holding.tree ∷ []) a.now b.now z.now has.only put.only)
             (put.rows ∙ ap (put_row (holding_cells here)) has.are ∙ put_rows holding_cells (λ (x : HoldingRow). pos x.container) (λ _. refl) here (without n d.holdings)
             ∙ ap (map holding_cells) (put_gone (λ (x : HoldingRow). x.container) here d.holdings shown.holdings_rise))
             (put_rises holding_cells (λ (x : HoldingRow). pos x.container) (λ _. refl) here d.holdings shown.holdings_rise)
 
-        pub placed : Makes g ShowsRoom IsLegible before after r (λ _. ⊤) (λ d. record d { holdings = put_down here d.holdings }) (6 ∷ [])
+        pub placed : Makes g ShowsRoom IsLegible before after r (λ _. ⊤) (λ d. record d { holdings = put_down here d.holdings }) (tables.holding.tree ∷ [])
         placed = record {
           shows_made = λ clean beside d shown may. on_ok_then r _ _ (λ put. moved clean put d shown) (puts clean);
-          only = λ clean. on_ok_then r _ _ (λ put. touched_again (6 ∷ []) a.now b.now z.now (only (back clean)) put.only) (puts clean);
+          only = λ clean. on_ok_then r _ _ (λ put. touched_again (tables.holding.tree ∷ []) a.now b.now z.now (only (back clean)) put.only) (puts clean);
           goes = on_ok_then r _ _ (goes_then a b z goes) leaves.goes;
           cut = on_err_then r _ _ (cut_then a b z goes.on) leaves.cut;
           faults = λ beside d shown may kept clean free. last_cause a b z goes.on r leaves.cut clean (λ cleaner.

@@ -1,37 +1,20 @@
 -- With whom a container is: the ticket of the order that it is out with.
-use Rattle.std.proofs.Common.{◌≡◌, ℕ, ◌+◌, ◌<◌, ◌≤◌, false, nat_eq, List, [], ◌∷◌, ◌++◌, map, filter, length, take, find, Option, Some, None, Result, Err, refl, sym, ap, subst, ◌∙◌, arith}
+use Rattle.std.proofs.Common.{◌≡◌, ℕ, ◌+◌, ◌<◌, ◌≤◌, nat_eq, List, [], ◌∷◌, ◌++◌, map, filter, length, take, Option, Some, None, refl, sym, ap, ◌∙◌}
 use Rattle.std.specs.Prelude.{⊤, get_or, option_map, slice_get}
-use Rattle.std.specs.List.{AllByRecursion, filter_map, cons_option}
+use Rattle.std.specs.List.{filter_map, cons_option}
 use Rattle.std.proofs.lemmas.List.{take_more, take_all}
 use Rattle.std.proofs.lemmas.List.Elements.{filter_map-append}
-use Rattle.std.proofs.lemmas.Bool.Decides.{nat_tests}
-use Rattle.sqlite.specs.Held.{Held, state}
-use Rattle.sqlite_trees.specs.declared.store.Store as store
-use Rattle.desk_core.specs.DeskRows.{Desk, OrderRow, HoldingRow}
-use Rattle.office_tables.specs.Calls.{Tells}
-use Rattle.office_tables.specs.Step.{Looks}
-use Rattle.office_tables.specs.declared.fault.StoreFault.{StoreFault}
-use Rattle.office_tables.specs.declared.fault.StoreFault.TheVariants.{Memory}
-use Rattle.office_tables.proofs.Calls.{cut_after}
+use Rattle.desk_core.specs.DeskRows.{OrderRow, HoldingRow}
 use Rattle.desk_store.specs.Holdings.{ticket_of, loan_by, issued_by}
-use Rattle.desk_store.specs.Shows.{ShowsRoom, IsLegible}
 use Rattle.office_tables.specs.Numbered.{AreCounted}
 use Rattle.desk_store.specs.declared.holdings.Loan.{Loan}
 use Rattle.desk_store.specs.declared.lending.HoldingLine.{HoldingLine}
-use Rattle.desk_store.proofs.CardCalls.{first_told}
-use Rattle.office_tables.proofs.numbered.Counted.{counted_within}
+use Rattle.desk_store.proofs.CardCalls.{first_told, unknown}
 use Rattle.desk_store.proofs.LoanRows.{line_of}
-
-find_none : (o n : ℕ) (xs : List OrderRow) → AllByRecursion (λ (x : OrderRow). x.id < n) xs → n ≤ o → find (λ (x : OrderRow). nat_eq o x.id) xs ≡ None
-find_none o n [] all h = refl
-find_none o n (x ∷ xs) all h =
-    let low = all.0 in
-    let apart : nat_eq o x.id ≡ false = grind (arith, nat_tests, low, h) in
-    rw apart (find_none o n xs all.1 h)
 
 -- there is no such order
 pub never_placed : (o : ℕ) (xs : List OrderRow) → AreCounted (λ (x : OrderRow). x.id) xs → length xs < o → ticket_of xs o ≡ None
-never_placed o xs counted h = ap (option_map (λ (x : OrderRow). x.ticket)) (find_none o (1 + length xs) xs (counted_within (λ (x : OrderRow). x.id) 1 xs counted) (omega (arith, h)))
+never_placed o xs counted h = ap (option_map (λ (x : OrderRow). x.ticket)) (unknown (λ (x : OrderRow). x.id) o xs counted h)
 
 same_option : (o : Option ℕ) → option_map (λ t. t) o ≡ o
 same_option None = refl
@@ -63,17 +46,3 @@ pub loans_whole : (orders : List OrderRow) (xs : List HoldingRow) (lines : List 
     → done ≡ filter_map (loan_at orders) (take i lines) → done ≡ filter_map (issued_by orders) xs
 loans_whole orders xs lines i done whole are so =
     so ∙ ap (filter_map (loan_at orders)) (take_all i lines whole ∙ are) ∙ loans_of_lines orders xs
-
--- ---- where it ends early
-
-module _ {S Y : Type 0} (g : store.Ghosts S) (before after : Held S) (answer : ⊤ → Desk → Y → Type 0) where
-  -- there was no memory for what was read
-  pub told_full : Looks (state g before) (state g after) → (r : Result Y StoreFault) → r ≡ Err Memory → Tells g ShowsRoom IsLegible before after r (λ _. ⊤) answer
-  told_full looked r is =
-      subst (λ (r : Result Y StoreFault). Tells g ShowsRoom IsLegible before after r (λ _. ⊤) answer) (sym is)
-      (record {
-        answers = λ clean beside d shown. tt;
-        looks = tt;
-        cut = cut_after (state g before) (state g after) looked.goes.on;
-        faults = λ beside d shown may kept clean free. tt;
-      })

@@ -3,7 +3,6 @@ use Rattle.std.proofs.Common.{◌≡◌, ℕ, pos, List, [], ◌∷◌, map, fil
 use Rattle.std.specs.Prelude.{⊤, option_map}
 use Rattle.std.proofs.Math.Nat.{le_refl}
 use Rattle.std.specs.Cmp.{IsTotalOrder, on_total, int_cmp_total}
-use Rattle.std.specs.List.{AllByRecursion}
 use Rattle.std.specs.Ordering.{int_cmp}
 use Rattle.std.specs.declared.cmp.Ordering.{Ordering}
 use Rattle.sqlite.specs.declared.types.Value.TheVariants.{Int}
@@ -20,6 +19,7 @@ use Rattle.sqlite_sql.specs.declared.ops.CompareOp.TheVariants.{Eq}
 use Rattle.sqlite_tied.specs.Compute.{everything}
 use Rattle.sqlite_value.specs.declared.keys.Key.{Key}
 use Rattle.sqlite_value.specs.Keys.{ascending}
+use Rattle.sqlite_trees.proofs.ListLemmas.{all_of}
 use Rattle.tree_core.specs.Versions.{Version, Links, Spans}
 use Rattle.desk_core.specs.DeskRows.{HoldingRow, OrderRow}
 use Rattle.office_tables.specs.Asking.{Finds, Misses}
@@ -29,7 +29,8 @@ use Rattle.office_tables.specs.Order.{IsOrdered}
 use Rattle.office_tables.specs.Schema.{schema, holding, orders}
 use Rattle.office_tables.specs.Step.{Holds}
 use Rattle.office_tables.specs.declared.fault.StoreFault.{StoreFault}
-use Rattle.office_tables.proofs.statements.SelectOf.{asking, select_finds, select_faults}
+use Rattle.office_tables.proofs.Queries.{asking}
+use Rattle.office_tables.proofs.statements.SelectOf.{select_finds, select_faults}
 use Rattle.office_tables.proofs.Tests.{only, same_number, by_one_int}
 use Rattle.desk_store.specs.Rows.{holding_cells, order_cells}
 use Rattle.desk_store.specs.declared.lending.HoldingLine.{HoldingLine}
@@ -37,10 +38,6 @@ use Rattle.desk_store.proofs.CardRows.{by_order}
 
 abbrev in_order : List (Term × Key)
 in_order = (col 1 0, ascending Binary) ∷ []
-
-every : {A : Type 0} (xs : List A) → AllByRecursion (λ _. ⊤) xs
-every [] = tt
-every (x ∷ xs) = (tt, every xs)
 
 -- ---- the containers that are not on the shelf
 
@@ -84,7 +81,7 @@ module _ (old new : State) (v : Version) (has : old.now.schema ≡ schema v) (xs
   lines_faults free =
       select_faults v holding lines_text [] line_columns in_order line_names [] (lines_means v) old new has holding_cells xs stored
       (λ _. true) (λ _. refl) (λ h. line_cells (line_of h)) (λ (h : HoldingRow). Int (pos h.container) ∷ []) (λ _. refl) by_container (λ _. refl) (λ a b. by_one_int (pos a.container) (pos b.container))
-      line_cells items line_of (λ _. refl) (λ _. ⊤) refl free (every xs) r
+      line_cells items line_of (λ _. refl) (λ _. ⊤) refl free (all_of (λ _. ⊤) (λ _. tt) xs) r
 
 -- ---- the ticket of an order
 
@@ -117,4 +114,4 @@ module _ (old new : State) (n : ℕ) (v : Version) (has : old.now.schema ≡ sch
   tickets_faults free =
       select_faults v orders tickets_text with_its_number (col 1 2 ∷ []) in_order (codes "ticket" ∷ []) (Int (pos n) ∷ []) (tickets_means v) old new has order_cells xs stored
       (λ (o : OrderRow). nat_eq n o.id) (λ o. only (same_number o.id n)) (λ o. ticket_cells o.ticket) (λ (o : OrderRow). Int (pos o.id) ∷ []) (λ _. refl) by_order (λ _. refl) (λ a b. by_one_int (pos a.id) (pos b.id))
-      ticket_cells items (λ (o : OrderRow). o.ticket) (λ _. refl) (λ _. ⊤) refl free (every xs) r
+      ticket_cells items (λ (o : OrderRow). o.ticket) (λ _. refl) (λ _. ⊤) refl free (all_of (λ _. ⊤) (λ _. tt) xs) r

@@ -1,5 +1,5 @@
 -- A new day, on the whole desk and the office's row: first all seats become free, then the day is written.
-use Rattle.std.proofs.Common.{ℤ, List, [], ◌∷◌, Result, Err, OnOk, refl, ◌∙◌, sym, subst}
+use Rattle.std.proofs.Common.{ℤ, List, [], ◌∷◌, Result, Err, OnOk, refl, ◌∙◌}
 use Rattle.std.specs.Prelude.{⊤}
 use Rattle.sqlite.specs.Effect.{Database}
 use Rattle.sqlite.specs.Held.{Held, state}
@@ -10,38 +10,42 @@ use Rattle.office_tables.specs.Calls.{Makes}
 use Rattle.office_tables.specs.Changing.{Leaves}
 use Rattle.office_tables.specs.Faults.{Excused}
 use Rattle.office_tables.specs.Schema.{seat, office}
-use Rattle.office_tables.specs.Shared.{OfficeCells, office_cells}
+use Rattle.office_tables.specs.Schema as tables
+use Rattle.office_tables.specs.Shared.{OfficeRow, office_cells}
 use Rattle.office_tables.specs.Step.{Goes, Holds, HasRows, OnlyTouches}
 use Rattle.office_tables.specs.declared.fault.StoreFault.{StoreFault}
 use Rattle.office_tables.proofs.Calls.{early, goes_then, cut_then, on_ok_then, on_err_then}
 use Rattle.office_tables.proofs.Causes.{still_unlimited}
 use Rattle.office_tables.proofs.LaterCauses.{last_cause}
 use Rattle.office_tables.proofs.Touching.{touched_again, touched_wider}
+use Rattle.office_tables.proofs.numbered.OwnNumbers.{still_numbered}
 use Rattle.desk_store.specs.Opening.{ShowsHouse, IsLegibleHouse, opened}
 use Rattle.desk_store.specs.Rows.{seat_cells, run_line_cells}
 use Rattle.office_tables.specs.Permits.{permit_cells}
 use Rattle.desk_store.specs.Shows.{ShowsDesk}
-use Rattle.office_tables.specs.Numbered.{AreByNumber, HasNumbered}
+use Rattle.office_tables.specs.Numbered.{AreByNumber}
 use Rattle.desk_store.proofs.Frames.{with_seats}
 
 -- another row of the office is nothing to the desk
-same_desk : (old new : Database) (d : Desk) → OnlyTouches (13 ∷ []) old new → ShowsDesk old.trees d → ShowsDesk new.trees d
+same_desk : (old new : Database) (d : Desk) → OnlyTouches (tables.office.tree ∷ []) old new → ShowsDesk old.trees d → ShowsDesk new.trees d
 same_desk old new d only shown = record {
-  readers = only 0 refl refl ∙ shown.readers;
+  readers = only tables.reader.tree refl refl ∙ shown.readers;
   tickets = shown.tickets;
   few_tickets = shown.few_tickets;
-  seats = only 1 refl refl ∙ shown.seats;
+  seats = only tables.seat.tree refl refl ∙ shown.seats;
   seats_rise = shown.seats_rise;
-  orders = only 3 refl refl ∙ shown.orders;
+  orders = only tables.orders.tree refl refl ∙ shown.orders;
   order_numbers = shown.order_numbers;
   few_orders = shown.few_orders;
-  holdings = only 6 refl refl ∙ shown.holdings;
+  holdings = only tables.holding.tree refl refl ∙ shown.holdings;
   holdings_rise = shown.holdings_rise;
-  runs = only 7 refl refl ∙ shown.runs;
+  runs = only tables.run.tree refl refl ∙ shown.runs;
   run_numbers = shown.run_numbers;
   few_runs = shown.few_runs;
-  run_lines = subst (λ l. HasNumbered run_line_cells l d.run_lines) (sym (only 8 refl refl)) shown.run_lines;
-  permits = subst (λ l. HasNumbered permit_cells l d.permits) (sym (only 10 refl refl)) shown.permits;
+  run_lines = still_numbered run_line_cells _ _ _ (only tables.run_line.tree refl refl) shown.run_lines;
+  line_runs = shown.line_runs;
+  permits = still_numbered permit_cells _ _ _ (only tables.permit.tree refl refl) shown.permits;
+  permit_tickets = shown.permit_tickets;
 }
 
 module _ {S : Type 0} (g : store.Ghosts S) (before mid : Held S) (day : ℤ) where
@@ -52,7 +56,7 @@ module _ {S : Type 0} (g : store.Ghosts S) (before mid : Held S) (day : ℤ) whe
   b = state g mid
 
   -- the seats could not be freed
-  pub not_freed : (e : StoreFault) → Leaves {X = Unit} a b (Err e) → Excused {X = Unit} a b (Err e) → Makes {X = Unit} g ShowsHouse IsLegibleHouse before mid (Err e) (λ _. ⊤) (opened day) (1 ∷ 13 ∷ [])
+  pub not_freed : (e : StoreFault) → Leaves {X = Unit} a b (Err e) → Excused {X = Unit} a b (Err e) → Makes {X = Unit} g ShowsHouse IsLegibleHouse before mid (Err e) (λ _. ⊤) (opened day) (tables.seat.tree ∷ tables.office.tree ∷ [])
   not_freed e leaves faults = record {
     shows_made = λ clean beside house shown may. tt;
     only = λ clean. tt;
@@ -61,24 +65,24 @@ module _ {S : Type 0} (g : store.Ghosts S) (before mid : Held S) (day : ℤ) whe
     faults = λ beside house shown may kept. faults;
   }
 
-  module _ (goes : Goes a b) (freed : HasCleanDisk b → (xs : List SeatRow) → Holds seat seat_cells a xs → AreByNumber (λ (s : SeatRow). s.seat) xs → HasRows 1 [] a.now b.now)
-      (only : HasCleanDisk b → OnlyTouches (1 ∷ []) a.now b.now) (after : Held S) (r : Result Unit StoreFault) where
+  module _ (goes : Goes a b) (freed : HasCleanDisk b → (xs : List SeatRow) → Holds seat seat_cells a xs → AreByNumber (λ (s : SeatRow). s.seat) xs → HasRows tables.seat.tree [] a.now b.now)
+      (only : HasCleanDisk b → OnlyTouches (tables.seat.tree ∷ []) a.now b.now) (after : Held S) (r : Result Unit StoreFault) where
     abbrev c : State
     c = state g after
 
-    pub opens : Leaves b c r → (HasCleanDisk c → (o : OfficeCells) → Holds office office_cells b (o ∷ []) → OnOk r (HasRows 13 (office_cells (record o { day = day }) ∷ []) b.now c.now))
-        → (HasCleanDisk c → OnOk r (OnlyTouches (13 ∷ []) b.now c.now)) → ((o : OfficeCells) → Holds office office_cells b (o ∷ []) → Excused b c r)
-        → Makes g ShowsHouse IsLegibleHouse before after r (λ _. ⊤) (opened day) (1 ∷ 13 ∷ [])
+    pub opens : Leaves b c r → (HasCleanDisk c → (o : OfficeRow) → Holds office office_cells b (o ∷ []) → OnOk r (HasRows tables.office.tree (office_cells (record o { day = day }) ∷ []) b.now c.now))
+        → (HasCleanDisk c → OnOk r (OnlyTouches (tables.office.tree ∷ []) b.now c.now)) → ((o : OfficeRow) → Holds office office_cells b (o ∷ []) → Excused b c r)
+        → Makes g ShowsHouse IsLegibleHouse before after r (λ _. ⊤) (opened day) (tables.seat.tree ∷ tables.office.tree ∷ [])
     opens leaves dated dates faults =
         let back = early b c _ leaves.crash in
         record {
           shows_made = λ clean beside house shown may. on_ok_then r _ _ (λ has. record {
             office = has.are;
             desk = same_desk b.now c.now _ has.only (with_seats a.now b.now house.desk shown.desk [] (only (back clean)) (freed (back clean) house.desk.seats shown.desk.seats shown.desk.seats_rise).are tt);
-          }) (dated clean house.office (only (back clean) 13 refl refl ∙ shown.office));
-          only = λ clean. on_ok_then r _ _ (λ touched. touched_again (1 ∷ 13 ∷ []) a.now b.now c.now (touched_wider (1 ∷ []) (1 ∷ 13 ∷ []) a.now b.now refl (only (back clean))) (touched_wider (13 ∷ []) (1 ∷ 13 ∷ []) b.now c.now refl touched)) (dates clean);
+          }) (dated clean house.office (only (back clean) tables.office.tree refl refl ∙ shown.office));
+          only = λ clean. on_ok_then r _ _ (λ touched. touched_again (tables.seat.tree ∷ tables.office.tree ∷ []) a.now b.now c.now (touched_wider (tables.seat.tree ∷ []) (tables.seat.tree ∷ tables.office.tree ∷ []) a.now b.now refl (only (back clean))) (touched_wider (tables.office.tree ∷ []) (tables.seat.tree ∷ tables.office.tree ∷ []) b.now c.now refl touched)) (dates clean);
           goes = on_ok_then r _ _ (goes_then a b c goes) leaves.goes;
           cut = on_err_then r _ _ (cut_then a b c goes.on) leaves.cut;
           faults = λ beside house shown may kept clean free. last_cause a b c goes.on r leaves.cut clean (λ cleaner.
-              faults house.office (only cleaner 13 refl refl ∙ shown.office) clean (still_unlimited a b goes.on free));
+              faults house.office (only cleaner tables.office.tree refl refl ∙ shown.office) clean (still_unlimited a b goes.on free));
         }

@@ -10,30 +10,28 @@ use Rattle.sqlite.specs.Command.{Command}
 use Rattle.sqlite.specs.Command.TheVariants.{Update, Delete}
 use Rattle.sqlite.specs.Listing.{understood}
 use Rattle.sqlite.specs.State.{State, IsLive}
-use Rattle.sqlite_schema.specs.Names.{same_name}
-use Rattle.sqlite_schema.specs.Rules.{references_fit}
 use Rattle.sqlite_sql.specs.declared.ops.BinaryOp.TheVariants.{Compare}
 use Rattle.sqlite_sql.specs.declared.ops.CompareOp.TheVariants.{Eq}
 use Rattle.sqlite_tied.specs.Compute.{everything}
-use Rattle.sqlite_value.specs.Keys.{joined}
 use Rattle.tree_core.specs.Versions.{Version, Links, Spans}
 use Rattle.desk_core.specs.DeskRows.{SeatRow}
 use Rattle.office_tables.specs.Changing.{Ran}
 use Rattle.office_tables.specs.Faults.{IsUnlimited, HasCause}
 use Rattle.office_tables.specs.Meaning.{Means}
 use Rattle.office_tables.specs.Schema.{schema, seat, office}
-use Rattle.office_tables.specs.Shared.{OfficeCells, office_cells}
+use Rattle.office_tables.specs.Schema as tables
+use Rattle.office_tables.specs.Shared.{OfficeRow, office_cells}
 use Rattle.office_tables.specs.Step.{Holds, HasRows, OnlyTouches}
 use Rattle.office_tables.specs.declared.fault.StoreFault.{StoreFault}
 use Rattle.desk_store.specs.Rows.{seat_cells}
 use Rattle.office_tables.specs.Numbered.{AreByNumber}
 use Rattle.office_tables.proofs.Casts.{cast_int, cast_null}
-use Rattle.office_tables.proofs.statements.DeleteOf.{removing, delete_leaves, delete_faults}
-use Rattle.office_tables.proofs.Steps.{is_referred_to}
+use Rattle.office_tables.proofs.Queries.{choosing}
+use Rattle.office_tables.proofs.statements.DeleteOf.{delete_leaves, delete_faults}
 use Rattle.office_tables.proofs.Tests.{only, same_number}
-use Rattle.office_tables.proofs.UpdateCauses.{KeepsTable}
-use Rattle.office_tables.proofs.statements.UpdateOf.{changing, update_leaves, update_faults}
+use Rattle.office_tables.proofs.statements.UpdateOf.{update_leaves, update_faults}
 use Rattle.office_tables.proofs.statements.OnlyOf.{delete_only, update_only}
+use Rattle.office_tables.proofs.statements.LeafOf.{seat_alone, office_kept, seat_fits}
 
 -- ---- all seats become free
 
@@ -41,39 +39,29 @@ abbrev pub free_text : List ℕ
 free_text = codes "DELETE FROM seat"
 
 abbrev pub free_command : Command
-free_command = Delete 1 (removing seat [] (col 1 0 ∷ []))
+free_command = Delete 1 (choosing seat [] (col 1 0 ∷ []))
 
 pub free_means : (v : Version) → Means v free_text 0 free_command
 unfolding understood everything
 free_means Links = record { is = refl; plain = (refl, refl); whole = (le_refl _, refl, refl); unlisted = refl }
 free_means Spans = record { is = refl; plain = (refl, refl); whole = (le_refl _, refl, refl); unlisted = refl }
 
-unreferred : (v : Version) → is_referred_to (schema v) 1 ≡ false
-unfolding joined same_name
-unreferred Links = refl
-unreferred Spans = refl
-
-fits : (v : Version) → references_fit (schema v) seat false true ≡ true
-unfolding joined same_name
-fits Links = refl
-fits Spans = refl
-
 none_kept : (xs : List SeatRow) → filter (λ _. false) xs ≡ []
 none_kept [] = refl
 none_kept (x ∷ xs) = none_kept xs
 
 module _ (old new : State) (v : Version) (has : old.now.schema ≡ schema v) (r : Result Unit StoreFault) (ran : Ran free_text [] old new r) where
-  pub free_leaves : (xs : List SeatRow) → Holds seat seat_cells old xs → AreByNumber (λ (s : SeatRow). s.seat) xs → OnOk r (HasRows 1 [] old.now new.now)
+  pub free_leaves : (xs : List SeatRow) → Holds seat seat_cells old xs → AreByNumber (λ (s : SeatRow). s.seat) xs → OnOk r (HasRows tables.seat.tree [] old.now new.now)
   free_leaves xs stored up =
-      subst (λ (kept : List SeatRow). OnOk r (HasRows 1 (map seat_cells kept) old.now new.now)) (none_kept xs)
-      (delete_leaves v 1 seat refl (unreferred v) free_text [] (col 1 0 ∷ []) [] (free_means v) old new has seat_cells (λ s. pos s.seat) (λ _. refl) xs stored up
+      subst (λ (kept : List SeatRow). OnOk r (HasRows tables.seat.tree (map seat_cells kept) old.now new.now)) (none_kept xs)
+      (delete_leaves v 1 seat refl (seat_alone v) free_text [] (col 1 0 ∷ []) [] (free_means v) old new has seat_cells (λ s. pos s.seat) (λ _. refl) xs stored up
       (λ (s : SeatRow). true) (λ _. refl) (λ s. Int (pos s.seat) ∷ []) (λ _. refl) (λ _. refl) r ran)
 
-  pub free_only : OnOk r (OnlyTouches (1 ∷ []) old.now new.now)
-  free_only = delete_only v 1 seat refl free_text _ [] old new has (unreferred v) (free_means v) r ran
+  pub free_only : OnOk r (OnlyTouches (tables.seat.tree ∷ []) old.now new.now)
+  free_only = delete_only v 1 seat refl free_text _ [] old new has (seat_alone v) (free_means v) r ran
 
   pub free_faults : IsUnlimited old → IsLive old → IfErr r (HasCause old new)
-  free_faults free live = delete_faults v 1 seat refl (unreferred v) free_text [] (col 1 0 ∷ []) [] (free_means v) old new has (fits v) refl free live r ran
+  free_faults free live = delete_faults v 1 seat refl (seat_alone v) free_text [] (col 1 0 ∷ []) [] (free_means v) old new has (seat_fits v) refl free live r ran
 
 -- ---- the day
 
@@ -87,34 +75,29 @@ abbrev set_day_columns : List Term
 set_day_columns = col 1 0 ∷ col 1 0 ∷ lit Null ∷ col 1 2 ∷ col 1 3 ∷ col 1 4 ∷ col 1 5 ∷ col 1 6 ∷ col 1 7 ∷ col 1 8 ∷ col 0 0 ∷ col 1 10 ∷ []
 
 abbrev pub set_day_command : Command
-set_day_command = Update 7 (changing office the_one set_day_columns)
+set_day_command = Update 7 (choosing office the_one set_day_columns)
 
 pub set_day_means : (v : Version) → Means v set_day_text 1 set_day_command
 unfolding understood everything
 set_day_means Links = record { is = refl; plain = (refl, refl); whole = (le_refl _, refl, refl); unlisted = refl }
 set_day_means Spans = record { is = refl; plain = (refl, refl); whole = (le_refl _, refl, refl); unlisted = refl }
 
-office_kept : (v : Version) → KeepsTable (λ _. false) (schema v) 7 office
-unfolding joined same_name
-office_kept Links = record { listed = refl; apart = refl; spared = refl; fits = refl }
-office_kept Spans = record { listed = refl; apart = refl; spared = refl; fits = refl }
-
 module _ (old new : State) (day : ℤ) (v : Version) (has : old.now.schema ≡ schema v) (r : Result Unit StoreFault) (ran : Ran set_day_text (Int day ∷ []) old new r) where
-  pub set_day_only : OnOk r (OnlyTouches (13 ∷ []) old.now new.now)
+  pub set_day_only : OnOk r (OnlyTouches (tables.office.tree ∷ []) old.now new.now)
   set_day_only = update_only v 7 office refl set_day_text _ (Int day ∷ []) old new has (set_day_means v) r ran
 
-  module _ (o : OfficeCells) (stored : Holds office office_cells old (o ∷ [])) where
-    abbrev changed : OfficeCells → OfficeCells
+  module _ (o : OfficeRow) (stored : Holds office office_cells old (o ∷ [])) where
+    abbrev changed : OfficeRow → OfficeRow
     changed x = record x { day = day }
 
-    abbrev source : OfficeCells → Row
+    abbrev source : OfficeRow → Row
     source x = Int (pos 1) ∷ office_cells (changed x)
 
-    casts : (x : OfficeCells) → cast_row office (drop 1 (source x)) ≡ office_cells (changed x)
+    casts : (x : OfficeRow) → cast_row office (drop 1 (source x)) ≡ office_cells (changed x)
     casts x =
         rw (cast_int (pos 1), cast_null, cast_int (pos x.version), cast_int (pos x.seats), cast_int (pos x.daily), cast_int (pos x.hands), cast_int (pos x.run_size), cast_int day, cast_int (pos x.next_unit)) refl
 
-    pub set_day_leaves : OnOk r (HasRows 13 (office_cells (changed o) ∷ []) old.now new.now)
+    pub set_day_leaves : OnOk r (HasRows tables.office.tree (office_cells (changed o) ∷ []) old.now new.now)
     set_day_leaves =
         update_leaves v 7 office refl set_day_text the_one set_day_columns (Int day ∷ []) (set_day_means v) old new has office_cells (λ _. pos 1) (λ _. refl) (o ∷ []) stored (tt, tt)
         (λ _. true) (λ _. only (same_number 1 1)) source (λ _. refl) (λ _. refl) changed (λ _. refl) (λ x _ _. casts x) r ran

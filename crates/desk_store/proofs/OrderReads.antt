@@ -25,8 +25,9 @@ use Rattle.office_tables.specs.Order.{IsOrdered}
 use Rattle.office_tables.specs.Schema.{schema, orders}
 use Rattle.office_tables.specs.Step.{Holds}
 use Rattle.office_tables.specs.declared.fault.StoreFault.{StoreFault}
-use Rattle.office_tables.proofs.Reading.{first_kept}
-use Rattle.office_tables.proofs.statements.SelectOf.{asking, select_finds, select_faults}
+use Rattle.office_tables.proofs.Reading.{first_shown}
+use Rattle.office_tables.proofs.Queries.{asking}
+use Rattle.office_tables.proofs.statements.SelectOf.{select_finds, select_faults}
 use Rattle.office_tables.proofs.Tests.{only, same_number, by_one_int}
 use Rattle.desk_store.specs.Orders.{state_number, IsThere}
 use Rattle.desk_store.specs.Rows.{order_cells}
@@ -79,13 +80,8 @@ module _ (old new : State) (n : ℕ) (v : Version) (has : old.now.schema ≡ sch
 
 -- ---- the order that is found
 
-first_mapped : {A B : Type 0} (f : A → B) (xs : List A) → slice_get (map f xs) 0 ≡ option_map f (slice_get xs 0)
-first_mapped f [] = refl
-first_mapped f (x ∷ xs) = refl
-
 pub entry_found : (n : ℕ) (xs : List OrderRow) (rows : List OrderEntry) → rows ≡ map entry_of (filter (λ (o : OrderRow). nat_eq n o.id) xs) → slice_get rows 0 ≡ option_map entry_of (find (λ (o : OrderRow). nat_eq n o.id) xs)
-entry_found n xs rows are =
-    ap (λ l. slice_get l 0) are ∙ first_mapped entry_of (filter (λ (o : OrderRow). nat_eq n o.id) xs) ∙ ap (option_map entry_of) (first_kept (λ (o : OrderRow). nat_eq n o.id) xs)
+entry_found n xs rows are = first_shown entry_of (λ (o : OrderRow). nat_eq n o.id) xs rows are
 
 pub told_none : (row : Option OrderRow) → option_map entry_of row ≡ None → IsThere row None
 told_none None h = refl

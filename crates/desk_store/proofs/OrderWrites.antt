@@ -1,14 +1,14 @@
 -- The statements that change the rows of orders: what their texts mean, what they leave, and why they fail; and what that is on the whole desk.
-use Rattle.std.proofs.Common.{◌≡◌, ◌≤◌, ◌+◌, ℕ, zero, suc, ℤ, pos, List, [], ◌∷◌, ◌++◌, map, length, drop, codes, Bool, true, false, not, ◌&&◌, cond, ltb, Result, OnOk, IfErr, nat_eq, refl, sym, ap, subst, ◌∙◌, arith}
+use Rattle.std.proofs.Common.{◌≡◌, ◌≤◌, ◌+◌, ℕ, zero, suc, ℤ, pos, List, [], ◌∷◌, ◌++◌, map, length, drop, codes, Bool, true, false, cond, ltb, Result, OnOk, IfErr, nat_eq, refl, sym, ap, subst, ◌∙◌, arith}
 use Rattle.std.specs.Prelude.{⊤}
 use Rattle.std.proofs.Math.Nat.{le_refl}
 use Rattle.std.proofs.lemmas.Bool.{ltb-true}
 use Rattle.std.proofs.lemmas.List.{length-append, length-map}
-use Rattle.std.specs.List.{list_any, list_all}
+use Rattle.std.specs.List.{list_any}
 use Rattle.sqlite.specs.declared.types.Value.TheVariants.{Null, Int}
 use Rattle.sqlite.specs.Order.{Row, column}
 use Rattle.sqlite.specs.Cast.{cast_row}
-use Rattle.sqlite.specs.Edit.{edit_of, is_taken}
+use Rattle.sqlite.specs.Edit.{edit_of}
 use Rattle.sqlite.specs.Effect.{value_rows}
 use Rattle.sqlite.specs.Held.{Held, state}
 use Rattle.sqlite.specs.Rowids.TheVariants.{Chosen}
@@ -21,7 +21,6 @@ use Rattle.sqlite.specs.Listing.{understood}
 use Rattle.sqlite.specs.State.{State, IsLive, HasCleanDisk}
 use Rattle.sqlite.specs.Tree.{Trees, put_row}
 use Rattle.sqlite_schema.specs.Names.{same_name}
-use Rattle.sqlite_schema.specs.Rules.{agree, guards}
 use Rattle.sqlite_sql.specs.declared.ops.BinaryOp.TheVariants.{Compare}
 use Rattle.sqlite_sql.specs.declared.ops.CompareOp.TheVariants.{Eq}
 use Rattle.sqlite_tied.specs.Compute.{everything}
@@ -36,6 +35,7 @@ use Rattle.office_tables.specs.Changing.{Leaves, Ran}
 use Rattle.office_tables.specs.Faults.{Excused, IsUnlimited, HasCause}
 use Rattle.office_tables.specs.Meaning.{Means}
 use Rattle.office_tables.specs.Schema.{schema, orders}
+use Rattle.office_tables.specs.Schema as tables
 use Rattle.office_tables.specs.Step.{Holds, HasRows, OnlyTouches, PutsRow}
 use Rattle.office_tables.specs.declared.fault.StoreFault.{StoreFault}
 use Rattle.desk_store.specs.Orders.{state_number, with_order, with_order_state, IsNextOrder}
@@ -45,16 +45,17 @@ use Rattle.office_tables.specs.Numbered.{AreCounted}
 use Rattle.desk_store.specs.declared.orders.OrderState.{OrderState}
 use Rattle.office_tables.proofs.Calls.{on_ok_then}
 use Rattle.office_tables.proofs.Casts.{cast_int, cast_null}
-use Rattle.office_tables.proofs.Fresh.{not_there}
 use Rattle.office_tables.proofs.InsertCauses.{IsWelcome}
+use Rattle.office_tables.proofs.Queries.{choosing}
 use Rattle.office_tables.proofs.statements.InsertOf.{insert_puts, insert_faults}
 use Rattle.office_tables.proofs.Puts.{put_rows}
 use Rattle.office_tables.proofs.Tests.{only, same_number}
 use Rattle.office_tables.proofs.UpdateCauses.{KeepsTable}
-use Rattle.office_tables.proofs.statements.UpdateOf.{changing, update_leaves, update_faults}
+use Rattle.office_tables.proofs.statements.UpdateOf.{update_leaves, update_faults}
 use Rattle.office_tables.proofs.numbered.Counted.{counted_again, counted_free, counted_more, counted_rises, put_end}
 use Rattle.desk_store.proofs.Frames.{with_orders}
 use Rattle.office_tables.proofs.statements.OnlyOf.{update_only}
+use Rattle.office_tables.proofs.statements.WelcomeOf.{number_welcome}
 
 -- ---- a new order
 
@@ -72,21 +73,9 @@ unfolding understood everything
 insert_order_means Links = record { is = refl; plain = (refl, refl); whole = (le_refl _, refl, refl); unlisted = refl }
 insert_order_means Spans = record { is = refl; plain = (refl, refl); whole = (le_refl _, refl, refl); unlisted = refl }
 
-order_alone : (v : Version) (db : Trees) (row : Row) → list_all (λ i. not (guards i orders && list_any (λ r. agree i.order i.columns r i.columns row) (db 3))) (schema v).indexes ≡ true
-order_alone Links db row = refl
-order_alone Spans db row = refl
-
-order_welcome : (o : OrderRow) (xs : List OrderRow) (v : Version) (db : Trees) → db 3 ≡ map order_cells xs → list_any (λ (x : OrderRow). nat_eq o.id x.id) xs ≡ false → IsWelcome (schema v) db orders (order_cells o)
-order_welcome o xs v db stored none = record {
-  keyed = refl;
-  free = ap (λ rows. is_taken rows (order_cells o)) stored ∙ not_there order_cells (λ x. x.id) (λ _. refl) o.id (order_cells o) refl xs none;
-  typed = refl;
-  present = refl;
-  checked = refl;
-  alone = order_alone v db (order_cells o);
-  referred = refl;
-  parents = refl;
-}
+order_welcome : (o : OrderRow) (xs : List OrderRow) (v : Version) (db : Trees) → db tables.orders.tree ≡ map order_cells xs → list_any (λ (x : OrderRow). nat_eq o.id x.id) xs ≡ false → IsWelcome (schema v) db orders (order_cells o)
+order_welcome o xs v db stored none = number_welcome v orders order_cells (λ x. x.id) (λ _. refl) o xs db stored none refl
+    (record { typed = refl; present = refl; checked = refl; referred = refl; parents = refl })
 
 module _ (old new : State) (id ticket container : ℕ) (day : ℤ) (v : Version) (has : old.now.schema ≡ schema v) where
   abbrev x : OrderRow
@@ -98,7 +87,7 @@ module _ (old new : State) (id ticket container : ℕ) (day : ℤ) (v : Version)
   news : (edit_of old.now.trees orders [] Chosen 0 (value_rows params 6 1 insert_order_terms)).news ≡ order_cells x ∷ []
   news = rw (cast_int (pos id), cast_null, cast_int (pos ticket), cast_int (pos container), cast_int day, cast_int (pos 1)) refl
 
-  pub insert_order_puts : (r : Result Unit StoreFault) → Ran insert_order_text params old new r → OnOk r (PutsRow 3 (order_cells x) old.now new.now)
+  pub insert_order_puts : (r : Result Unit StoreFault) → Ran insert_order_text params old new r → OnOk r (PutsRow tables.orders.tree (order_cells x) old.now new.now)
   insert_order_puts = insert_puts v 2 orders refl insert_order_text insert_order_terms 6 params (insert_order_means v) old new has (order_cells x) news
 
   pub insert_order_faults : (xs : List OrderRow) → Holds orders order_cells old xs → list_any (λ (o : OrderRow). nat_eq id o.id) xs ≡ false → IsUnlimited old → IsLive old
@@ -118,7 +107,7 @@ abbrev set_state_columns : List Term
 set_state_columns = col 1 0 ∷ col 1 0 ∷ lit Null ∷ col 1 2 ∷ col 1 3 ∷ col 1 4 ∷ col 0 0 ∷ []
 
 abbrev pub set_state_command : Command
-set_state_command = Update 2 (changing orders with_its_number set_state_columns)
+set_state_command = Update 2 (choosing orders with_its_number set_state_columns)
 
 pub set_state_means : (v : Version) → Means v set_state_text 2 set_state_command
 unfolding understood everything
@@ -143,7 +132,7 @@ order_alike n o (suc zero) h = refl
 order_alike n o (suc (suc p)) h = absurd (omega (arith, ltb-true _ _ h))
 
 module _ (old new : State) (id n : ℕ) (v : Version) (has : old.now.schema ≡ schema v) (r : Result Unit StoreFault) (ran : Ran set_state_text (Int (pos n) ∷ Int (pos id) ∷ []) old new r) where
-  pub set_state_only : OnOk r (OnlyTouches (3 ∷ []) old.now new.now)
+  pub set_state_only : OnOk r (OnlyTouches (tables.orders.tree ∷ []) old.now new.now)
   set_state_only = update_only v 2 orders refl set_state_text _ (Int (pos n) ∷ Int (pos id) ∷ []) old new has (set_state_means v) r ran
 
   module _ (xs : List OrderRow) (stored : Holds orders order_cells old xs) (counted : AreCounted (λ (o : OrderRow). o.id) xs) where
@@ -153,7 +142,7 @@ module _ (old new : State) (id n : ℕ) (v : Version) (has : old.now.schema ≡ 
     casts : (o : OrderRow) → cast_row orders (drop 1 (source o)) ≡ order_cells (brought_to n o)
     casts o = rw (cast_int (pos o.id), cast_null, cast_int (pos o.ticket), cast_int (pos o.container), cast_int o.day, cast_int (pos n)) refl
 
-    pub set_state_leaves : OnOk r (HasRows 3 (map order_cells (with_state id n xs)) old.now new.now)
+    pub set_state_leaves : OnOk r (HasRows tables.orders.tree (map order_cells (with_state id n xs)) old.now new.now)
     set_state_leaves =
         update_leaves v 2 orders refl set_state_text with_its_number set_state_columns (Int (pos n) ∷ Int (pos id) ∷ []) (set_state_means v) old new has order_cells (λ o. pos o.id) (λ _. refl) xs stored (counted_rises (λ (o : OrderRow). o.id) 1 xs counted)
         (λ (o : OrderRow). nat_eq o.id id) (λ o. only (same_number o.id id) ∙ eqb_comm id o.id) source (λ _. refl) (λ _. refl) (brought_to n) (λ _. refl) (λ o _ _. casts o) r ran
@@ -178,9 +167,9 @@ module _ {S : Type 0} (g : store.Ghosts S) (before after : Held S) (r : Result U
   new = state g after
 
   pub appended : (ticket container : ℕ) (day : ℤ) → Leaves old new r
-      → (HasCleanDisk new → OnOk r (PutsRow 3 (order_cells (record { id = id; ticket = ticket; container = container; day = day; state = 1 })) old.now new.now))
+      → (HasCleanDisk new → OnOk r (PutsRow tables.orders.tree (order_cells (record { id = id; ticket = ticket; container = container; day = day; state = 1 })) old.now new.now))
       → ((xs : List OrderRow) → Holds orders order_cells old xs → list_any (λ (o : OrderRow). nat_eq id o.id) xs ≡ false → Excused old new r)
-      → Makes g ShowsRoom IsLegible before after r (IsNextOrder id) (with_order ticket container day) (3 ∷ [])
+      → Makes g ShowsRoom IsLegible before after r (IsNextOrder id) (with_order ticket container day) (tables.orders.tree ∷ [])
   appended ticket container day leaves puts faults = record {
     shows_made = λ clean beside d shown may. on_ok_then r _ _ (λ put.
         let n = may.1 in
@@ -189,7 +178,7 @@ module _ {S : Type 0} (g : store.Ghosts S) (before after : Held S) (r : Result U
         let row : OrderRow = record { id = suc (length d.orders); ticket = ticket; container = container; day = day; state = 1 } in
         let is : suc (length d.orders) ≡ 1 + length d.orders = omega arith in
         with_orders old.now new.now d shown (d.orders ++ row ∷ []) put.only
-        (put.rows ∙ ap (λ (i : ℕ). put_row (order_cells (record { id = i; ticket = ticket; container = container; day = day; state = 1 })) (old.now.trees 3)) n ∙ ap (put_row (order_cells row)) shown.orders
+        (put.rows ∙ ap (λ (i : ℕ). put_row (order_cells (record { id = i; ticket = ticket; container = container; day = day; state = 1 })) (old.now.trees tables.orders.tree)) n ∙ ap (put_row (order_cells row)) shown.orders
         ∙ put_rows order_cells (λ (o : OrderRow). pos o.id) (λ _. refl) row d.orders ∙ ap (map order_cells) (put_end (λ (o : OrderRow). o.id) 1 d.orders row shown.order_numbers is))
         (counted_more (λ (o : OrderRow). o.id) 1 d.orders row shown.order_numbers is)
         (let size = length-append d.orders (row ∷ []) in omega (arith, size, few))) (puts clean);
@@ -202,10 +191,10 @@ module _ {S : Type 0} (g : store.Ghosts S) (before after : Held S) (r : Result U
   }
 
   pub brought : (next : OrderState) → Leaves old new r
-      → (HasCleanDisk new → (xs : List OrderRow) → Holds orders order_cells old xs → AreCounted (λ (o : OrderRow). o.id) xs → OnOk r (HasRows 3 (map order_cells (with_state id (state_number next) xs)) old.now new.now))
-      → (HasCleanDisk new → OnOk r (OnlyTouches (3 ∷ []) old.now new.now))
+      → (HasCleanDisk new → (xs : List OrderRow) → Holds orders order_cells old xs → AreCounted (λ (o : OrderRow). o.id) xs → OnOk r (HasRows tables.orders.tree (map order_cells (with_state id (state_number next) xs)) old.now new.now))
+      → (HasCleanDisk new → OnOk r (OnlyTouches (tables.orders.tree ∷ []) old.now new.now))
       → ((xs : List OrderRow) → Holds orders order_cells old xs → AreCounted (λ (o : OrderRow). o.id) xs → Excused old new r)
-      → Makes g ShowsRoom IsLegible before after r (λ _. ⊤) (with_order_state id next) (3 ∷ [])
+      → Makes g ShowsRoom IsLegible before after r (λ _. ⊤) (with_order_state id next) (tables.orders.tree ∷ [])
   brought next leaves rows only faults = record {
     shows_made = λ clean beside d shown may. on_ok_then r _ _ (λ has.
         with_orders old.now new.now d shown _ has.only has.are

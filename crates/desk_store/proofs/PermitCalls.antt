@@ -1,9 +1,10 @@
 -- Permits that are told, granted and taken back, on the whole desk.
-use Rattle.std.proofs.Common.{◌≡◌, ℕ, ◌+◌, ◌<◌, ℤ, pos, List, [], ◌∷◌, length, map, filter, get_or, Bool, false, nat_eq, Equal, Result, Err, OnOk, inl, inr, refl, sym, ap, ap₂, subst, ◌∙◌, arith}
+use Rattle.std.proofs.Common.{◌≡◌, ℕ, ◌+◌, ◌<◌, ℤ, pos, List, [], ◌∷◌, length, map, filter, get_or, Bool, false, not, nat_eq, Equal, Result, Err, OnOk, inl, inr, refl, sym, ap, ap₂, subst, ◌∙◌, arith}
 use Rattle.std.specs.Prelude.{⊤}
 use Rattle.std.specs.Cmp.{int_cmp_total, tied_itself}
-use Rattle.std.specs.List.{list_any}
+use Rattle.std.specs.List.{AllByRecursion, list_any}
 use Rattle.std.specs.List.Sorted.{IsPermutation, IsSorted}
+use Rattle.std.proofs.lemmas.List.Sorted.{IsPermutation-refl}
 use Rattle.std.specs.Ordering.{int_cmp, is_lt, ordering_then}
 use Rattle.std.proofs.lemmas.Bool.{cases_Bool, eqb-true, or_from}
 use Rattle.std.proofs.lemmas.List.{get_or-map, length-map}
@@ -11,10 +12,11 @@ use Rattle.sqlite.specs.Edit.{next_rowid}
 use Rattle.sqlite.specs.Held.{Held, state}
 use Rattle.sqlite.specs.Order.{Row}
 use Rattle.sqlite.specs.State.{State, HasCleanDisk}
-use Rattle.sqlite.specs.Tree.{rowid}
+use Rattle.sqlite.specs.Tree.{Trees, rowid}
 use Rattle.sqlite.specs.declared.types.Value.TheVariants.{Int}
 use Rattle.sqlite_rules.specs.Lists.{Has}
 use Rattle.sqlite_rules.proofs.ListLemmas.{has_filtered}
+use Rattle.sqlite_trees.proofs.ListLemmas.{all-filter}
 use Rattle.sqlite_trees.specs.declared.store.Store as store
 use Rattle.desk_core.specs.DeskRows.{Desk, PermitRow}
 use Rattle.office_tables.specs.Calls.{Makes}
@@ -28,10 +30,13 @@ use Rattle.office_tables.proofs.Causes.{still_unlimited}
 use Rattle.office_tables.proofs.LaterCauses.{last_cause}
 use Rattle.office_tables.proofs.Puts.{has_at}
 use Rattle.office_tables.proofs.Rows.{had}
-use Rattle.desk_store.specs.Permits.{by_unit, is_permit, without_permit, with_permit, revoked, HasUnitRow}
+use Rattle.desk_store.specs.Permits.{by_unit, is_permit, without_permit, with_permit, permits_of, revoked, HasUnitRow, MayHave}
 use Rattle.office_tables.specs.Permits.{permit_cells}
-use Rattle.desk_store.specs.Shows.{ShowsDesk, ShowsRoom, IsLegible}
+use Rattle.desk_store.specs.Shows.{ShowsDesk, ShowsRoom, IsLegible, IsNumberOf}
 use Rattle.office_tables.specs.Numbered.{HasNumbered}
+use Rattle.office_tables.specs.Schema as tables
+use Rattle.desk_store.specs.declared.granting.Permit.{Permit}
+use Rattle.desk_store.proofs.NumbersOf.{none_after}
 use Rattle.desk_store.proofs.Frames.{with_permits}
 use Rattle.office_tables.proofs.numbered.OwnNumbers.{one_more, told_permuted}
 use Rattle.desk_store.proofs.PermitRows.{by_ticket, permit_of, told_of}
@@ -64,7 +69,19 @@ module _ (t : ℕ) (there : List Row) (ps : List PermitRow) (at : HasNumbered pe
   pub told_ordered : (ys : List (ℤ × PermitRow)) → IsOrdered by_ticket theirs ys → IsOrdered by_unit (map permit_of (filter of_ticket ps)) (map told_of ys)
   told_ordered ys ordered = (told_permuted permit_cells permit_of there ps at of_ticket ys ordered.0, told_sorted ys ordered.0 ordered.1)
 
+-- a ticket that was not given has no permit
+pub none_given : (t : ℕ) (db : Trees) (d : Desk) → ShowsDesk db d → length d.readers < t → IsOrdered by_unit (permits_of t d) []
+none_given t db d shown over =
+    subst (λ ps. IsOrdered by_unit (map told ps) []) (sym (none_after (λ (p : PermitRow). p.ticket) d.readers t over d.permits shown.permit_tickets)) (IsPermutation-refl [], λ k e low high. absurd (omega (arith, high)))
+  where
+    told : PermitRow → Permit
+    told p = record { unit = p.unit; until = p.until }
+
 -- ---- the ticket has no permit any more
+
+-- those that are left are of tickets that were given
+tickets_left : (t u : ℕ) (d : Desk) (db : Trees) → ShowsDesk db d → AllByRecursion (λ (p : PermitRow). IsNumberOf d.readers p.ticket) (without_permit t u d.permits)
+tickets_left t u d db shown = all-filter (λ (p : PermitRow). IsNumberOf d.readers p.ticket) (λ p. not (is_permit t u p)) d.permits shown.permit_tickets
 
 none_left : (t u : ℕ) (ps : List PermitRow) → list_any (is_permit t u) (without_permit t u ps) ≡ false
 none_left t u [] = refl
@@ -82,10 +99,10 @@ module _ {S : Type 0} (g : store.Ghosts S) (before after : Held S) (r : Result U
   abbrev new : State
   new = state g after
 
-  pub takes_back : (t u : ℕ) → Leaves old new r → (HasCleanDisk new → (ps : List PermitRow) → HasNumbered permit_cells (old.now.trees 10) ps → OnOk r (HasNumbered permit_cells (new.now.trees 10) (without_permit t u ps)))
-      → (HasCleanDisk new → OnOk r (OnlyTouches (10 ∷ []) old.now new.now)) → Excused old new r → Makes g ShowsRoom IsLegible before after r (λ _. ⊤) (revoked t u) (10 ∷ [])
+  pub takes_back : (t u : ℕ) → Leaves old new r → (HasCleanDisk new → (ps : List PermitRow) → HasNumbered permit_cells (old.now.trees tables.permit.tree) ps → OnOk r (HasNumbered permit_cells (new.now.trees tables.permit.tree) (without_permit t u ps)))
+      → (HasCleanDisk new → OnOk r (OnlyTouches (tables.permit.tree ∷ []) old.now new.now)) → Excused old new r → Makes g ShowsRoom IsLegible before after r (λ _. ⊤) (revoked t u) (tables.permit.tree ∷ [])
   takes_back t u leaves rows only faults = record {
-    shows_made = λ clean beside d shown may. on_ok_both r _ _ _ (λ touches has. with_permits old.now new.now d shown _ touches has) (only clean) (rows clean d.permits shown.permits);
+    shows_made = λ clean beside d shown may. on_ok_both r _ _ _ (λ touches has. with_permits old.now new.now d shown _ touches has (tickets_left t u d old.now.trees shown)) (only clean) (rows clean d.permits shown.permits);
     only = only;
     goes = leaves.goes;
     cut = leaves.cut;
@@ -108,7 +125,7 @@ module _ {S : Type 0} (g : store.Ghosts S) (before mid after : Held S) (t u : �
   row = record { ticket = t; unit = u; until = until }
 
   pub not_cleared : (e : StoreFault) → Leaves {X = Unit} a b (Err e) → Excused {X = Unit} a b (Err e)
-      → Makes {X = Unit} g ShowsRoom IsLegible before mid (Err e) (λ _. HasUnitRow u a.now.trees) (with_permit t u until) (10 ∷ [])
+      → Makes {X = Unit} g ShowsRoom IsLegible before mid (Err e) (MayHave t u a.now.trees) (with_permit t u until) (tables.permit.tree ∷ [])
   not_cleared e leaves faults = record {
     shows_made = λ clean beside d shown may. tt;
     only = λ clean. tt;
@@ -117,26 +134,26 @@ module _ {S : Type 0} (g : store.Ghosts S) (before mid after : Held S) (t u : �
     faults = λ beside d shown may kept. faults;
   }
 
-  module _ (goes : Goes a b) (only : HasCleanDisk b → OnlyTouches (10 ∷ []) a.now b.now) (left : HasCleanDisk b → (ps : List PermitRow) → HasNumbered permit_cells (a.now.trees 10) ps → HasNumbered permit_cells (b.now.trees 10) (without_permit t u ps))
+  module _ (goes : Goes a b) (only : HasCleanDisk b → OnlyTouches (tables.permit.tree ∷ []) a.now b.now) (left : HasCleanDisk b → (ps : List PermitRow) → HasNumbered permit_cells (a.now.trees tables.permit.tree) ps → HasNumbered permit_cells (b.now.trees tables.permit.tree) (without_permit t u ps))
       (r : Result Unit StoreFault) where
     still_there : HasCleanDisk b → HasUnitRow u a.now.trees → HasUnitRow u b.now.trees
-    still_there clean known = subst (λ rows. (row : Row) × Has rows row × (rowid row ≡ Int (pos u))) (sym (only clean 14 refl refl)) known
+    still_there clean known = subst (λ rows. (row : Row) × Has rows row × (rowid row ≡ Int (pos u))) (sym (only clean tables.unit.tree refl refl)) known
 
-    put : HasCleanDisk b → PutsRow 10 (permit_cells (next_rowid (b.now.trees 10), row)) b.now c.now → (d : Desk) → ShowsDesk a.now.trees d → ShowsDesk c.now.trees (with_permit t u until d)
-    put clean puts d shown =
+    put : HasCleanDisk b → PutsRow tables.permit.tree (permit_cells (next_rowid (b.now.trees tables.permit.tree), row)) b.now c.now → (d : Desk) → ShowsDesk a.now.trees d → IsNumberOf d.readers t → ShowsDesk c.now.trees (with_permit t u until d)
+    put clean puts d shown given =
         with_permits a.now c.now d shown (row ∷ without_permit t u d.permits) (λ tree known other. puts.only tree known other ∙ only clean tree known other)
-        (one_more permit_cells (λ _. refl) (b.now.trees 10) (c.now.trees 10) (without_permit t u d.permits) (next_rowid (b.now.trees 10)) row (left clean d.permits shown.permits) puts.rows puts.fresh)
+        (one_more permit_cells (λ _. refl) (b.now.trees tables.permit.tree) (c.now.trees tables.permit.tree) (without_permit t u d.permits) (next_rowid (b.now.trees tables.permit.tree)) row (left clean d.permits shown.permits) puts.rows puts.fresh) (given, tickets_left t u d a.now.trees shown)
 
-    pub grants : Leaves b c r → (HasCleanDisk c → OnOk r (PutsRow 10 (permit_cells (next_rowid (b.now.trees 10), row)) b.now c.now))
-        → ((ps : List PermitRow) → HasNumbered permit_cells (b.now.trees 10) ps → list_any (is_permit t u) ps ≡ false → HasUnitRow u b.now.trees → Excused b c r)
-        → Makes g ShowsRoom IsLegible before after r (λ _. HasUnitRow u a.now.trees) (with_permit t u until) (10 ∷ [])
+    pub grants : Leaves b c r → (HasCleanDisk c → OnOk r (PutsRow tables.permit.tree (permit_cells (next_rowid (b.now.trees tables.permit.tree), row)) b.now c.now))
+        → ((ps : List PermitRow) → HasNumbered permit_cells (b.now.trees tables.permit.tree) ps → list_any (is_permit t u) ps ≡ false → HasUnitRow u b.now.trees → Excused b c r)
+        → Makes g ShowsRoom IsLegible before after r (MayHave t u a.now.trees) (with_permit t u until) (tables.permit.tree ∷ [])
     grants leaves puts faults =
         let back = early b c _ leaves.crash in
         record {
-          shows_made = λ clean beside d shown may. on_ok_then r _ _ (λ at. put (back clean) at d shown) (puts clean);
-          only = λ clean. on_ok_then r _ _ (λ (at : PutsRow 10 (permit_cells (next_rowid (b.now.trees 10), row)) b.now c.now) tree known other. at.only tree known other ∙ only (back clean) tree known other) (puts clean);
+          shows_made = λ clean beside d shown may. on_ok_then r _ _ (λ at. put (back clean) at d shown may.0) (puts clean);
+          only = λ clean. on_ok_then r _ _ (λ (at : PutsRow tables.permit.tree (permit_cells (next_rowid (b.now.trees tables.permit.tree), row)) b.now c.now) tree known other. at.only tree known other ∙ only (back clean) tree known other) (puts clean);
           goes = on_ok_then r _ _ (goes_then a b c goes) leaves.goes;
           cut = on_err_then r _ _ (cut_then a b c goes.on) leaves.cut;
           faults = λ beside d shown may kept clean free. last_cause a b c goes.on r leaves.cut clean (λ cleaner.
-              faults (without_permit t u d.permits) (left cleaner d.permits shown.permits) (none_left t u d.permits) (still_there cleaner may) clean (still_unlimited a b goes.on free));
+              faults (without_permit t u d.permits) (left cleaner d.permits shown.permits) (none_left t u d.permits) (still_there cleaner may.1) clean (still_unlimited a b goes.on free));
         }

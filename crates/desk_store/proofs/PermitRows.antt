@@ -1,5 +1,5 @@
 -- The statements on the rows of permits: what their texts mean, what they leave or tell, and why they fail.
-use Rattle.std.proofs.Common.{◌≡◌, ℕ, ℤ, pos, List, [], ◌∷◌, map, filter, codes, true, false, not, ◌&&◌, Result, OnOk, IfOk, IfErr, nat_eq, refl, ap, ◌∙◌}
+use Rattle.std.proofs.Common.{◌≡◌, ℕ, ℤ, pos, List, [], ◌∷◌, map, filter, codes, true, false, Result, OnOk, IfOk, IfErr, nat_eq, refl, ◌∙◌}
 use Rattle.std.proofs.Math.Nat.{le_refl}
 use Rattle.std.proofs.lemmas.Bool.{or_right, eq-eqb}
 use Rattle.std.specs.List.{AllByRecursion, list_any, list_all}
@@ -20,7 +20,7 @@ use Rattle.sqlite.specs.State.{State, IsLive}
 use Rattle.sqlite.specs.Tree.{Trees}
 use Rattle.sqlite_rules.proofs.ListLemmas.{some_from}
 use Rattle.sqlite_schema.specs.Names.{same_name}
-use Rattle.sqlite_schema.specs.Rules.{agree, guards, has_null, has_parent, is_key_of, references_fit}
+use Rattle.sqlite_schema.specs.Rules.{agree, has_null, has_parent, is_key_of}
 use Rattle.sqlite_sql.specs.declared.ops.BinaryOp.TheVariants.{Compare}
 use Rattle.sqlite_sql.specs.declared.ops.CompareOp.TheVariants.{Eq}
 use Rattle.sqlite_tied.specs.Compute.{everything}
@@ -35,6 +35,7 @@ use Rattle.office_tables.specs.Faults.{IsUnlimited, HasCause}
 use Rattle.office_tables.specs.Meaning.{Means}
 use Rattle.office_tables.specs.Order.{IsOrdered}
 use Rattle.office_tables.specs.Schema.{schema, to_unit, unit, permit}
+use Rattle.office_tables.specs.Schema as tables
 use Rattle.office_tables.specs.Step.{OnlyTouches, PutsRow}
 use Rattle.office_tables.specs.declared.fault.StoreFault.{StoreFault}
 use Rattle.desk_store.specs.Permits.{is_permit, without_permit, HasUnitRow}
@@ -43,15 +44,16 @@ use Rattle.office_tables.specs.Numbered.{HasNumbered}
 use Rattle.desk_store.specs.declared.granting.Permit.{Permit}
 use Rattle.office_tables.proofs.Calls.{on_ok_then}
 use Rattle.office_tables.proofs.Casts.{cast_int, cast_null}
-use Rattle.office_tables.proofs.statements.DeleteOf.{removing, delete_leaves, delete_faults}
-use Rattle.office_tables.proofs.Fresh.{any_mapped, next_free}
+use Rattle.office_tables.proofs.Queries.{asking, choosing}
+use Rattle.office_tables.proofs.statements.DeleteOf.{delete_leaves, delete_faults}
 use Rattle.office_tables.proofs.InsertCauses.{IsWelcome}
 use Rattle.office_tables.proofs.statements.InsertOf.{insert_puts, insert_faults}
-use Rattle.office_tables.proofs.statements.SelectOf.{asking, select_finds, select_faults}
-use Rattle.office_tables.proofs.Steps.{is_referred_to}
+use Rattle.office_tables.proofs.statements.SelectOf.{select_finds, select_faults}
 use Rattle.office_tables.proofs.Tests.{only, both, same_number, by_two_ints}
 use Rattle.office_tables.proofs.statements.OnlyOf.{delete_only}
-use Rattle.office_tables.proofs.numbered.OwnNumbers.{none_numbered, all_numbered, those_left}
+use Rattle.office_tables.proofs.numbered.OwnNumbers.{all_numbered, those_left}
+use Rattle.office_tables.proofs.statements.WelcomeOf.{next_welcome, none_agrees}
+use Rattle.office_tables.proofs.statements.LeafOf.{permit_alone, permit_fits}
 
 -- ---- a permit for a unit that has its row
 
@@ -92,37 +94,26 @@ same_permit : (a b : ℤ × PermitRow) → agree plain (1 ∷ 2 ∷ []) (permit_
 unfolding first_key
 same_permit a b = both (same_number a.1.ticket b.1.ticket) (same_number a.1.unit b.1.unit)
 
-no_other : (v : Version) (db : Trees) (row : Row) → list_any (λ r. agree plain (1 ∷ 2 ∷ []) r (1 ∷ 2 ∷ []) row) (db permit.tree) ≡ false
-    → list_all (λ i. not (guards i permit && list_any (λ r. agree i.order i.columns r i.columns row) (db permit.tree))) (schema v).indexes ≡ true
-no_other Links db row h = rw h refl
-no_other Spans db row h = rw h refl
-
 module _ (old new : State) (p : PermitRow) (v : Version) (has : old.now.schema ≡ schema v) where
   abbrev params : Row
   params = Int (pos p.ticket) ∷ Int (pos p.unit) ∷ Int p.until ∷ []
 
   abbrev added : ℤ × PermitRow
-  added = (next_rowid (old.now.trees 10), p)
+  added = (next_rowid (old.now.trees tables.permit.tree), p)
 
   news : (edit_of old.now.trees permit [] Chosen 0 (value_rows params 4 1 insert_permit_terms)).news ≡ permit_cells added ∷ []
   news = rw (cast_null, cast_int (pos p.ticket), cast_int (pos p.unit), cast_int p.until) refl
 
-  pub insert_permit_puts : (r : Result Unit StoreFault) → Ran insert_permit_text params old new r → OnOk r (PutsRow 10 (permit_cells added) old.now new.now)
+  pub insert_permit_puts : (r : Result Unit StoreFault) → Ran insert_permit_text params old new r → OnOk r (PutsRow tables.permit.tree (permit_cells added) old.now new.now)
   insert_permit_puts = insert_puts v 6 permit refl insert_permit_text insert_permit_terms 4 params (insert_permit_means v) old new has (permit_cells added) news
 
-  module _ (ps : List PermitRow) (at : HasNumbered permit_cells (old.now.trees 10) ps) (none : list_any (is_permit p.ticket p.unit) ps ≡ false) (known : HasUnitRow p.unit old.now.trees) where
+  module _ (ps : List PermitRow) (at : HasNumbered permit_cells (old.now.trees tables.permit.tree) ps) (none : list_any (is_permit p.ticket p.unit) ps ≡ false) (known : HasUnitRow p.unit old.now.trees) where
     welcome : IsWelcome (schema v) old.now.trees permit (permit_cells added)
-    welcome = record {
-      keyed = refl;
-      free = next_free permit_cells (λ x. x.0) (λ _. refl) at.numbered (old.now.trees 10) params at.are at.rise;
-      typed = refl;
-      present = refl;
-      checked = refl;
-      alone = no_other v old.now.trees (permit_cells added) (ap (list_any (λ r. agree plain (1 ∷ 2 ∷ []) r (1 ∷ 2 ∷ []) (permit_cells added))) at.are
-          ∙ any_mapped permit_cells _ (λ (x : ℤ × PermitRow). is_permit p.ticket p.unit x.1) (λ x. same_permit x added) at.numbered ∙ none_numbered permit_cells (old.now.trees 10) ps at (is_permit p.ticket p.unit) none);
-      referred = unit_fits v;
-      parents = has_its_unit v old.now.trees (permit_cells added) p.unit refl known;
-    }
+    welcome =
+        let apart : list_any (λ r. agree plain (1 ∷ 2 ∷ []) r (1 ∷ 2 ∷ []) (permit_cells added)) (old.now.trees permit.tree) ≡ false =
+        none_agrees permit_cells (old.now.trees permit.tree) ps at (1 ∷ 2 ∷ []) (permit_cells added) (is_permit p.ticket p.unit) (λ x. same_permit x added) none in
+        next_welcome v permit permit_cells (λ (p : PermitRow). Int (pos p.ticket) ∷ Int (pos p.unit) ∷ Int p.until ∷ []) (λ _. refl) p ps old.now.trees at (rw apart refl)
+        (record { typed = refl; present = refl; checked = refl; referred = unit_fits v; parents = has_its_unit v old.now.trees (permit_cells added) p.unit refl known })
 
     pub insert_permit_faults : IsUnlimited old → IsLive old → (r : Result Unit StoreFault) → Ran insert_permit_text params old new r → IfErr r (HasCause old new)
     insert_permit_faults = insert_faults v 6 permit refl insert_permit_text insert_permit_terms 4 params (insert_permit_means v) old new has (permit_cells added) news refl welcome
@@ -136,36 +127,26 @@ abbrev of_both : List Term
 of_both = op2 (Compare Eq Binary) (col 1 1) (col 0 0) ∷ op2 (Compare Eq Binary) (col 1 2) (col 0 1) ∷ []
 
 abbrev pub clear_permit_command : Command
-clear_permit_command = Delete 6 (removing permit of_both (col 1 0 ∷ []))
+clear_permit_command = Delete 6 (choosing permit of_both (col 1 0 ∷ []))
 
 pub clear_permit_means : (v : Version) → Means v clear_permit_text 2 clear_permit_command
 unfolding understood everything
 clear_permit_means Links = record { is = refl; plain = (refl, refl); whole = (le_refl _, refl, refl); unlisted = refl }
 clear_permit_means Spans = record { is = refl; plain = (refl, refl); whole = (le_refl _, refl, refl); unlisted = refl }
 
-permit_unreferred : (v : Version) → is_referred_to (schema v) 10 ≡ false
-unfolding joined same_name
-permit_unreferred Links = refl
-permit_unreferred Spans = refl
-
-permit_fits : (v : Version) → references_fit (schema v) permit false true ≡ true
-unfolding joined same_name
-permit_fits Links = refl
-permit_fits Spans = refl
-
 module _ (old new : State) (t u : ℕ) (v : Version) (has : old.now.schema ≡ schema v) (r : Result Unit StoreFault) (ran : Ran clear_permit_text (Int (pos t) ∷ Int (pos u) ∷ []) old new r) where
-  pub clear_permit_leaves : (ps : List PermitRow) → HasNumbered permit_cells (old.now.trees 10) ps → OnOk r (HasNumbered permit_cells (new.now.trees 10) (without_permit t u ps))
+  pub clear_permit_leaves : (ps : List PermitRow) → HasNumbered permit_cells (old.now.trees tables.permit.tree) ps → OnOk r (HasNumbered permit_cells (new.now.trees tables.permit.tree) (without_permit t u ps))
   clear_permit_leaves ps at =
-      on_ok_then r _ _ (λ has. those_left permit_cells (old.now.trees 10) (new.now.trees 10) ps at (is_permit t u) has.are)
-      (delete_leaves v 6 permit refl (permit_unreferred v) clear_permit_text of_both (col 1 0 ∷ []) (Int (pos t) ∷ Int (pos u) ∷ []) (clear_permit_means v) old new has permit_cells (λ x. x.0) (λ _. refl) at.numbered at.are at.rise
+      on_ok_then r _ _ (λ has. those_left permit_cells (old.now.trees tables.permit.tree) (new.now.trees tables.permit.tree) ps at (is_permit t u) has.are)
+      (delete_leaves v 6 permit refl (permit_alone v) clear_permit_text of_both (col 1 0 ∷ []) (Int (pos t) ∷ Int (pos u) ∷ []) (clear_permit_means v) old new has permit_cells (λ x. x.0) (λ _. refl) at.numbered at.are at.rise
       (λ (x : ℤ × PermitRow). is_permit t u x.1) (λ x. both (same_number x.1.ticket t) (same_number x.1.unit u)) (λ (x : ℤ × PermitRow). Int x.0 ∷ []) (λ _. refl) (λ _. refl) r ran)
 
-  pub clear_permit_only : OnOk r (OnlyTouches (10 ∷ []) old.now new.now)
-  clear_permit_only = delete_only v 6 permit refl clear_permit_text _ (Int (pos t) ∷ Int (pos u) ∷ []) old new has (permit_unreferred v) (clear_permit_means v) r ran
+  pub clear_permit_only : OnOk r (OnlyTouches (tables.permit.tree ∷ []) old.now new.now)
+  clear_permit_only = delete_only v 6 permit refl clear_permit_text _ (Int (pos t) ∷ Int (pos u) ∷ []) old new has (permit_alone v) (clear_permit_means v) r ran
 
   pub clear_permit_faults : IsUnlimited old → IsLive old → IfErr r (HasCause old new)
   clear_permit_faults free live =
-      delete_faults v 6 permit refl (permit_unreferred v) clear_permit_text of_both (col 1 0 ∷ []) (Int (pos t) ∷ Int (pos u) ∷ []) (clear_permit_means v) old new has (permit_fits v) refl free live r ran
+      delete_faults v 6 permit refl (permit_alone v) clear_permit_text of_both (col 1 0 ∷ []) (Int (pos t) ∷ Int (pos u) ∷ []) (clear_permit_means v) old new has (permit_fits v) refl free live r ran
 
 -- ---- the permits of a ticket
 
@@ -204,7 +185,7 @@ told_cells p = Int (pos p.unit) ∷ Int p.until ∷ []
 abbrev pub by_ticket : ℤ × PermitRow → ℤ × PermitRow → Ordering
 by_ticket a b = ordering_then (int_cmp (pos a.1.ticket) (pos b.1.ticket)) (int_cmp (pos a.1.unit) (pos b.1.unit))
 
-module _ (old new : State) (t : ℕ) (v : Version) (has : old.now.schema ≡ schema v) (ps : List PermitRow) (at : HasNumbered permit_cells (old.now.trees 10) ps) {X : Type 0} (items : X → List Permit) (r : Result X StoreFault) where
+module _ (old new : State) (t : ℕ) (v : Version) (has : old.now.schema ≡ schema v) (ps : List PermitRow) (at : HasNumbered permit_cells (old.now.trees tables.permit.tree) ps) {X : Type 0} (items : X → List Permit) (r : Result X StoreFault) where
   pub permits_finds : IfOk r (λ found. Finds told_cells permits_text (Int (pos t) ∷ []) old new (items found))
       → IfOk r (λ found. (ys : List (ℤ × PermitRow)) × IsOrdered by_ticket (filter (λ (x : ℤ × PermitRow). nat_eq t x.1.ticket) at.numbered) ys × (items found ≡ map told_of ys))
   permits_finds =
@@ -217,4 +198,4 @@ module _ (old new : State) (t : ℕ) (v : Version) (has : old.now.schema ≡ sch
       select_faults v permit permits_text of_ticket permit_columns in_order permit_names (Int (pos t) ∷ []) (permits_means v) old new has permit_cells at.numbered at.are
       (λ (x : ℤ × PermitRow). nat_eq t x.1.ticket) (λ x. only (same_number x.1.ticket t)) (λ x. told_cells (told_of x)) (λ (x : ℤ × PermitRow). Int (pos x.1.ticket) ∷ Int (pos x.1.unit) ∷ []) (λ _. refl)
       by_ticket (λ _. refl) (λ a b. by_two_ints (pos a.1.ticket) (pos b.1.ticket) (pos a.1.unit) (pos b.1.unit)) told_cells items told_of (λ _. refl) (λ (p : Permit). is_day_number p.until ≡ true) refl free
-      (all_numbered permit_cells (old.now.trees 10) ps at (λ (p : PermitRow). is_day_number p.until ≡ true) legible) r
+      (all_numbered permit_cells (old.now.trees tables.permit.tree) ps at (λ (p : PermitRow). is_day_number p.until ≡ true) legible) r

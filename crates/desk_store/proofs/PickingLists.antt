@@ -7,8 +7,11 @@ use Rattle.std.proofs.lemmas.Bool.Decides.{nat_tests}
 use Rattle.std.proofs.lemmas.List.{take_more}
 use Rattle.std.proofs.lemmas.List.Elements.{filter-append}
 use Rattle.std.proofs.lemmas.List.Folds.{list_any-append}
+use Rattle.std.proofs.Math.Bool.{or_assoc}
+use Rattle.std.proofs.lemmas.Bool.{lt-ltb}
 use Rattle.sqlite_rules.proofs.ListLemmas.{all_has}
 use Rattle.office_tables.proofs.Puts.{has_at}
+use Rattle.office_tables.proofs.numbered.Counted.{less_below}
 use Rattle.desk_store.specs.Picking.{is_earliest, is_new}
 use Rattle.office_tables.specs.Numbered.{AreByNumber}
 use Rattle.desk_store.specs.declared.holdings.FirstOrder.{FirstOrder}
@@ -51,27 +54,18 @@ swap false false = refl
 pub any_more : {A : Type 0} (p : A → Bool) (xs : List A) (i : ℕ) (d : A) → i < length xs → list_any p (take (i + 1) xs) ≡ (p (get_or xs i d) || list_any p (take i xs))
 any_more p xs i d low = ap (list_any p) (take_more xs i d low) ∙ list_any-append p (take i xs) (get_or xs i d ∷ []) ∙ swap (list_any p (take i xs)) (p (get_or xs i d))
 
-or_assoc : (a b c : Bool) → (a || (b || c)) ≡ ((a || b) || c)
-or_assoc true b c = refl
-or_assoc false b c = refl
-
 pub met_more : (known0 : List ℕ) (orders : List FirstOrder) (i : ℕ) (d : FirstOrder) (c : ℕ) (old new : Bool) → i < length orders
     → old ≡ (list_any (λ (o : FirstOrder). nat_eq c o.container) (take i orders) || list_any (nat_eq c) known0) → new ≡ (nat_eq c (get_or orders i d).container || old)
     → new ≡ (list_any (λ (o : FirstOrder). nat_eq c o.container) (take (i + 1) orders) || list_any (nat_eq c) known0)
 met_more known0 orders i d c old new low so is =
     is ∙ ap (λ b. nat_eq c (get_or orders i d).container || b) so
-    ∙ or_assoc (nat_eq c (get_or orders i d).container) (list_any (λ (o : FirstOrder). nat_eq c o.container) (take i orders)) (list_any (nat_eq c) known0)
+    ∙ sym (or_assoc (nat_eq c (get_or orders i d).container) (list_any (λ (o : FirstOrder). nat_eq c o.container) (take i orders)) (list_any (nat_eq c) known0))
     ∙ ap (λ b. b || list_any (nat_eq c) known0) (sym (any_more (λ (o : FirstOrder). nat_eq c o.container) orders i d low))
 
 -- ---- those with a lesser number stand before
 
 less_is : (a b : ℕ) → int_cmp (pos a) (pos b) ≡ Less → nat_lt a b ≡ true
-less_is a b h = by (nat_lt a b) (nat_lt b a) h
-  where
-    by : (x y : Bool) → cond x Less (cond y Greater Equal) ≡ Less → x ≡ true
-    by true y h = refl
-    by false true h = absurd (cc)
-    by false false h = absurd (cc)
+less_is a b h = lt-ltb a b (less_below a b h)
 
 none_below : (q : FirstOrder → Bool) (x : FirstOrder) (xs : List FirstOrder) → AllByRecursion (λ (y : FirstOrder). int_cmp (pos x.order) (pos y.order) ≡ Less) xs
     → list_any (λ (y : FirstOrder). q y && nat_lt y.order x.order) xs ≡ false

@@ -13,6 +13,7 @@ use Rattle.sqlite.specs.State.{State}
 use Rattle.sqlite_sql.specs.declared.ops.BinaryOp.TheVariants.{Compare}
 use Rattle.sqlite_sql.specs.declared.ops.CompareOp.TheVariants.{Eq}
 use Rattle.sqlite_tied.specs.Compute.{everything}
+use Rattle.sqlite_trees.proofs.ListLemmas.{all_of}
 use Rattle.tree_core.specs.Versions.{Version, Links, Spans}
 use Rattle.desk_core.specs.DeskRows.{OrderRow}
 use Rattle.office_tables.specs.Asking.{Finds, Misses}
@@ -22,12 +23,12 @@ use Rattle.office_tables.specs.Order.{IsOrdered}
 use Rattle.office_tables.specs.Schema.{schema, orders}
 use Rattle.office_tables.specs.Step.{Holds}
 use Rattle.office_tables.specs.declared.fault.StoreFault.{StoreFault}
-use Rattle.office_tables.proofs.statements.SelectOf.{asking, select_finds, select_faults}
+use Rattle.office_tables.proofs.Queries.{asking}
+use Rattle.office_tables.proofs.statements.SelectOf.{select_finds, select_faults}
 use Rattle.office_tables.proofs.Tests.{only, same_number, by_one_int}
 use Rattle.desk_store.specs.Rows.{order_cells}
 use Rattle.desk_store.specs.declared.holdings.FirstOrder.{FirstOrder}
 use Rattle.desk_store.proofs.CardRows.{by_order, in_order}
-use Rattle.desk_store.proofs.WaitingRows.{every}
 
 abbrev pub first_of : OrderRow → FirstOrder
 first_of o = record { container = o.container; order = o.id; ticket = o.ticket }
@@ -66,4 +67,4 @@ module _ (old new : State) (v : Version) (has : old.now.schema ≡ schema v) (xs
   all_faults free =
       select_faults v orders all_text it_waits first_columns in_order first_names [] (all_means v) old new has order_cells xs stored
       (λ (o : OrderRow). nat_eq 1 o.state) (λ o. only (same_number o.state 1)) (λ o. first_cells (first_of o)) (λ (o : OrderRow). Int (pos o.id) ∷ []) (λ _. refl) by_order (λ _. refl) (λ a b. by_one_int (pos a.id) (pos b.id))
-      first_cells items first_of (λ _. refl) (λ _. ⊤) refl free (every xs) r
+      first_cells items first_of (λ _. refl) (λ _. ⊤) refl free (all_of (λ _. ⊤) (λ _. tt) xs) r

@@ -1,5 +1,5 @@
 -- The statement on where a container is: what its text means, what it tells, and why it fails. And the place that it tells.
-use Rattle.std.proofs.Common.{◌≡◌, ℕ, pos, Bool, List, [], ◌∷◌, map, filter, find, codes, true, false, cond, Option, Some, None, Result, IfOk, IfErr, nat_eq, refl, sym, ap, subst, ◌∙◌}
+use Rattle.std.proofs.Common.{◌≡◌, ℕ, pos, Bool, List, [], ◌∷◌, map, filter, find, codes, true, false, cond, Option, Some, None, Result, IfOk, IfErr, nat_eq, refl, sym, subst}
 use Rattle.std.proofs.Math.Nat.{le_refl}
 use Rattle.std.specs.Prelude.{⊤, option_map, slice_get}
 use Rattle.std.specs.List.{AllByRecursion}
@@ -15,6 +15,7 @@ use Rattle.sqlite.specs.State.{State}
 use Rattle.sqlite_sql.specs.declared.ops.BinaryOp.TheVariants.{Compare}
 use Rattle.sqlite_sql.specs.declared.ops.CompareOp.TheVariants.{Eq}
 use Rattle.sqlite_tied.specs.Compute.{everything}
+use Rattle.sqlite_trees.proofs.ListLemmas.{all_of}
 use Rattle.tree_core.specs.Versions.{Version, Links, Spans}
 use Rattle.desk_core.specs.DeskRows.{HoldingRow}
 use Rattle.desk_core.specs.declared.reader.Place.{Place}
@@ -26,8 +27,9 @@ use Rattle.office_tables.specs.Order.{IsOrdered}
 use Rattle.office_tables.specs.Schema.{schema, holding}
 use Rattle.office_tables.specs.Step.{Holds}
 use Rattle.office_tables.specs.declared.fault.StoreFault.{StoreFault}
-use Rattle.office_tables.proofs.Reading.{first_kept}
-use Rattle.office_tables.proofs.statements.SelectOf.{asking, select_finds, select_faults}
+use Rattle.office_tables.proofs.Reading.{first_shown}
+use Rattle.office_tables.proofs.Queries.{asking}
+use Rattle.office_tables.proofs.statements.SelectOf.{select_finds, select_faults}
 use Rattle.office_tables.proofs.Tests.{only, same_number, by_one_int}
 use Rattle.desk_store.specs.Orders.{IsAt}
 use Rattle.desk_store.specs.Rows.{holding_cells}
@@ -35,7 +37,6 @@ use Rattle.desk_store.specs.Shows.{IsKnownPlace, IsLegibleHolding}
 use Rattle.desk_store.specs.declared.queues.PlaceEntry.{PlaceEntry}
 use Rattle.desk_store.proofs.CardRows.{in_order}
 use Rattle.desk_store.proofs.LoanRows.{by_container}
-use Rattle.desk_store.proofs.WaitingRows.{every}
 
 abbrev pub place_entry : HoldingRow → PlaceEntry
 place_entry h = record { place = h.place; held_by = h.held_by }
@@ -75,18 +76,13 @@ module _ (old new : State) (n : ℕ) (v : Version) (has : old.now.schema ≡ sch
   place_faults free =
       select_faults v holding place_text with_its_number place_columns in_order place_names (Int (pos n) ∷ []) (place_means v) old new has holding_cells xs stored
       (λ (h : HoldingRow). nat_eq n h.container) (λ h. only (same_number h.container n)) (λ h. place_cells (place_entry h)) (λ (h : HoldingRow). Int (pos h.container) ∷ []) (λ _. refl) by_container (λ _. refl) (λ a b. by_one_int (pos a.container) (pos b.container))
-      place_cells items place_entry (λ _. refl) (λ _. ⊤) refl free (every xs) r
+      place_cells items place_entry (λ _. refl) (λ _. ⊤) refl free (all_of (λ _. ⊤) (λ _. tt) xs) r
 
 -- ---- the place that is told
 
-first_mapped : (xs : List HoldingRow) → slice_get (map place_entry xs) 0 ≡ option_map place_entry (slice_get xs 0)
-first_mapped [] = refl
-first_mapped (x ∷ xs) = refl
-
 pub entry_told : (n : ℕ) (xs : List HoldingRow) (found : List PlaceEntry) → found ≡ map place_entry (filter (λ (h : HoldingRow). nat_eq n h.container) xs)
     → slice_get found 0 ≡ option_map place_entry (find (λ (h : HoldingRow). nat_eq n h.container) xs)
-entry_told n xs found are =
-    ap (λ l. slice_get l 0) are ∙ first_mapped (filter (λ (h : HoldingRow). nat_eq n h.container) xs) ∙ ap (option_map place_entry) (first_kept (λ (h : HoldingRow). nat_eq n h.container) xs)
+entry_told n xs found are = first_shown place_entry (λ (h : HoldingRow). nat_eq n h.container) xs found are
 
 -- the row of an entry, of whatever container
 abbrev pub row_of : PlaceEntry → HoldingRow

@@ -1,8 +1,7 @@
 -- A reader more, on the whole desk: first the next ticket is read, then the row is put.
-use Rattle.std.proofs.Common.{◌≡◌, ℕ, suc, ◌+◌, ◌<◌, ℤ, pos, false, cond, nat_eq, List, [], ◌∷◌, ◌++◌, map, length, Option, Some, None, Result, Ok, Err, inl, inr, refl, sym, ap, subst, ◌∙◌, arith}
+use Rattle.std.proofs.Common.{◌≡◌, ℕ, suc, ◌+◌, ◌<◌, ℤ, pos, false, cond, nat_eq, List, [], ◌∷◌, ◌++◌, map, length, Option, Some, None, Ok, Err, inl, inr, refl, sym, ap, subst, ◌∙◌, arith}
 use Rattle.std.specs.Prelude.{⊤, nat_lt}
 use Rattle.std.specs.List.{list_any}
-use Rattle.std.specs.Result.{IsErr, IsErrAnd}
 use Rattle.std.proofs.lemmas.Bool.{cases_Bool, ltb-true}
 use Rattle.std.proofs.lemmas.List.{length-append}
 use Rattle.isad_core.specs.Texts.{Bytes}
@@ -16,6 +15,7 @@ use Rattle.desk_core.specs.DeskRows.{Desk, ReaderRow}
 use Rattle.office_tables.specs.Calls.{Makes}
 use Rattle.office_tables.specs.Faults.{IsUnlimited, HasCause}
 use Rattle.office_tables.specs.Schema.{reader}
+use Rattle.office_tables.specs.Schema as tables
 use Rattle.office_tables.specs.Step.{Goes, Holds, IsCut, Looks, OnlyTouches, PutsRow}
 use Rattle.office_tables.specs.declared.fault.StoreFault.{StoreFault}
 use Rattle.office_tables.proofs.Calls.{early, goes_then, cut_then}
@@ -52,7 +52,7 @@ module _ {S : Type 0} (g : store.Ghosts S) (before mid after : Held S) (name : B
     still_shown : HasCleanDisk b → (d : Desk) → ShowsDesk a.now.trees d → ShowsDesk b.now.trees d
     still_shown clean d shown = subst (λ (db : Database). ShowsDesk db.trees d) (sym (looked.same clean)) shown
 
-    put : HasCleanDisk b → PutsRow 0 (reader_cells row) b.now c.now → (d : Desk) → ShowsDesk a.now.trees d → ShowsDesk c.now.trees (with_reader (next_ticket d) name until d)
+    put : HasCleanDisk b → PutsRow tables.reader.tree (reader_cells row) b.now c.now → (d : Desk) → ShowsDesk a.now.trees d → ShowsDesk c.now.trees (with_reader (next_ticket d) name until d)
     put clean puts d shown =
         let at = is clean d shown in
         let n = next_is d ticket at in
@@ -63,14 +63,14 @@ module _ {S : Type 0} (g : store.Ghosts S) (before mid after : Held S) (name : B
         (puts.rows ∙ ap (put_row (reader_cells row)) there.readers ∙ put_rows reader_cells (λ (r : ReaderRow). pos r.ticket) (λ _. refl) row d.readers
         ∙ ap (map reader_cells) (put_end (λ (r : ReaderRow). r.ticket) 1 d.readers row shown.tickets n.0))
         (counted_more (λ (r : ReaderRow). r.ticket) 1 d.readers row shown.tickets n.0)
-        (let size = length-append d.readers (row ∷ []) in omega (arith, size, few)))
+        (let size = length-append d.readers (row ∷ []) in omega (arith, size, few)) (let size = length-append d.readers (row ∷ []) in omega (arith, size)))
 
-    pub added : Goes b c → (HasCleanDisk c → PutsRow 0 (reader_cells row) b.now c.now) → Makes g ShowsRoom IsLegible before after (Ok (Some ticket)) (λ _. ⊤) (λ d. with_reader (next_ticket d) name until d) (0 ∷ [])
+    pub added : Goes b c → (HasCleanDisk c → PutsRow tables.reader.tree (reader_cells row) b.now c.now) → Makes g ShowsRoom IsLegible before after (Ok (Some ticket)) (λ _. ⊤) (λ d. with_reader (next_ticket d) name until d) (tables.reader.tree ∷ [])
     added goes puts =
         let back = early b c _ goes.on.crash in
         record {
           shows_made = λ clean beside d shown may. put (back clean) (puts clean) d shown;
-          only = λ clean. subst (λ (db : Database). OnlyTouches (0 ∷ []) db c.now) (looked.same (back clean)) (puts clean).only;
+          only = λ clean. subst (λ (db : Database). OnlyTouches (tables.reader.tree ∷ []) db c.now) (looked.same (back clean)) (puts clean).only;
           goes = goes_then a b c looked.goes goes;
           cut = tt;
           faults = λ beside d shown may kept clean free. tt;
@@ -78,7 +78,7 @@ module _ {S : Type 0} (g : store.Ghosts S) (before mid after : Held S) (name : B
 
     pub failed : (e : StoreFault) → IsCut b c
         → ((xs : List ReaderRow) → Holds reader reader_cells b xs → list_any (λ (r : ReaderRow). nat_eq ticket r.ticket) xs ≡ false → HasCleanDisk c → IsUnlimited b → HasCause b c e)
-        → Makes {X = Option ℕ} g ShowsRoom IsLegible before after (Err e) (λ _. ⊤) (λ d. with_reader (next_ticket d) name until d) (0 ∷ [])
+        → Makes {X = Option ℕ} g ShowsRoom IsLegible before after (Err e) (λ _. ⊤) (λ d. with_reader (next_ticket d) name until d) (tables.reader.tree ∷ [])
     failed e cut why = record {
       shows_made = λ clean beside d shown may. tt;
       only = λ clean. tt;
@@ -87,8 +87,3 @@ module _ {S : Type 0} (g : store.Ghosts S) (before mid after : Held S) (name : B
       faults = λ beside d shown may kept clean free. next_cause a b c looked.goes.on cut clean e (λ cleaner.
           why d.readers (still_shown cleaner d shown).readers (counted_free (λ (r : ReaderRow). r.ticket) 1 d.readers ticket shown.tickets (next_is d ticket (is cleaner d shown)).0) clean (still_unlimited a b looked.goes.on free));
     }
-
--- a fault that is handed on is the same fault
-pub handed_on : {X : Type 0} (r : Result X StoreFault) (e : StoreFault) → IsErr r → IsErrAnd r (λ f. f ≡ e) → r ≡ Err e
-handed_on (Ok x) e h k = absurd (cc)
-handed_on (Err f) e h k = ap Err k

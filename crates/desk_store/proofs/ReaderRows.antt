@@ -1,8 +1,8 @@
 -- The statements on the rows of readers: what their texts mean, what they leave or tell, and why they fail.
-use Rattle.std.proofs.Common.{◌≡◌, ◌≤◌, ◌<◌, ◌^◌, ℕ, zero, suc, ℤ, pos, List, [], ◌∷◌, map, filter, length, drop, codes, Bool, true, false, not, ◌&&◌, if◌then◌else◌, ltb, Result, OnOk, IfOk, IfErr, nat_eq, refl, ap, ◌∙◌, arith}
+use Rattle.std.proofs.Common.{◌≡◌, ◌≤◌, ◌<◌, ◌^◌, ℕ, zero, suc, ℤ, pos, List, [], ◌∷◌, map, filter, length, drop, codes, Bool, true, false, if◌then◌else◌, ltb, Result, OnOk, IfOk, IfErr, nat_eq, refl, arith}
 use Rattle.std.proofs.Math.Nat.{le_refl}
 use Rattle.std.proofs.lemmas.Bool.{ltb-true}
-use Rattle.std.specs.List.{list_any, list_all}
+use Rattle.std.specs.List.{list_any}
 use Rattle.sqlite.specs.declared.types.Value.TheVariants.{Null, Int, Text}
 use Rattle.std.specs.Prelude.{IsUtf8}
 use Rattle.std.specs.Cmp.{IsTotalOrder, on_total, int_cmp_total}
@@ -12,7 +12,7 @@ use Rattle.std.specs.declared.cmp.Ordering.{Ordering}
 use Rattle.isad_core.specs.Days.{is_day_number}
 use Rattle.sqlite.specs.Order.{Row, column}
 use Rattle.sqlite.specs.Cast.{cast_row}
-use Rattle.sqlite.specs.Edit.{edit_of, is_taken}
+use Rattle.sqlite.specs.Edit.{edit_of}
 use Rattle.sqlite.specs.Effect.{value_rows}
 use Rattle.sqlite.specs.Rowids.TheVariants.{Chosen}
 use Rattle.sqlite.specs.Term.{Term, lit, col, op2}
@@ -24,7 +24,6 @@ use Rattle.sqlite.specs.Listing.{understood}
 use Rattle.sqlite.specs.State.{State, IsLive}
 use Rattle.sqlite.specs.Tree.{Trees}
 use Rattle.sqlite_schema.specs.Names.{same_name}
-use Rattle.sqlite_schema.specs.Rules.{agree, guards}
 use Rattle.sqlite_sql.specs.declared.ops.BinaryOp.TheVariants.{Compare}
 use Rattle.sqlite_sql.specs.declared.ops.CompareOp.TheVariants.{Eq}
 use Rattle.sqlite_tied.specs.Compute.{everything}
@@ -40,6 +39,7 @@ use Rattle.office_tables.specs.Faults.{IsUnlimited, HasCause}
 use Rattle.office_tables.specs.Meaning.{Means}
 use Rattle.office_tables.specs.Order.{IsOrdered}
 use Rattle.office_tables.specs.Schema.{schema, reader}
+use Rattle.office_tables.specs.Schema as tables
 use Rattle.office_tables.specs.Step.{Holds, HasRows, OnlyTouches, PutsRow}
 use Rattle.office_tables.specs.declared.fault.StoreFault.{StoreFault}
 use Rattle.desk_store.specs.Readers.{renewed}
@@ -48,16 +48,17 @@ use Rattle.desk_store.specs.Shows.{IsLegibleReader}
 use Rattle.office_tables.specs.Numbered.{AreCounted}
 use Rattle.desk_store.specs.declared.readers.NamedReader.{NamedReader}
 use Rattle.office_tables.proofs.Casts.{cast_int, cast_null}
-use Rattle.office_tables.proofs.Fresh.{not_there}
 use Rattle.office_tables.proofs.InsertCauses.{IsWelcome}
+use Rattle.office_tables.proofs.Queries.{asking, choosing}
 use Rattle.office_tables.proofs.statements.InsertOf.{insert_puts, insert_faults}
-use Rattle.office_tables.proofs.statements.SelectOf.{asking, select_finds, select_faults}
+use Rattle.office_tables.proofs.statements.SelectOf.{select_finds, select_faults}
 use Rattle.office_tables.proofs.Tests.{only, same_number, by_one_int}
 use Rattle.office_tables.proofs.UpdateCauses.{KeepsTable}
-use Rattle.office_tables.proofs.statements.UpdateOf.{changing, update_leaves, update_faults}
+use Rattle.office_tables.proofs.statements.UpdateOf.{update_leaves, update_faults}
 use Rattle.office_tables.proofs.numbered.Counted.{counted_rises}
 use Rattle.office_tables.proofs.statements.LastOf.{last_of, last_finds, last_faults}
 use Rattle.office_tables.proofs.statements.OnlyOf.{update_only}
+use Rattle.office_tables.proofs.statements.WelcomeOf.{number_welcome}
 
 -- ---- a new reader
 
@@ -75,21 +76,9 @@ unfolding understood everything
 insert_reader_means Links = record { is = refl; plain = (refl, refl); whole = (le_refl _, refl, refl); unlisted = refl }
 insert_reader_means Spans = record { is = refl; plain = (refl, refl); whole = (le_refl _, refl, refl); unlisted = refl }
 
-reader_alone : (v : Version) (db : Trees) (row : Row) → list_all (λ i. not (guards i reader && list_any (λ r. agree i.order i.columns r i.columns row) (db 0))) (schema v).indexes ≡ true
-reader_alone Links db row = refl
-reader_alone Spans db row = refl
-
-reader_welcome : (r : ReaderRow) (xs : List ReaderRow) (v : Version) (db : Trees) → db 0 ≡ map reader_cells xs → list_any (λ (x : ReaderRow). nat_eq r.ticket x.ticket) xs ≡ false → IsWelcome (schema v) db reader (reader_cells r)
-reader_welcome r xs v db stored none = record {
-  keyed = refl;
-  free = ap (λ rows. is_taken rows (reader_cells r)) stored ∙ not_there reader_cells (λ x. x.ticket) (λ _. refl) r.ticket (reader_cells r) refl xs none;
-  typed = refl;
-  present = refl;
-  checked = refl;
-  alone = reader_alone v db (reader_cells r);
-  referred = refl;
-  parents = refl;
-}
+reader_welcome : (r : ReaderRow) (xs : List ReaderRow) (v : Version) (db : Trees) → db tables.reader.tree ≡ map reader_cells xs → list_any (λ (x : ReaderRow). nat_eq r.ticket x.ticket) xs ≡ false → IsWelcome (schema v) db reader (reader_cells r)
+reader_welcome r xs v db stored none = number_welcome v reader reader_cells (λ x. x.ticket) (λ _. refl) r xs db stored none refl
+    (record { typed = refl; present = refl; checked = refl; referred = refl; parents = refl })
 
 module _ (old new : State) (x : ReaderRow) (v : Version) (has : old.now.schema ≡ schema v) where
   abbrev params : Row
@@ -98,7 +87,7 @@ module _ (old new : State) (x : ReaderRow) (v : Version) (has : old.now.schema �
   news : (edit_of old.now.trees reader [] Chosen 0 (value_rows params 4 1 insert_reader_terms)).news ≡ reader_cells x ∷ []
   news = rw (cast_int (pos x.ticket), cast_null, cast_int x.until) refl
 
-  pub insert_reader_puts : (r : Result Unit StoreFault) → Ran insert_reader_text params old new r → OnOk r (PutsRow 0 (reader_cells x) old.now new.now)
+  pub insert_reader_puts : (r : Result Unit StoreFault) → Ran insert_reader_text params old new r → OnOk r (PutsRow tables.reader.tree (reader_cells x) old.now new.now)
   insert_reader_puts = insert_puts v 0 reader refl insert_reader_text insert_reader_terms 4 params (insert_reader_means v) old new has (reader_cells x) news
 
   pub insert_reader_faults : (xs : List ReaderRow) → Holds reader reader_cells old xs → list_any (λ (r : ReaderRow). nat_eq x.ticket r.ticket) xs ≡ false → IsUnlimited old → IsLive old
@@ -118,7 +107,7 @@ abbrev set_last_day_columns : List Term
 set_last_day_columns = col 1 0 ∷ col 1 0 ∷ lit Null ∷ col 1 2 ∷ col 0 1 ∷ []
 
 abbrev pub set_last_day_command : Command
-set_last_day_command = Update 0 (changing reader with_its_number set_last_day_columns)
+set_last_day_command = Update 0 (choosing reader with_its_number set_last_day_columns)
 
 pub set_last_day_means : (v : Version) → Means v set_last_day_text 2 set_last_day_command
 unfolding understood everything
@@ -143,7 +132,7 @@ reader_alike until r (suc zero) h = refl
 reader_alike until r (suc (suc p)) h = absurd (omega (arith, ltb-true _ _ h))
 
 module _ (old new : State) (t : ℕ) (until : ℤ) (v : Version) (has : old.now.schema ≡ schema v) (r : Result Unit StoreFault) (ran : Ran set_last_day_text (Int (pos t) ∷ Int until ∷ []) old new r) where
-  pub set_last_day_only : OnOk r (OnlyTouches (0 ∷ []) old.now new.now)
+  pub set_last_day_only : OnOk r (OnlyTouches (tables.reader.tree ∷ []) old.now new.now)
   set_last_day_only = update_only v 0 reader refl set_last_day_text _ (Int (pos t) ∷ Int until ∷ []) old new has (set_last_day_means v) r ran
 
   module _ (xs : List ReaderRow) (stored : Holds reader reader_cells old xs) (counted : AreCounted (λ (x : ReaderRow). x.ticket) xs) where
@@ -153,7 +142,7 @@ module _ (old new : State) (t : ℕ) (until : ℤ) (v : Version) (has : old.now.
     casts : (x : ReaderRow) → cast_row reader (drop 1 (source x)) ≡ reader_cells (renewed_to until x)
     casts x = rw (cast_int (pos x.ticket), cast_null, cast_int until) refl
 
-    pub set_last_day_leaves : OnOk r (HasRows 0 (map reader_cells (renewed t until xs)) old.now new.now)
+    pub set_last_day_leaves : OnOk r (HasRows tables.reader.tree (map reader_cells (renewed t until xs)) old.now new.now)
     set_last_day_leaves =
         update_leaves v 0 reader refl set_last_day_text with_its_number set_last_day_columns (Int (pos t) ∷ Int until ∷ []) (set_last_day_means v) old new has reader_cells (λ x. pos x.ticket) (λ _. refl) xs stored (counted_rises (λ (x : ReaderRow). x.ticket) 1 xs counted)
         (λ (x : ReaderRow). nat_eq t x.ticket) (λ x. only (same_number x.ticket t)) source (λ _. refl) (λ _. refl) (renewed_to until) (λ _. refl) (λ x _ _. casts x) r ran

@@ -13,6 +13,7 @@ use Rattle.sqlite.specs.State.{State}
 use Rattle.sqlite_sql.specs.declared.ops.BinaryOp.TheVariants.{Compare}
 use Rattle.sqlite_sql.specs.declared.ops.CompareOp.TheVariants.{Eq}
 use Rattle.sqlite_tied.specs.Compute.{everything}
+use Rattle.sqlite_trees.proofs.ListLemmas.{all_of}
 use Rattle.tree_core.specs.Versions.{Version, Links, Spans}
 use Rattle.desk_core.specs.DeskRows.{HoldingRow}
 use Rattle.office_tables.specs.Asking.{Finds, Misses}
@@ -22,12 +23,12 @@ use Rattle.office_tables.specs.Order.{IsOrdered}
 use Rattle.office_tables.specs.Schema.{schema, holding}
 use Rattle.office_tables.specs.Step.{Holds}
 use Rattle.office_tables.specs.declared.fault.StoreFault.{StoreFault}
-use Rattle.office_tables.proofs.statements.SelectOf.{asking, select_finds, select_faults}
+use Rattle.office_tables.proofs.Queries.{asking}
+use Rattle.office_tables.proofs.statements.SelectOf.{select_finds, select_faults}
 use Rattle.office_tables.proofs.Tests.{only, same_number, by_one_int}
 use Rattle.desk_store.specs.Rows.{holding_cells}
 use Rattle.desk_store.proofs.CardRows.{in_order}
 use Rattle.desk_store.proofs.LoanRows.{by_container}
-use Rattle.desk_store.proofs.WaitingRows.{every}
 
 abbrev pub number_cells : ℕ → Row
 number_cells n = Int (pos n) ∷ []
@@ -58,4 +59,4 @@ module _ (old new : State) (v : Version) (has : old.now.schema ≡ schema v) (xs
   desk_faults free =
       select_faults v holding desk_text is_there (col 1 0 ∷ []) in_order (codes "container" ∷ []) [] (desk_means v) old new has holding_cells xs stored
       (λ (h : HoldingRow). nat_eq 1 h.place) (λ h. only (same_number h.place 1)) (λ h. number_cells h.container) (λ (h : HoldingRow). Int (pos h.container) ∷ []) (λ _. refl) by_container (λ _. refl) (λ a b. by_one_int (pos a.container) (pos b.container))
-      number_cells items (λ (h : HoldingRow). h.container) (λ _. refl) (λ _. ⊤) refl free (every xs) r
+      number_cells items (λ (h : HoldingRow). h.container) (λ _. refl) (λ _. ⊤) refl free (all_of (λ _. ⊤) (λ _. tt) xs) r

@@ -1,15 +1,15 @@
 -- The statements on the rows of runs and of their lines: what their texts mean, what they leave or tell, and why they fail.
-use Rattle.std.proofs.Common.{◌≡◌, ◌≤◌, ◌<◌, ◌^◌, ℕ, ℤ, pos, List, [], ◌∷◌, ◌++◌, length, map, filter, codes, true, false, not, ◌&&◌, Result, OnOk, IfOk, IfErr, nat_eq, refl, sym, ap, subst, ◌∙◌, arith}
+use Rattle.std.proofs.Common.{◌≡◌, ◌≤◌, ◌<◌, ◌^◌, ℕ, ℤ, pos, List, [], ◌∷◌, ◌++◌, length, map, filter, codes, false, ◌&&◌, Result, OnOk, IfOk, IfErr, nat_eq, refl, sym, subst, arith}
 use Rattle.std.specs.Prelude.{⊤}
 use Rattle.std.proofs.Math.Nat.{le_refl}
 use Rattle.std.proofs.lemmas.Result.{IfOk-weaker}
-use Rattle.std.specs.List.{AllByRecursion, list_any, list_all}
+use Rattle.std.specs.List.{list_any}
 use Rattle.std.specs.List.Sorted.{IsPermutation}
 use Rattle.std.specs.Ordering.{int_cmp, ordering_then}
 use Rattle.std.specs.declared.cmp.Ordering.{Ordering}
 use Rattle.sqlite.specs.declared.types.Value.TheVariants.{Null, Int}
 use Rattle.sqlite.specs.Order.{Row}
-use Rattle.sqlite.specs.Edit.{edit_of, is_taken, next_rowid}
+use Rattle.sqlite.specs.Edit.{edit_of, next_rowid}
 use Rattle.sqlite.specs.Effect.{value_rows}
 use Rattle.sqlite.specs.Rowids.TheVariants.{Chosen}
 use Rattle.sqlite.specs.Term.{Term, lit, col, op2}
@@ -23,9 +23,10 @@ use Rattle.sqlite.specs.Source.TheVariants.{Values}
 use Rattle.sqlite.specs.Listing.{understood}
 use Rattle.sqlite.specs.State.{State, IsLive}
 use Rattle.sqlite.specs.Tree.{Trees}
-use Rattle.sqlite_schema.specs.Rules.{agree, guards}
+use Rattle.sqlite_schema.specs.Rules.{agree}
 use Rattle.sqlite_tied.specs.Compute.{everything}
 use Rattle.sqlite_value.specs.Keys.{ascending, first_key, plain}
+use Rattle.sqlite_trees.proofs.ListLemmas.{all_of}
 use Rattle.tree_core.specs.Versions.{Version, Links, Spans}
 use Rattle.isad_core.specs.Limits.{most_runs}
 use Rattle.desk_core.specs.DeskRows.{RunRow, RunLineRow}
@@ -34,6 +35,7 @@ use Rattle.office_tables.specs.Changing.{Ran}
 use Rattle.office_tables.specs.Faults.{IsUnlimited, HasCause}
 use Rattle.office_tables.specs.Meaning.{Means}
 use Rattle.office_tables.specs.Schema.{schema, run, run_line}
+use Rattle.office_tables.specs.Schema as tables
 use Rattle.office_tables.specs.Step.{Holds, OnlyTouches, PutsRow}
 use Rattle.office_tables.specs.declared.fault.StoreFault.{StoreFault}
 use Rattle.desk_store.specs.Rows.{run_cells, run_line_cells}
@@ -41,13 +43,14 @@ use Rattle.office_tables.specs.Numbered.{AreCounted, HasNumbered}
 use Rattle.desk_store.specs.declared.runs.TakenLine.{TakenLine}
 use Rattle.office_tables.proofs.Calls.{on_ok_then}
 use Rattle.office_tables.proofs.Casts.{cast_int, cast_null}
-use Rattle.office_tables.proofs.Fresh.{any_mapped, next_free, not_there}
 use Rattle.office_tables.proofs.InsertCauses.{IsWelcome}
+use Rattle.office_tables.proofs.Queries.{asking}
 use Rattle.office_tables.proofs.statements.InsertOf.{insert_puts, insert_faults}
-use Rattle.office_tables.proofs.statements.SelectOf.{asking, select_finds, select_faults}
+use Rattle.office_tables.proofs.statements.SelectOf.{select_finds, select_faults}
 use Rattle.office_tables.proofs.Tests.{only, both, same_number, by_two_ints}
 use Rattle.office_tables.proofs.statements.LastOf.{last_of, last_finds, last_faults}
-use Rattle.office_tables.proofs.numbered.OwnNumbers.{none_numbered, one_at_end, told_permuted}
+use Rattle.office_tables.proofs.numbered.OwnNumbers.{one_at_end, told_permuted}
+use Rattle.office_tables.proofs.statements.WelcomeOf.{number_welcome, next_welcome, none_agrees}
 
 -- ---- the last run
 
@@ -85,21 +88,9 @@ unfolding understood everything
 insert_run_means Links = record { is = refl; plain = (refl, refl); whole = (le_refl _, refl, refl); unlisted = refl }
 insert_run_means Spans = record { is = refl; plain = (refl, refl); whole = (le_refl _, refl, refl); unlisted = refl }
 
-run_alone : (v : Version) (db : Trees) (row : Row) → list_all (λ i. not (guards i run && list_any (λ r. agree i.order i.columns r i.columns row) (db 7))) (schema v).indexes ≡ true
-run_alone Links db row = refl
-run_alone Spans db row = refl
-
-run_welcome : (x : RunRow) (xs : List RunRow) (v : Version) (db : Trees) → db 7 ≡ map run_cells xs → list_any (λ (y : RunRow). nat_eq x.id y.id) xs ≡ false → IsWelcome (schema v) db run (run_cells x)
-run_welcome x xs v db stored none = record {
-  keyed = refl;
-  free = ap (λ rows. is_taken rows (run_cells x)) stored ∙ not_there run_cells (λ y. y.id) (λ _. refl) x.id (run_cells x) refl xs none;
-  typed = refl;
-  present = refl;
-  checked = refl;
-  alone = run_alone v db (run_cells x);
-  referred = refl;
-  parents = refl;
-}
+run_welcome : (x : RunRow) (xs : List RunRow) (v : Version) (db : Trees) → db tables.run.tree ≡ map run_cells xs → list_any (λ (y : RunRow). nat_eq x.id y.id) xs ≡ false → IsWelcome (schema v) db run (run_cells x)
+run_welcome x xs v db stored none = number_welcome v run run_cells (λ y. y.id) (λ _. refl) x xs db stored none refl
+    (record { typed = refl; present = refl; checked = refl; referred = refl; parents = refl })
 
 module _ (old new : State) (x : RunRow) (v : Version) (has : old.now.schema ≡ schema v) where
   abbrev run_params : Row
@@ -108,7 +99,7 @@ module _ (old new : State) (x : RunRow) (v : Version) (has : old.now.schema ≡ 
   run_news : (edit_of old.now.trees run [] Chosen 0 (value_rows run_params 3 1 insert_run_terms)).news ≡ run_cells x ∷ []
   run_news = rw (cast_int (pos x.id), cast_null, cast_int x.day) refl
 
-  pub insert_run_puts : (r : Result Unit StoreFault) → Ran insert_run_text run_params old new r → OnOk r (PutsRow 7 (run_cells x) old.now new.now)
+  pub insert_run_puts : (r : Result Unit StoreFault) → Ran insert_run_text run_params old new r → OnOk r (PutsRow tables.run.tree (run_cells x) old.now new.now)
   insert_run_puts = insert_puts v 4 run refl insert_run_text insert_run_terms 3 run_params (insert_run_means v) old new has (run_cells x) run_news
 
   pub insert_run_faults : (xs : List RunRow) → Holds run run_cells old xs → list_any (λ (y : RunRow). nat_eq x.id y.id) xs ≡ false → IsUnlimited old → IsLive old
@@ -136,46 +127,34 @@ same_line : (a b : ℤ × RunLineRow) → agree plain (1 ∷ 2 ∷ []) (run_line
 unfolding first_key
 same_line a b = both (same_number a.1.run b.1.run) (same_number a.1.container b.1.container)
 
-no_other : (v : Version) (db : Trees) (row : Row) → list_any (λ r. agree plain (1 ∷ 2 ∷ []) r (1 ∷ 2 ∷ []) row) (db run_line.tree) ≡ false
-    → list_all (λ i. not (guards i run_line && list_any (λ r. agree i.order i.columns r i.columns row) (db run_line.tree))) (schema v).indexes ≡ true
-no_other Links db row h = rw h refl
-no_other Spans db row h = rw h refl
-
 module _ (old new : State) (l : RunLineRow) (v : Version) (has : old.now.schema ≡ schema v) where
   abbrev params : Row
   params = Int (pos l.run) ∷ Int (pos l.container) ∷ Int (pos l.order_no) ∷ Int (pos l.ticket) ∷ []
 
   abbrev added : ℤ × RunLineRow
-  added = (next_rowid (old.now.trees 8), l)
+  added = (next_rowid (old.now.trees tables.run_line.tree), l)
 
   news : (edit_of old.now.trees run_line [] Chosen 0 (value_rows params 5 1 insert_line_terms)).news ≡ run_line_cells added ∷ []
   news = rw (cast_null, cast_int (pos l.run), cast_int (pos l.container), cast_int (pos l.order_no), cast_int (pos l.ticket)) refl
 
-  puts : (r : Result Unit StoreFault) → Ran insert_line_text params old new r → OnOk r (PutsRow 8 (run_line_cells added) old.now new.now)
+  puts : (r : Result Unit StoreFault) → Ran insert_line_text params old new r → OnOk r (PutsRow tables.run_line.tree (run_line_cells added) old.now new.now)
   puts = insert_puts v 5 run_line refl insert_line_text insert_line_terms 5 params (insert_line_means v) old new has (run_line_cells added) news
 
-  pub insert_line_only : (r : Result Unit StoreFault) → Ran insert_line_text params old new r → OnOk r (OnlyTouches (8 ∷ []) old.now new.now)
+  pub insert_line_only : (r : Result Unit StoreFault) → Ran insert_line_text params old new r → OnOk r (OnlyTouches (tables.run_line.tree ∷ []) old.now new.now)
   insert_line_only r ran = on_ok_then r _ _ (λ put. put.only) (puts r ran)
 
-  module _ (ls : List RunLineRow) (at : HasNumbered run_line_cells (old.now.trees 8) ls) where
-    pub insert_line_puts : (r : Result Unit StoreFault) → Ran insert_line_text params old new r → OnOk r (HasNumbered run_line_cells (new.now.trees 8) (ls ++ l ∷ []))
+  module _ (ls : List RunLineRow) (at : HasNumbered run_line_cells (old.now.trees tables.run_line.tree) ls) where
+    pub insert_line_puts : (r : Result Unit StoreFault) → Ran insert_line_text params old new r → OnOk r (HasNumbered run_line_cells (new.now.trees tables.run_line.tree) (ls ++ l ∷ []))
     insert_line_puts r ran =
-        on_ok_then r _ _ (λ put. one_at_end run_line_cells (λ _. refl) (old.now.trees 8) (new.now.trees 8) ls (next_rowid (old.now.trees 8)) l at put.rows put.fresh) (puts r ran)
+        on_ok_then r _ _ (λ put. one_at_end run_line_cells (λ _. refl) (old.now.trees tables.run_line.tree) (new.now.trees tables.run_line.tree) ls (next_rowid (old.now.trees tables.run_line.tree)) l at put.rows put.fresh) (puts r ran)
 
     module _ (none : list_any (λ (x : RunLineRow). nat_eq l.run x.run && nat_eq l.container x.container) ls ≡ false) where
       welcome : IsWelcome (schema v) old.now.trees run_line (run_line_cells added)
-      welcome = record {
-        keyed = refl;
-        free = next_free run_line_cells (λ x. x.0) (λ _. refl) at.numbered (old.now.trees 8) params at.are at.rise;
-        typed = refl;
-        present = refl;
-        checked = refl;
-        alone = no_other v old.now.trees (run_line_cells added) (ap (list_any (λ r. agree plain (1 ∷ 2 ∷ []) r (1 ∷ 2 ∷ []) (run_line_cells added))) at.are
-            ∙ any_mapped run_line_cells _ (λ (x : ℤ × RunLineRow). nat_eq l.run x.1.run && nat_eq l.container x.1.container) (λ x. same_line x added) at.numbered
-            ∙ none_numbered run_line_cells (old.now.trees 8) ls at (λ (x : RunLineRow). nat_eq l.run x.run && nat_eq l.container x.container) none);
-        referred = refl;
-        parents = refl;
-      }
+      welcome =
+          let apart : list_any (λ r. agree plain (1 ∷ 2 ∷ []) r (1 ∷ 2 ∷ []) (run_line_cells added)) (old.now.trees run_line.tree) ≡ false =
+          none_agrees run_line_cells (old.now.trees run_line.tree) ls at (1 ∷ 2 ∷ []) (run_line_cells added) (λ (x : RunLineRow). nat_eq l.run x.run && nat_eq l.container x.container) (λ x. same_line x added) none in
+          next_welcome v run_line run_line_cells (λ (l : RunLineRow). Int (pos l.run) ∷ Int (pos l.container) ∷ Int (pos l.order_no) ∷ Int (pos l.ticket) ∷ []) (λ _. refl) l ls old.now.trees at (rw apart refl)
+          (record { typed = refl; present = refl; checked = refl; referred = refl; parents = refl })
 
       pub insert_line_faults : IsUnlimited old → IsLive old → (r : Result Unit StoreFault) → Ran insert_line_text params old new r → IfErr r (HasCause old new)
       insert_line_faults = insert_faults v 5 run_line refl insert_line_text insert_line_terms 5 params (insert_line_means v) old new has (run_line_cells added) news refl welcome
@@ -214,16 +193,12 @@ taken_cells l = Int (pos l.container) ∷ Int (pos l.order) ∷ Int (pos l.ticke
 abbrev by_run : ℤ × RunLineRow → ℤ × RunLineRow → Ordering
 by_run a b = ordering_then (int_cmp (pos a.1.run) (pos b.1.run)) (int_cmp (pos a.1.container) (pos b.1.container))
 
-every : {X : Type 0} (xs : List X) → AllByRecursion (λ (_ : X). ⊤) xs
-every [] = tt
-every (x ∷ xs) = (tt, every xs)
-
-module _ (old new : State) (n : ℕ) (v : Version) (has : old.now.schema ≡ schema v) (ls : List RunLineRow) (at : HasNumbered run_line_cells (old.now.trees 8) ls) {X : Type 0} (items : X → List TakenLine) (r : Result X StoreFault) where
+module _ (old new : State) (n : ℕ) (v : Version) (has : old.now.schema ≡ schema v) (ls : List RunLineRow) (at : HasNumbered run_line_cells (old.now.trees tables.run_line.tree) ls) {X : Type 0} (items : X → List TakenLine) (r : Result X StoreFault) where
   pub lines_with_finds : IfOk r (λ found. Finds taken_cells lines_with_text (Int (pos n) ∷ []) old new (items found))
       → IfOk r (λ found. IsPermutation (map taken_line (filter (λ (l : RunLineRow). nat_eq n l.run) ls)) (items found))
   lines_with_finds found =
       IfOk-weaker r _ _ (λ all it. subst (IsPermutation (map taken_line (filter (λ (l : RunLineRow). nat_eq n l.run) ls))) (sym it.2)
-      (told_permuted run_line_cells taken_line (old.now.trees 8) ls at (λ (l : RunLineRow). nat_eq n l.run) it.0 it.1.0))
+      (told_permuted run_line_cells taken_line (old.now.trees tables.run_line.tree) ls at (λ (l : RunLineRow). nat_eq n l.run) it.0 it.1.0))
       (select_finds v run_line lines_with_text of_run line_columns in_order line_names (Int (pos n) ∷ []) (lines_with_means v) old new has run_line_cells at.numbered at.are
       (λ (x : ℤ × RunLineRow). nat_eq n x.1.run) (λ x. only (same_number x.1.run n)) (λ x. taken_cells (taken_line x.1)) (λ (x : ℤ × RunLineRow). Int (pos x.1.run) ∷ Int (pos x.1.container) ∷ []) (λ _. refl)
       by_run (λ _. refl) (λ a b. by_two_ints (pos a.1.run) (pos b.1.run) (pos a.1.container) (pos b.1.container)) taken_cells items (λ (x : ℤ × RunLineRow). taken_line x.1) (λ _. refl) r found)
@@ -232,4 +207,4 @@ module _ (old new : State) (n : ℕ) (v : Version) (has : old.now.schema ≡ sch
   lines_with_faults free =
       select_faults v run_line lines_with_text of_run line_columns in_order line_names (Int (pos n) ∷ []) (lines_with_means v) old new has run_line_cells at.numbered at.are
       (λ (x : ℤ × RunLineRow). nat_eq n x.1.run) (λ x. only (same_number x.1.run n)) (λ x. taken_cells (taken_line x.1)) (λ (x : ℤ × RunLineRow). Int (pos x.1.run) ∷ Int (pos x.1.container) ∷ []) (λ _. refl)
-      by_run (λ _. refl) (λ a b. by_two_ints (pos a.1.run) (pos b.1.run) (pos a.1.container) (pos b.1.container)) taken_cells items (λ (x : ℤ × RunLineRow). taken_line x.1) (λ _. refl) (λ _. ⊤) refl free (every at.numbered) r
+      by_run (λ _. refl) (λ a b. by_two_ints (pos a.1.run) (pos b.1.run) (pos a.1.container) (pos b.1.container)) taken_cells items (λ (x : ℤ × RunLineRow). taken_line x.1) (λ _. refl) (λ _. ⊤) refl free (all_of (λ _. ⊤) (λ _. tt) at.numbered) r

@@ -11,6 +11,7 @@ use Rattle.office_tables.specs.Calls.{Makes}
 use Rattle.office_tables.specs.Changing.{Leaves}
 use Rattle.office_tables.specs.Faults.{Excused}
 use Rattle.office_tables.specs.Schema.{seat}
+use Rattle.office_tables.specs.Schema as tables
 use Rattle.office_tables.specs.Step.{Holds, HasRows, PutsRow, OnlyTouches}
 use Rattle.office_tables.specs.declared.fault.StoreFault.{StoreFault}
 use Rattle.office_tables.proofs.Calls.{on_ok_then}
@@ -31,9 +32,9 @@ module _ {S : Type 0} (g : store.Ghosts S) (before after : Held S) (r : Result U
   abbrev new : State
   new = state g after
 
-  pub takes : (n t : ℕ) → Leaves old new r → (HasCleanDisk new → OnOk r (PutsRow 1 (seat_cells (record { seat = n; ticket = t })) old.now new.now))
+  pub takes : (n t : ℕ) → Leaves old new r → (HasCleanDisk new → OnOk r (PutsRow tables.seat.tree (seat_cells (record { seat = n; ticket = t })) old.now new.now))
       → ((xs : List SeatRow) → Holds seat seat_cells old xs → list_any (λ (s : SeatRow). nat_eq n s.seat) xs ≡ false → list_any (λ (s : SeatRow). nat_eq t s.ticket) xs ≡ false → Excused old new r)
-      → Makes g ShowsRoom IsLegible before after r (MayTake n (Some t)) (with_seat n (Some t)) (1 ∷ [])
+      → Makes g ShowsRoom IsLegible before after r (MayTake n (Some t)) (with_seat n (Some t)) (tables.seat.tree ∷ [])
   takes n t leaves puts faults = record {
     shows_made = λ clean beside d shown may. on_ok_then r _ _ (λ put.
         with_seats old.now new.now d shown _ put.only
@@ -45,8 +46,8 @@ module _ {S : Type 0} (g : store.Ghosts S) (before after : Held S) (r : Result U
     faults = λ beside d shown may kept. faults d.seats shown.seats may.0 may.1;
   }
 
-  pub frees : (n : ℕ) → Leaves old new r → (HasCleanDisk new → (xs : List SeatRow) → Holds seat seat_cells old xs → AreByNumber (λ (s : SeatRow). s.seat) xs → OnOk r (HasRows 1 (map seat_cells (filter (λ (s : SeatRow). not (nat_eq n s.seat)) xs)) old.now new.now))
-      → Excused old new r → (HasCleanDisk new → OnOk r (OnlyTouches (1 ∷ []) old.now new.now)) → Makes g ShowsRoom IsLegible before after r (MayTake n None) (with_seat n None) (1 ∷ [])
+  pub frees : (n : ℕ) → Leaves old new r → (HasCleanDisk new → (xs : List SeatRow) → Holds seat seat_cells old xs → AreByNumber (λ (s : SeatRow). s.seat) xs → OnOk r (HasRows tables.seat.tree (map seat_cells (filter (λ (s : SeatRow). not (nat_eq n s.seat)) xs)) old.now new.now))
+      → Excused old new r → (HasCleanDisk new → OnOk r (OnlyTouches (tables.seat.tree ∷ []) old.now new.now)) → Makes g ShowsRoom IsLegible before after r (MayTake n None) (with_seat n None) (tables.seat.tree ∷ [])
   frees n leaves rows faults only = record {
     shows_made = λ clean beside d shown may. on_ok_then r _ _ (λ has.
         with_seats old.now new.now d shown _ has.only has.are (ascending-filter _ (λ (s : SeatRow). not (nat_eq n s.seat)) d.seats shown.seats_rise)) (rows clean d.seats shown.seats shown.seats_rise);

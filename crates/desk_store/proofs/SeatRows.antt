@@ -1,13 +1,13 @@
 -- The statements on the rows of seats: what their texts mean, what they leave or tell, and why they fail.
-use Rattle.std.proofs.Common.{◌≡◌, ◌<◌, ◌^◌, ℕ, pos, List, [], ◌∷◌, map, filter, codes, true, false, not, ◌&&◌, Result, OnOk, IfOk, IfErr, nat_eq, refl, ap, ◌∙◌}
+use Rattle.std.proofs.Common.{◌≡◌, ◌<◌, ◌^◌, ℕ, pos, List, [], ◌∷◌, map, filter, codes, true, false, not, Result, OnOk, IfOk, IfErr, nat_eq, refl, ap, ◌∙◌}
 use Rattle.std.proofs.Math.Nat.{le_refl}
 use Rattle.std.specs.Cmp.{IsTotalOrder, on_total, int_cmp_total}
-use Rattle.std.specs.List.{AllByRecursion, list_any, list_all}
+use Rattle.std.specs.List.{AllByRecursion, list_any}
 use Rattle.std.specs.Ordering.{int_cmp}
 use Rattle.std.specs.declared.cmp.Ordering.{Ordering}
 use Rattle.sqlite.specs.declared.types.Value.TheVariants.{Null, Int}
 use Rattle.sqlite.specs.Order.{Row}
-use Rattle.sqlite.specs.Edit.{edit_of, is_taken}
+use Rattle.sqlite.specs.Edit.{edit_of}
 use Rattle.sqlite.specs.Effect.{value_rows}
 use Rattle.sqlite.specs.Rowids.TheVariants.{Chosen}
 use Rattle.sqlite.specs.Term.{Term, lit, col, op2}
@@ -18,13 +18,12 @@ use Rattle.sqlite.specs.Source.TheVariants.{Values}
 use Rattle.sqlite.specs.Listing.{understood}
 use Rattle.sqlite.specs.State.{State, IsLive}
 use Rattle.sqlite.specs.Tree.{Trees}
-use Rattle.sqlite_schema.specs.Names.{same_name}
-use Rattle.sqlite_schema.specs.Rules.{agree, guards, references_fit}
+use Rattle.sqlite_schema.specs.Rules.{agree}
 use Rattle.sqlite_sql.specs.declared.ops.BinaryOp.TheVariants.{Compare}
 use Rattle.sqlite_sql.specs.declared.ops.CompareOp.TheVariants.{Eq}
 use Rattle.sqlite_tied.specs.Compute.{everything}
 use Rattle.sqlite_value.specs.declared.keys.Key.{Key}
-use Rattle.sqlite_value.specs.Keys.{ascending, joined, first_key, plain}
+use Rattle.sqlite_value.specs.Keys.{ascending, first_key, plain}
 use Rattle.tree_core.specs.Versions.{Version, Links, Spans}
 use Rattle.desk_core.specs.DeskRows.{SeatRow}
 use Rattle.office_tables.specs.Asking.{Finds, Misses}
@@ -33,20 +32,23 @@ use Rattle.office_tables.specs.Faults.{IsUnlimited, HasCause}
 use Rattle.office_tables.specs.Meaning.{Means}
 use Rattle.office_tables.specs.Order.{IsOrdered}
 use Rattle.office_tables.specs.Schema.{schema, seat}
+use Rattle.office_tables.specs.Schema as tables
 use Rattle.office_tables.specs.Step.{Holds, HasRows, OnlyTouches, PutsRow}
 use Rattle.office_tables.specs.declared.fault.StoreFault.{StoreFault}
 use Rattle.desk_store.specs.Rows.{seat_cells}
 use Rattle.office_tables.specs.Numbered.{AreByNumber}
 use Rattle.desk_store.specs.declared.seating.TakenSeat.{TakenSeat}
 use Rattle.office_tables.proofs.Casts.{cast_int, cast_null}
-use Rattle.office_tables.proofs.statements.DeleteOf.{removing, delete_leaves, delete_faults}
-use Rattle.office_tables.proofs.Fresh.{any_mapped, not_there}
+use Rattle.office_tables.proofs.Queries.{asking, choosing}
+use Rattle.office_tables.proofs.statements.DeleteOf.{delete_leaves, delete_faults}
+use Rattle.office_tables.proofs.Fresh.{any_mapped}
 use Rattle.office_tables.proofs.InsertCauses.{IsWelcome}
 use Rattle.office_tables.proofs.statements.InsertOf.{insert_puts, insert_faults}
-use Rattle.office_tables.proofs.statements.SelectOf.{asking, select_finds, select_faults}
-use Rattle.office_tables.proofs.Steps.{is_referred_to}
+use Rattle.office_tables.proofs.statements.SelectOf.{select_finds, select_faults}
 use Rattle.office_tables.proofs.Tests.{only, same_number, by_one_int}
 use Rattle.office_tables.proofs.statements.OnlyOf.{delete_only}
+use Rattle.office_tables.proofs.statements.WelcomeOf.{number_welcome}
+use Rattle.office_tables.proofs.statements.LeafOf.{seat_alone, seat_fits}
 
 -- ---- a seat is taken
 
@@ -68,23 +70,12 @@ same_ticket : (a b : SeatRow) → agree plain (2 ∷ []) (seat_cells a) (2 ∷ [
 unfolding first_key
 same_ticket a b = only (same_number a.ticket b.ticket)
 
-seat_alone : (v : Version) (db : Trees) (row : Row) → list_any (λ r. agree plain (2 ∷ []) r (2 ∷ []) row) (db 1) ≡ false
-    → list_all (λ i. not (guards i seat && list_any (λ r. agree i.order i.columns r i.columns row) (db 1))) (schema v).indexes ≡ true
-seat_alone Links db row h = rw h refl
-seat_alone Spans db row h = rw h refl
-
-seat_welcome : (s : SeatRow) (xs : List SeatRow) (v : Version) (db : Trees) → db 1 ≡ map seat_cells xs → list_any (λ (x : SeatRow). nat_eq s.seat x.seat) xs ≡ false → list_any (λ (x : SeatRow). nat_eq s.ticket x.ticket) xs ≡ false
+seat_welcome : (s : SeatRow) (xs : List SeatRow) (v : Version) (db : Trees) → db tables.seat.tree ≡ map seat_cells xs → list_any (λ (x : SeatRow). nat_eq s.seat x.seat) xs ≡ false → list_any (λ (x : SeatRow). nat_eq s.ticket x.ticket) xs ≡ false
     → IsWelcome (schema v) db seat (seat_cells s)
-seat_welcome s xs v db stored none other = record {
-  keyed = refl;
-  free = ap (λ rows. is_taken rows (seat_cells s)) stored ∙ not_there seat_cells (λ x. x.seat) (λ _. refl) s.seat (seat_cells s) refl xs none;
-  typed = refl;
-  present = refl;
-  checked = refl;
-  alone = seat_alone v db (seat_cells s) (ap (list_any (λ r. agree plain (2 ∷ []) r (2 ∷ []) (seat_cells s))) stored ∙ any_mapped seat_cells _ (λ (x : SeatRow). nat_eq s.ticket x.ticket) (λ a. same_ticket a s) xs ∙ other);
-  referred = refl;
-  parents = refl;
-}
+seat_welcome s xs v db stored none other =
+    let apart : list_any (λ r. agree plain (2 ∷ []) r (2 ∷ []) (seat_cells s)) (db tables.seat.tree) ≡ false =
+    ap (list_any (λ r. agree plain (2 ∷ []) r (2 ∷ []) (seat_cells s))) stored ∙ any_mapped seat_cells _ (λ (x : SeatRow). nat_eq s.ticket x.ticket) (λ a. same_ticket a s) xs ∙ other in
+    number_welcome v seat seat_cells (λ x. x.seat) (λ _. refl) s xs db stored none (rw apart refl) (record { typed = refl; present = refl; checked = refl; referred = refl; parents = refl })
 
 module _ (old new : State) (s : SeatRow) (v : Version) (has : old.now.schema ≡ schema v) where
   abbrev params : Row
@@ -93,7 +84,7 @@ module _ (old new : State) (s : SeatRow) (v : Version) (has : old.now.schema ≡
   news : (edit_of old.now.trees seat [] Chosen 0 (value_rows params 3 1 insert_seat_terms)).news ≡ seat_cells s ∷ []
   news = rw (cast_int (pos s.seat), cast_null, cast_int (pos s.ticket)) refl
 
-  pub insert_seat_puts : (r : Result Unit StoreFault) → Ran insert_seat_text params old new r → OnOk r (PutsRow 1 (seat_cells s) old.now new.now)
+  pub insert_seat_puts : (r : Result Unit StoreFault) → Ran insert_seat_text params old new r → OnOk r (PutsRow tables.seat.tree (seat_cells s) old.now new.now)
   insert_seat_puts = insert_puts v 1 seat refl insert_seat_text insert_seat_terms 3 params (insert_seat_means v) old new has (seat_cells s) news
 
   pub insert_seat_faults : (xs : List SeatRow) → Holds seat seat_cells old xs → list_any (λ (x : SeatRow). nat_eq s.seat x.seat) xs ≡ false → list_any (λ (x : SeatRow). nat_eq s.ticket x.ticket) xs ≡ false → IsUnlimited old → IsLive old
@@ -110,35 +101,25 @@ abbrev with_its_number : List Term
 with_its_number = op2 (Compare Eq Binary) (col 1 0) (col 0 0) ∷ []
 
 abbrev pub clear_seat_command : Command
-clear_seat_command = Delete 1 (removing seat with_its_number (col 1 0 ∷ []))
+clear_seat_command = Delete 1 (choosing seat with_its_number (col 1 0 ∷ []))
 
 pub clear_seat_means : (v : Version) → Means v clear_seat_text 1 clear_seat_command
 unfolding understood everything
 clear_seat_means Links = record { is = refl; plain = (refl, refl); whole = (le_refl _, refl, refl); unlisted = refl }
 clear_seat_means Spans = record { is = refl; plain = (refl, refl); whole = (le_refl _, refl, refl); unlisted = refl }
 
-seat_unreferred : (v : Version) → is_referred_to (schema v) 1 ≡ false
-unfolding joined same_name
-seat_unreferred Links = refl
-seat_unreferred Spans = refl
-
-seat_fits : (v : Version) → references_fit (schema v) seat false true ≡ true
-unfolding joined same_name
-seat_fits Links = refl
-seat_fits Spans = refl
-
 module _ (old new : State) (n : ℕ) (v : Version) (has : old.now.schema ≡ schema v) (r : Result Unit StoreFault) (ran : Ran clear_seat_text (Int (pos n) ∷ []) old new r) where
-  pub clear_seat_leaves : (xs : List SeatRow) → Holds seat seat_cells old xs → AreByNumber (λ (s : SeatRow). s.seat) xs → OnOk r (HasRows 1 (map seat_cells (filter (λ (s : SeatRow). not (nat_eq n s.seat)) xs)) old.now new.now)
+  pub clear_seat_leaves : (xs : List SeatRow) → Holds seat seat_cells old xs → AreByNumber (λ (s : SeatRow). s.seat) xs → OnOk r (HasRows tables.seat.tree (map seat_cells (filter (λ (s : SeatRow). not (nat_eq n s.seat)) xs)) old.now new.now)
   clear_seat_leaves xs stored up =
-      delete_leaves v 1 seat refl (seat_unreferred v) clear_seat_text with_its_number (col 1 0 ∷ []) (Int (pos n) ∷ []) (clear_seat_means v) old new has seat_cells (λ s. pos s.seat) (λ _. refl) xs stored up
+      delete_leaves v 1 seat refl (seat_alone v) clear_seat_text with_its_number (col 1 0 ∷ []) (Int (pos n) ∷ []) (clear_seat_means v) old new has seat_cells (λ s. pos s.seat) (λ _. refl) xs stored up
       (λ (s : SeatRow). nat_eq n s.seat) (λ s. only (same_number s.seat n)) (λ s. Int (pos s.seat) ∷ []) (λ _. refl) (λ _. refl) r ran
 
-  pub clear_seat_only : OnOk r (OnlyTouches (1 ∷ []) old.now new.now)
-  clear_seat_only = delete_only v 1 seat refl clear_seat_text _ (Int (pos n) ∷ []) old new has (seat_unreferred v) (clear_seat_means v) r ran
+  pub clear_seat_only : OnOk r (OnlyTouches (tables.seat.tree ∷ []) old.now new.now)
+  clear_seat_only = delete_only v 1 seat refl clear_seat_text _ (Int (pos n) ∷ []) old new has (seat_alone v) (clear_seat_means v) r ran
 
   pub clear_seat_faults : IsUnlimited old → IsLive old → IfErr r (HasCause old new)
   clear_seat_faults free live =
-      delete_faults v 1 seat refl (seat_unreferred v) clear_seat_text with_its_number (col 1 0 ∷ []) (Int (pos n) ∷ []) (clear_seat_means v) old new has (seat_fits v) refl free live r ran
+      delete_faults v 1 seat refl (seat_alone v) clear_seat_text with_its_number (col 1 0 ∷ []) (Int (pos n) ∷ []) (clear_seat_means v) old new has (seat_fits v) refl free live r ran
 
 -- ---- the seats that are taken
 

@@ -9,10 +9,10 @@ use Rattle.office_tables.specs.Calls.{Tells}
 use Rattle.office_tables.specs.Faults.{IsUnlimited, HasCause}
 use Rattle.office_tables.specs.Step.{IsCut, Looks}
 use Rattle.office_tables.specs.declared.fault.StoreFault.{StoreFault}
-use Rattle.office_tables.proofs.Calls.{cut_then, cut_after}
+use Rattle.office_tables.proofs.Calls.{cut_after}
 use Rattle.office_tables.specs.declared.fault.StoreFault.TheVariants.{Memory}
-use Rattle.office_tables.proofs.Causes.{still_unlimited}
-use Rattle.office_tables.proofs.LaterCauses.{next_cause}
+use Rattle.office_tables.proofs.StepEnds.{tells_cut}
+use Rattle.office_tables.proofs.CallEnds.{tells_not}
 
 module _ {Model : Type 0} (shows : Database → ⊤ → Model → Type 0) where
   -- the same is still shown, and was shown before
@@ -36,13 +36,8 @@ module _ {Model : Type 0} (shows : Database → ⊤ → Model → Type 0) where
     pub ends_not : Looks a b → (e : StoreFault) → IsCut b c → ((m : Model) → shows b.now tt m → may m → kept m → HasCleanDisk c → IsUnlimited b → HasCause b c e)
         → (r : Result Y StoreFault) → r ≡ Err e → Tells g shows kept before after r may answer
     ends_not looked e cut why r is =
-        subst (λ (r : Result Y StoreFault). Tells g shows kept before after r may answer) (sym is)
-        (record {
-          answers = λ clean beside m shown. tt;
-          looks = tt;
-          cut = cut_then a b c looked.goes.on cut;
-          faults = λ beside m shown allowed legible clean free. next_cause a b c looked.goes.on cut clean e (λ cleaner. why m (shown_on a b looked cleaner m shown) allowed legible clean (still_unlimited a b looked.goes.on free));
-        })
+        tells_cut g shows kept may before mid after r answer e is looked cut
+        (λ beside m shown allowed legible cleaner clean free. why m (shown_on a b looked cleaner m shown) allowed legible clean free)
 
     -- it ends with what was read
     pub ends_well : Looks a c → (y : Y) → (HasCleanDisk c → (m : Model) → shows a.now tt m → answer tt m y) → Tells g shows kept before after (Ok y) may answer
@@ -50,14 +45,7 @@ module _ {Model : Type 0} (shows : Database → ⊤ → Model → Type 0) where
 
     -- there was no memory for what was read
     pub ends_full : Looks a c → (r : Result Y StoreFault) → r ≡ Err Memory → Tells g shows kept before after r may answer
-    ends_full looked r is =
-        subst (λ (r : Result Y StoreFault). Tells g shows kept before after r may answer) (sym is)
-        (record {
-          answers = λ clean beside m shown. tt;
-          looks = tt;
-          cut = cut_after a c looked.goes.on;
-          faults = λ beside m shown allowed legible clean free. tt;
-        })
+    ends_full looked r is = tells_not g shows kept may before after r answer Memory is (cut_after a c looked.goes.on) (λ beside m shown allowed legible clean free. tt)
 
 -- what always succeeds has no fault to excuse
 pub never_fails : {X : Type 0} (r : Result X StoreFault) (P : StoreFault → Type 0) → IsOk r → IfErr r P

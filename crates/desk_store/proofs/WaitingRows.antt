@@ -4,7 +4,7 @@ use Rattle.std.proofs.Math.Nat.{le_refl}
 use Rattle.std.specs.Prelude.{⊤, nat_lt}
 use Rattle.std.proofs.lemmas.Bool.{lt-ltb}
 use Rattle.std.proofs.lemmas.List.Sums.{length-filter}
-use Rattle.std.specs.List.{AllByRecursion, count_by, list_any}
+use Rattle.std.specs.List.{count_by, list_any}
 use Rattle.sqlite.specs.declared.types.Value.TheVariants.{Int}
 use Rattle.sqlite.specs.Order.{Row}
 use Rattle.sqlite.specs.Term.{Term, lit, col, op2}
@@ -16,6 +16,7 @@ use Rattle.sqlite.specs.State.{State}
 use Rattle.sqlite_sql.specs.declared.ops.BinaryOp.TheVariants.{Compare}
 use Rattle.sqlite_sql.specs.declared.ops.CompareOp.TheVariants.{Eq}
 use Rattle.sqlite_tied.specs.Compute.{everything}
+use Rattle.sqlite_trees.proofs.ListLemmas.{all_of}
 use Rattle.tree_core.specs.Versions.{Version, Links, Spans}
 use Rattle.isad_core.specs.Limits.{most_orders}
 use Rattle.desk_core.specs.DeskRows.{OrderRow}
@@ -26,7 +27,8 @@ use Rattle.office_tables.specs.Order.{IsOrdered}
 use Rattle.office_tables.specs.Schema.{schema, orders}
 use Rattle.office_tables.specs.Step.{Holds}
 use Rattle.office_tables.specs.declared.fault.StoreFault.{StoreFault}
-use Rattle.office_tables.proofs.statements.SelectOf.{asking, select_finds, select_faults}
+use Rattle.office_tables.proofs.Queries.{asking}
+use Rattle.office_tables.proofs.statements.SelectOf.{select_finds, select_faults}
 use Rattle.office_tables.proofs.Tests.{both, same_number, by_one_int}
 use Rattle.desk_store.specs.Holdings.{waits_for}
 use Rattle.desk_store.specs.Rows.{order_cells}
@@ -37,10 +39,6 @@ use Rattle.office_tables.proofs.statements.CountOf.{counting, count_finds, count
 -- it waits, and for this container
 abbrev for_the_container : List Term
 for_the_container = op2 (Compare Eq Binary) (col 1 5) (lit (Int (pos 1))) ∷ op2 (Compare Eq Binary) (col 1 3) (col 0 0) ∷ []
-
-pub every : {A : Type 0} (xs : List A) → AllByRecursion (λ _. ⊤) xs
-every [] = tt
-every (x ∷ xs) = (tt, every xs)
 
 -- ---- those that wait for a container
 
@@ -78,7 +76,7 @@ module _ (old new : State) (c : ℕ) (v : Version) (has : old.now.schema ≡ sch
   waiting_faults free =
       select_faults v orders waiting_text for_the_container waiting_columns in_order waiting_names (Int (pos c) ∷ []) (waiting_means v) old new has order_cells xs stored
       (waits_for c) (λ o. both (same_number o.state 1) (same_number o.container c)) (λ o. waiting_cells (waiting_of o)) (λ (o : OrderRow). Int (pos o.id) ∷ []) (λ _. refl) by_order (λ _. refl) (λ a b. by_one_int (pos a.id) (pos b.id))
-      waiting_cells items waiting_of (λ _. refl) (λ _. ⊤) refl free (every xs) r
+      waiting_cells items waiting_of (λ _. refl) (λ _. ⊤) refl free (all_of (λ _. ⊤) (λ _. tt) xs) r
 
 -- ---- how many wait for a container
 

@@ -3,13 +3,13 @@ use Rattle.std.specs.Prelude.{◌≡◌, ℤ, [], ◌∷◌, ⊤}
 use Rattle.sqlite.specs.Effect.{Database}
 use Rattle.desk_core.specs.DeskRows.{Desk}
 use Rattle.office_tables.specs.Schema as tables
-use Rattle.office_tables.specs.Shared.{OfficeCells, office_cells}
+use Rattle.office_tables.specs.Shared.{OfficeRow, office_cells}
 use Rattle.desk_store.specs.Seats.{all_free}
 use Rattle.desk_store.specs.Shows.{ShowsDesk, IsLegible}
 
 -- the desk, and what the office's row tells beside it
 pub record House : Type 0 where
-  pub office : OfficeCells
+  pub office : OfficeRow
   pub desk : Desk
 
 -- the tables show the desk, and the office's row is the only one of its table

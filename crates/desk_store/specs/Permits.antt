@@ -8,6 +8,7 @@ use Rattle.sqlite.specs.Tree.{Trees, rowid}
 use Rattle.sqlite_rules.specs.Lists.{Has}
 use Rattle.desk_core.specs.DeskRows.{Desk, PermitRow}
 use Rattle.office_tables.specs.Schema as tables
+use Rattle.desk_store.specs.Shows.{IsNumberOf}
 use Rattle.desk_store.specs.declared.granting.Permit.{Permit}
 
 -- the units for which a ticket has a permit, each with its last day
@@ -35,3 +36,7 @@ revoked t u d = record d { permits = without_permit t u d.permits }
 -- the unit has its row in the catalogue
 abbrev pub HasUnitRow : ℕ → Trees → Type 0
 HasUnitRow u db = (row : Row) × Has (db tables.unit.tree) row × (rowid row ≡ Int (pos u))
+
+-- a ticket that was given may have a permit for a unit that is catalogued
+abbrev pub MayHave : ℕ → ℕ → Trees → Desk → Type 0
+MayHave t u db d = IsNumberOf d.readers t × HasUnitRow u db

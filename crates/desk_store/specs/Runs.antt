@@ -1,9 +1,9 @@
 -- What runs bring to the desk.
-use Rattle.std.specs.Prelude.{◌≡◌, ◌<◌, ◌^◌, ℕ, suc, ℤ, cond, nat_eq, nat_lt, List, [], ◌∷◌, ◌++◌, length, map, filter, find, Option, Some, None}
+use Rattle.std.specs.Prelude.{◌≡◌, ℕ, suc, ℤ, cond, nat_eq, nat_lt, List, [], ◌∷◌, ◌++◌, length, map, filter, find, Option, Some, None}
 use Rattle.std.specs.List.{IsDistinct}
 use Rattle.isad_core.specs.declared.values.BoxKey.{BoxKey}
 use Rattle.desk_core.specs.declared.run.Candidate.{Candidate}
-use Rattle.isad_core.specs.Limits.{most_runs}
+use Rattle.isad_core.specs.Limits.{IsNumber, most_runs}
 use Rattle.desk_core.specs.DeskRows.{Desk, RunRow, RunLineRow}
 use Rattle.desk_store.specs.declared.holdings.FirstOrder.{FirstOrder}
 
@@ -22,7 +22,7 @@ with_run (Some n) day taken d =
 
 -- the numbers of a line are such as the tables keep
 abbrev pub IsNumbered : FirstOrder → Type 0
-IsNumbered taken = (taken.container < 2 ^ 63) × (taken.order < 2 ^ 63) × (taken.ticket < 2 ^ 63)
+IsNumbered taken = IsNumber taken.container × IsNumber taken.order × IsNumber taken.ticket
 
 abbrev pub run_with : ℕ → Desk → Option RunRow
 run_with n d = find (λ (r : RunRow). nat_eq n r.id) d.runs
@@ -31,9 +31,9 @@ run_with n d = find (λ (r : RunRow). nat_eq n r.id) d.runs
 abbrev pub lines_of : ℕ → Desk → List RunLineRow
 lines_of n d = filter (λ l. nat_eq n l.run) d.run_lines
 
--- a run takes a container once, and no line has the number of the next run yet
-abbrev pub MayRun : List FirstOrder → Desk → Type 0
-MayRun taken d = (lines_of (suc (length d.runs)) d ≡ []) × IsDistinct nat_eq (map (λ (t : FirstOrder). t.container) taken)
+-- no container is taken twice
+abbrev pub TakesEachOnce : List FirstOrder → Type 0
+TakesEachOnce taken = IsDistinct nat_eq (map (λ (t : FirstOrder). t.container) taken)
 
 -- a line with what is written on its container
 pub record IsCandidate (boxes : List (ℕ × BoxKey)) (l : RunLineRow) (c : Candidate) : Type 0 where

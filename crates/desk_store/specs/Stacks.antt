@@ -7,7 +7,7 @@ use Rattle.isad_core.specs.Limits.{most_containers}
 use Rattle.isad_core.specs.declared.values.BoxKey.{BoxKey}
 use Rattle.desk_core.specs.DeskRows.{Desk, RunRow, RunLineRow}
 use Rattle.office_tables.specs.Schema as tables
-use Rattle.office_tables.specs.Shared.{box_cells}
+use Rattle.office_tables.specs.Shared.{container_row}
 use Rattle.desk_store.specs.Orders.{IsQueue}
 use Rattle.desk_store.specs.Runs.{lines_of, IsCandidate}
 use Rattle.desk_store.specs.Shows.{ShowsDesk, IsLegible}
@@ -24,7 +24,7 @@ pub record Stacks : Type 0 where
 
 -- containers are numbered from 1, up to the most that there may be
 pub record ShowsStacks (db : Database) (beside : ⊤) (stacks : Stacks) : Type 0 where
-  pub boxes : db.trees tables.container.tree ≡ map box_cells stacks.boxes
+  pub boxes : db.trees tables.container.tree ≡ map container_row stacks.boxes
   pub numbers : AreCounted (λ (b : ℕ × BoxKey). b.0) stacks.boxes
   pub few : length stacks.boxes ≤ most_containers
   pub desk : ShowsDesk db.trees stacks.desk

@@ -1,16 +1,17 @@
 //! What is written on containers. Their table is the catalogue's.
 
-ghost use Rattle.std.specs.Prelude.{◌≡◌, ◌<◌, ◌^◌, ℕ, nat_eq, List, map, filter, IfOk, IfSome, ⊤, option_map};
+ghost use Rattle.std.specs.Prelude.{◌≡◌, ℕ, nat_eq, List, map, filter, IfOk, IfSome, ⊤, option_map};
 ghost use Rattle.std.specs.List.{AllByRecursion};
 ghost use Rattle.sqlite.specs.Held.{state};
 ghost use Rattle.sqlite.specs.State.{HasCleanDisk};
 ghost use Rattle.isad_core.specs.Legible.{IsLegibleBox};
 ghost use Rattle.isad_core.specs.declared.values.BoxKey.{BoxKey};
+ghost use Rattle.isad_core.specs.Limits.{IsNumber};
 ghost use Rattle.office_tables.specs.Asking.{Reads};
 ghost use Rattle.office_tables.specs.Calls.{Tells};
 ghost use Rattle.office_tables.specs.Faults.{Excused};
 ghost use Rattle.office_tables.specs.Schema as tables;
-ghost use Rattle.office_tables.specs.Shared.{box_cells};
+ghost use Rattle.office_tables.specs.Shared.{container_row};
 ghost use Rattle.office_tables.specs.Step.{InOffice, Holds};
 ghost use Rattle.office_tables.specs.Numbered.{AreCounted};
 ghost use Rattle.desk_store.specs.Stacks.{ShowsStacks, IsLegibleStacks, box_with};
@@ -31,13 +32,13 @@ fn boxes_with<S: Alter>(
     container: u64,
 ) -> Result<Vec<BoxKey>, StoreFault>
     requires inside { InOffice (state S.Store conn.old) }
-    requires small { container < 2 ^ 63 }
+    requires small { IsNumber container }
     ensures reads { Reads (state S.Store conn.old) (state S.Store conn.new) result }
     ensures rows { HasCleanDisk (state S.Store conn.new) → (bs : List (ℕ × BoxKey))
-        → Holds tables.container box_cells (state S.Store conn.old) bs → AreCounted (λ b. b.0) bs
+        → Holds tables.container container_row (state S.Store conn.old) bs → AreCounted (λ b. b.0) bs
         → IfOk result (λ found. found.items ≡ map (λ (b : ℕ × BoxKey). b.1)
         (filter (λ (b : ℕ × BoxKey). nat_eq container b.0) bs)) }
-    ensures faults { (bs : List (ℕ × BoxKey)) → Holds tables.container box_cells (state S.Store conn.old) bs
+    ensures faults { (bs : List (ℕ × BoxKey)) → Holds tables.container container_row (state S.Store conn.old) bs
         → AllByRecursion (λ b. IsLegibleBox b.1) bs
         → Excused (state S.Store conn.old) (state S.Store conn.new) result }
 {
@@ -58,7 +59,7 @@ pub(crate) fn box_of<S: Alter>(
     requires inside { InOffice (state S.Store conn.old) }
     ensures tells { Tells S.Store ShowsStacks IsLegibleStacks conn.old conn.new result (λ _. ⊤)
         (λ _ stacks found. found ≡ option_map (λ (b : ℕ × BoxKey). b.1) (box_with container stacks)) }
-    ensures small { IfOk result (λ found. IfSome found (λ _. container < 2 ^ 63)) }
+    ensures small { IfOk result (λ found. IfSome found (λ _. IsNumber container)) }
 {
     if container > MOST_CONTAINERS {
         return Ok(None);

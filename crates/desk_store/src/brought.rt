@@ -1,10 +1,11 @@
 //! What runs brought.
 
-ghost use Rattle.std.specs.Prelude.{◌≡◌, ◌<◌, ◌^◌, nat_eq, true, List as Rows, map, filter, IfOk};
+ghost use Rattle.std.specs.Prelude.{◌≡◌, nat_eq, true, List as Rows, map, filter, IfOk};
 ghost use Rattle.std.specs.List.{AllByRecursion, AllZip};
 ghost use Rattle.sqlite.specs.Held.{state};
 ghost use Rattle.sqlite.specs.State.{HasCleanDisk};
 ghost use Rattle.isad_core.specs.Days.{is_day_number};
+ghost use Rattle.isad_core.specs.Limits.{IsNumber};
 ghost use Rattle.desk_core.specs.DeskRows.{RunRow, RunLineRow};
 ghost use Rattle.office_tables.specs.Asking.{Reads};
 ghost use Rattle.office_tables.specs.Calls.{Tells};
@@ -57,7 +58,7 @@ fn days_with<S: Alter>(
     run: u64,
 ) -> Result<Vec<RunDay>, StoreFault>
     requires inside { InOffice (state S.Store conn.old) }
-    requires small { run < 2 ^ 63 }
+    requires small { IsNumber run }
     ensures reads { Reads (state S.Store conn.old) (state S.Store conn.new) result }
     ensures rows { HasCleanDisk (state S.Store conn.new) → (xs : Rows RunRow)
         → Holds tables.run run_cells (state S.Store conn.old) xs → AreCounted (λ r. r.id) xs

@@ -6,7 +6,7 @@ ghost use Rattle.std.specs.List.{count_by};
 ghost use Rattle.std.specs.Ordering.{int_eq};
 ghost use Rattle.sqlite.specs.Held.{state};
 ghost use Rattle.sqlite.specs.State.{HasCleanDisk};
-ghost use Rattle.isad_core.specs.Limits.{most_orders};
+ghost use Rattle.isad_core.specs.Limits.{IsNumber, most_orders};
 ghost use Rattle.desk_core.specs.DeskRows.{OrderRow};
 ghost use Rattle.office_tables.specs.Asking.{Reads};
 ghost use Rattle.office_tables.specs.Calls.{Tells};
@@ -84,7 +84,7 @@ pub(crate) fn live_lines<S: Alter>(
     ticket: u64,
 ) -> Result<Vec<OrderLine>, StoreFault>
     requires inside { InOffice (state S.Store conn.old) }
-    requires small { ticket < 2 ^ 63 }
+    requires small { IsNumber ticket }
     ensures reads { Reads (state S.Store conn.old) (state S.Store conn.new) result }
     ensures rows { HasCleanDisk (state S.Store conn.new) → (xs : Rows OrderRow)
         → Holds tables.orders order_cells (state S.Store conn.old) xs → AreCounted (λ o. o.id) xs
@@ -124,7 +124,7 @@ pub(crate) fn placed_on<S: Alter>(
     on: Day,
 ) -> Result<u32, StoreFault>
     requires inside { InOffice (state S.Store conn.old) }
-    requires small { ticket < 2 ^ 63 }
+    requires small { IsNumber ticket }
     ensures reads { Reads (state S.Store conn.old) (state S.Store conn.new) result }
     ensures number { HasCleanDisk (state S.Store conn.new) → (xs : Rows OrderRow)
         → Holds tables.orders order_cells (state S.Store conn.old) xs → length xs ≤ most_orders
@@ -186,7 +186,7 @@ fn orders_of<S: Alter>(
     today: Day,
 ) -> Result<TicketOrders, StoreFault>
     requires inside { InOffice (state S.Store conn.old) }
-    requires small { ticket < 2 ^ 63 }
+    requires small { IsNumber ticket }
     ensures tells { Tells S.Store ShowsRoom IsLegible conn.old conn.new result (λ _. ⊤) (λ _ d told. told
         ≡ record { live = live_orders ticket d; placed = placed_on ticket today d; orders = length d.orders }) }
 {
@@ -211,7 +211,7 @@ pub fn reader<S: Alter>(
     requires inside { InOffice (state S.Store conn.old) }
     ensures tells { Tells S.Store ShowsRoom IsLegible conn.old conn.new result (λ _. ⊤)
         (λ _ d card. card ≡ card_of ticket today d) }
-    ensures small { IfOk result (λ card. IfSome card (λ _. ticket < 2 ^ 63)) }
+    ensures small { IfOk result (λ card. IfSome card (λ _. IsNumber ticket)) }
 {
     if ticket > u64::from(MOST_TICKETS) {
         return Ok(None);

@@ -1,10 +1,11 @@
 //! Permits for closed units.
 
-ghost use Rattle.std.specs.Prelude.{◌≡◌, ◌<◌, ◌^◌, ℕ, false, List, [], ◌∷◌, OnOk, ⊤};
+ghost use Rattle.std.specs.Prelude.{◌≡◌, ℕ, false, List, [], ◌∷◌, OnOk, ⊤};
 ghost use Rattle.std.specs.List.{list_any};
 ghost use Rattle.sqlite.specs.Edit.{next_rowid};
 ghost use Rattle.sqlite.specs.Held.{state};
 ghost use Rattle.sqlite.specs.State.{HasCleanDisk};
+ghost use Rattle.isad_core.specs.Limits.{IsNumber};
 ghost use Rattle.desk_core.specs.DeskRows.{PermitRow};
 ghost use Rattle.office_tables.specs.Calls.{Makes, Tells};
 ghost use Rattle.office_tables.specs.Changing.{Leaves};
@@ -13,11 +14,12 @@ ghost use Rattle.office_tables.specs.Order.{IsOrdered};
 ghost use Rattle.office_tables.specs.Schema as tables;
 ghost use Rattle.office_tables.specs.Step.{InOffice, OnlyTouches, PutsRow};
 ghost use Rattle.desk_store.specs.Permits.{permits_of, by_unit, is_permit, without_permit, with_permit, revoked};
-ghost use Rattle.desk_store.specs.Permits.{HasUnitRow};
+ghost use Rattle.desk_store.specs.Permits.{HasUnitRow, MayHave};
 ghost use Rattle.office_tables.specs.Permits.{permit_cells};
 ghost use Rattle.desk_store.specs.Shows.{ShowsRoom, IsLegible};
 ghost use Rattle.office_tables.specs.Numbered.{HasNumbered};
 
+use crate::readers::MOST_TICKETS;
 use isad_core::Day;
 use office_tables::answer::FromRow;
 use office_tables::value::{day, number};
@@ -54,13 +56,13 @@ impl FromRow for Permit {
 }
 
 /// The permits of a ticket, by their units. They are found by the ticket, with which the primary key begins.
-pub fn permits<S: Alter>(
+fn permits_with<S: Alter>(
     alloc: Global,
     conn: &mut Connection<S>,
     ticket: u64,
 ) -> Result<Vec<Permit>, StoreFault>
     requires inside { InOffice (state S.Store conn.old) }
-    requires small { ticket < 2 ^ 63 }
+    requires small { IsNumber ticket }
     ensures tells { Tells S.Store ShowsRoom IsLegible conn.old conn.new result (λ _. ⊤)
         (λ _ d all. IsOrdered by_unit (permits_of ticket d) all.items) }
 {
@@ -72,6 +74,22 @@ pub fn permits<S: Alter>(
     )
 }
 
+/// The permits of a ticket, by their units: none where the ticket was not given.
+pub fn permits<S: Alter>(
+    alloc: Global,
+    conn: &mut Connection<S>,
+    ticket: u64,
+) -> Result<Vec<Permit>, StoreFault>
+    requires inside { InOffice (state S.Store conn.old) }
+    ensures tells { Tells S.Store ShowsRoom IsLegible conn.old conn.new result (λ _. ⊤)
+        (λ _ d all. IsOrdered by_unit (permits_of ticket d) all.items) }
+{
+    if ticket > u64::from(MOST_TICKETS) {
+        return Ok(Vec::new(alloc));
+    }
+    permits_with(alloc, conn, ticket)
+}
+
 /// Adds a permit for a unit for which the ticket has none.
 fn insert_permit<S: Alter>(
     conn: &mut Connection<S>,
@@ -80,8 +98,8 @@ fn insert_permit<S: Alter>(
     until: Day,
 ) -> Result<(), StoreFault>
     requires inside { InOffice (state S.Store conn.old) }
-    requires small { ticket < 2 ^ 63 }
-    requires known { unit < 2 ^ 63 }
+    requires small { IsNumber ticket }
+    requires known { IsNumber unit }
     ensures leaves { Leaves (state S.Store conn.old) (state S.Store conn.new) result }
     ensures puts { HasCleanDisk (state S.Store conn.new)
         → OnOk result (PutsRow tables.permit.tree
@@ -109,8 +127,8 @@ fn clear_permit<S: Alter>(
     unit: u64,
 ) -> Result<(), StoreFault>
     requires inside { InOffice (state S.Store conn.old) }
-    requires small { ticket < 2 ^ 63 }
-    requires known { unit < 2 ^ 63 }
+    requires small { IsNumber ticket }
+    requires known { IsNumber unit }
     ensures leaves { Leaves (state S.Store conn.old) (state S.Store conn.new) result }
     ensures rows { HasCleanDisk (state S.Store conn.new) → (ps : List PermitRow)
         → HasNumbered permit_cells ((state S.Store conn.old).now.trees tables.permit.tree) ps
@@ -136,10 +154,10 @@ pub fn grant<S: Alter>(
     until: Day,
 ) -> Result<(), StoreFault>
     requires inside { InOffice (state S.Store conn.old) }
-    requires small { ticket < 2 ^ 63 }
-    requires known { unit < 2 ^ 63 }
+    requires small { IsNumber ticket }
+    requires known { IsNumber unit }
     ensures makes { Makes S.Store ShowsRoom IsLegible conn.old conn.new result
-        (λ _. HasUnitRow unit (state S.Store conn.old).now.trees) (with_permit ticket unit until)
+        (MayHave ticket unit (state S.Store conn.old).now.trees) (with_permit ticket unit until)
         (tables.permit.tree ∷ []) }
 {
     clear_permit(conn, ticket, unit)?;
@@ -149,8 +167,8 @@ pub fn grant<S: Alter>(
 /// Takes a ticket's permit for a unit back.
 pub fn revoke<S: Alter>(conn: &mut Connection<S>, ticket: u64, unit: u64) -> Result<(), StoreFault>
     requires inside { InOffice (state S.Store conn.old) }
-    requires small { ticket < 2 ^ 63 }
-    requires known { unit < 2 ^ 63 }
+    requires small { IsNumber ticket }
+    requires known { IsNumber unit }
     ensures makes { Makes S.Store ShowsRoom IsLegible conn.old conn.new result (λ _. ⊤) (revoked ticket unit)
         (tables.permit.tree ∷ []) }
 {

@@ -1,9 +1,10 @@
 //! Where containers are.
 
-ghost use Rattle.std.specs.Prelude.{◌≡◌, ◌<◌, ◌^◌, not, nat_eq, false, List, [], ◌∷◌, map, filter, OnOk, IfSome, ⊤};
+ghost use Rattle.std.specs.Prelude.{◌≡◌, not, nat_eq, false, List, [], ◌∷◌, map, filter, OnOk, IfSome, ⊤};
 ghost use Rattle.std.specs.List.{list_any};
 ghost use Rattle.sqlite.specs.Held.{state};
 ghost use Rattle.sqlite.specs.State.{HasCleanDisk};
+ghost use Rattle.isad_core.specs.Limits.{IsNumber};
 ghost use Rattle.desk_core.specs.DeskRows.{HoldingRow};
 ghost use Rattle.office_tables.specs.Calls.{Makes};
 ghost use Rattle.office_tables.specs.Changing.{Leaves};
@@ -39,7 +40,7 @@ pub struct FirstOrder {
 /// Takes a container out of the table, as if it stood on the shelf. It is found by its number.
 fn clear_holding<S: Alter>(conn: &mut Connection<S>, container: u64) -> Result<(), StoreFault>
     requires inside { InOffice (state S.Store conn.old) }
-    requires number { container < 2 ^ 63 }
+    requires number { IsNumber container }
     ensures leaves { Leaves (state S.Store conn.old) (state S.Store conn.new) result }
     ensures rows { HasCleanDisk (state S.Store conn.new) → (xs : List HoldingRow)
         → Holds tables.holding holding_cells (state S.Store conn.old) xs → AreByNumber (λ h. h.container) xs
@@ -66,9 +67,9 @@ fn insert_holding<S: Alter>(
     held_by: Option<u64>,
 ) -> Result<(), StoreFault>
     requires inside { InOffice (state S.Store conn.old) }
-    requires number { container < 2 ^ 63 }
-    requires small { place < 2 ^ 63 }
-    requires known { IfSome held_by (λ order. order < 2 ^ 63) }
+    requires number { IsNumber container }
+    requires small { IsNumber place }
+    requires known { IfSome held_by IsNumber }
     ensures leaves { Leaves (state S.Store conn.old) (state S.Store conn.new) result }
     ensures puts { HasCleanDisk (state S.Store conn.new)
         → OnOk result (PutsRow tables.holding.tree
@@ -92,8 +93,8 @@ pub fn set_place<S: Alter>(
     place: Place,
 ) -> Result<(), StoreFault>
     requires inside { InOffice (state S.Store conn.old) }
-    requires number { container < 2 ^ 63 }
-    requires known { IfSome (by_order place) (λ order. order < 2 ^ 63) }
+    requires number { IsNumber container }
+    requires known { IfSome (by_order place) IsNumber }
     ensures makes { Makes S.Store ShowsRoom IsLegible conn.old conn.new result (λ _. ⊤) (with_place container place)
         (tables.holding.tree ∷ []) }
 {

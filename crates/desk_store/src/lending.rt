@@ -1,8 +1,9 @@
 //! Containers that are with readers.
 
-ghost use Rattle.std.specs.Prelude.{◌≡◌, ◌<◌, ◌^◌, nat_eq, List, map, filter, IfOk, ⊤};
+ghost use Rattle.std.specs.Prelude.{◌≡◌, nat_eq, List, map, filter, IfOk, ⊤};
 ghost use Rattle.sqlite.specs.Held.{state};
 ghost use Rattle.sqlite.specs.State.{HasCleanDisk};
+ghost use Rattle.isad_core.specs.Limits.{IsNumber};
 ghost use Rattle.desk_core.specs.DeskRows.{HoldingRow, OrderRow};
 ghost use Rattle.office_tables.specs.Asking.{Reads};
 ghost use Rattle.office_tables.specs.Calls.{Tells};
@@ -76,7 +77,7 @@ pub(crate) fn tickets_of<S: Alter>(
     order: u64,
 ) -> Result<Vec<u64>, StoreFault>
     requires inside { InOffice (state S.Store conn.old) }
-    requires small { order < 2 ^ 63 }
+    requires small { IsNumber order }
     ensures reads { Reads (state S.Store conn.old) (state S.Store conn.new) result }
     ensures rows { HasCleanDisk (state S.Store conn.new) → (xs : List OrderRow)
         → Holds tables.orders order_cells (state S.Store conn.old) xs → AreCounted (λ o. o.id) xs

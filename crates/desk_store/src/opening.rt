@@ -8,7 +8,7 @@ ghost use Rattle.office_tables.specs.Calls.{Makes};
 ghost use Rattle.office_tables.specs.Changing.{Leaves};
 ghost use Rattle.office_tables.specs.Faults.{Excused};
 ghost use Rattle.office_tables.specs.Schema as tables;
-ghost use Rattle.office_tables.specs.Shared.{OfficeCells, office_cells};
+ghost use Rattle.office_tables.specs.Shared.{OfficeRow, office_cells};
 ghost use Rattle.office_tables.specs.Step.{InOffice, Holds, HasRows, OnlyTouches};
 ghost use Rattle.desk_store.specs.Opening.{ShowsHouse, IsLegibleHouse, opened};
 ghost use Rattle.desk_store.specs.Rows.{seat_cells};
@@ -38,14 +38,14 @@ fn free_seats<S: Alter>(conn: &mut Connection<S>) -> Result<(), StoreFault>
 fn set_day<S: Alter>(conn: &mut Connection<S>, on: Day) -> Result<(), StoreFault>
     requires inside { InOffice (state S.Store conn.old) }
     ensures leaves { Leaves (state S.Store conn.old) (state S.Store conn.new) result }
-    ensures rows { HasCleanDisk (state S.Store conn.new) → (o : OfficeCells)
+    ensures rows { HasCleanDisk (state S.Store conn.new) → (o : OfficeRow)
         → Holds tables.office office_cells (state S.Store conn.old) (o ∷ [])
         → OnOk result (HasRows tables.office.tree (office_cells (record o { day = on }) ∷ [])
         (state S.Store conn.old).now (state S.Store conn.new).now) }
     ensures only { HasCleanDisk (state S.Store conn.new)
         → OnOk result (OnlyTouches (tables.office.tree ∷ []) (state S.Store conn.old).now
         (state S.Store conn.new).now) }
-    ensures faults { (o : OfficeCells) → Holds tables.office office_cells (state S.Store conn.old) (o ∷ [])
+    ensures faults { (o : OfficeRow) → Holds tables.office office_cells (state S.Store conn.old) (o ∷ [])
         → Excused (state S.Store conn.old) (state S.Store conn.new) result }
 {
     change(conn, "UPDATE office SET day = ?1 WHERE one = 1", &[day(on)])

@@ -1,10 +1,11 @@
 //! Orders, from when they are placed to when they end.
 
-ghost use Rattle.std.specs.Prelude.{◌≡◌, ◌<◌, ◌≤◌, ◌^◌, nat_eq, List as Rows, length, map, filter, IfOk, IfSome};
+ghost use Rattle.std.specs.Prelude.{◌≡◌, ◌≤◌, nat_eq, List as Rows, length, map, filter, IfOk, IfSome};
 ghost use Rattle.std.specs.Prelude.{IsOk, ⊤};
 ghost use Rattle.std.specs.List.{AllByRecursion};
 ghost use Rattle.sqlite.specs.Held.{state};
 ghost use Rattle.sqlite.specs.State.{HasCleanDisk};
+ghost use Rattle.isad_core.specs.Limits.{IsNumber};
 ghost use Rattle.desk_core.specs.DeskRows.{OrderRow};
 ghost use Rattle.office_tables.specs.Asking.{Reads};
 ghost use Rattle.office_tables.specs.Calls.{Tells};
@@ -92,7 +93,7 @@ fn orders_with<S: Alter>(
     order: u64,
 ) -> Result<Vec<OrderEntry>, StoreFault>
     requires inside { InOffice (state S.Store conn.old) }
-    requires small { order < 2 ^ 63 }
+    requires small { IsNumber order }
     ensures reads { Reads (state S.Store conn.old) (state S.Store conn.new) result }
     ensures rows { HasCleanDisk (state S.Store conn.new) → (xs : Rows OrderRow)
         → Holds tables.orders order_cells (state S.Store conn.old) xs → AreCounted (λ o. o.id) xs
@@ -144,7 +145,7 @@ pub fn order<S: Alter>(
     requires inside { InOffice (state S.Store conn.old) }
     ensures tells { Tells S.Store ShowsRoom IsLegible conn.old conn.new result (λ _. ⊤)
         (λ _ d found. IsThere (order_with order d) found) }
-    ensures small { IfOk result (λ found. IfSome found (λ _. order < 2 ^ 63)) }
+    ensures small { IfOk result (λ found. IfSome found (λ _. IsNumber order)) }
 {
     if order > MOST_ORDERS {
         return Ok(None);

@@ -1,9 +1,10 @@
 //! Orders are placed, and go from one state to the next.
 
-ghost use Rattle.std.specs.Prelude.{◌≡◌, ◌<◌, ◌≤◌, ◌^◌, nat_eq, false, List, [], ◌∷◌, map, OnOk, ⊤};
+ghost use Rattle.std.specs.Prelude.{◌≡◌, ◌≤◌, nat_eq, false, List, [], ◌∷◌, map, OnOk, ⊤};
 ghost use Rattle.std.specs.List.{list_any};
 ghost use Rattle.sqlite.specs.Held.{state};
 ghost use Rattle.sqlite.specs.State.{HasCleanDisk};
+ghost use Rattle.isad_core.specs.Limits.{IsNumber};
 ghost use Rattle.desk_core.specs.DeskRows.{OrderRow, with_state};
 ghost use Rattle.office_tables.specs.Calls.{Makes};
 ghost use Rattle.office_tables.specs.Changing.{Leaves};
@@ -30,9 +31,9 @@ fn insert_order<S: Alter>(
     on: Day,
 ) -> Result<(), StoreFault>
     requires inside { InOffice (state S.Store conn.old) }
-    requires number { order < 2 ^ 63 }
-    requires small { ticket < 2 ^ 63 }
-    requires known { container < 2 ^ 63 }
+    requires number { IsNumber order }
+    requires small { IsNumber ticket }
+    requires known { IsNumber container }
     ensures leaves { Leaves (state S.Store conn.old) (state S.Store conn.new) result }
     ensures puts { HasCleanDisk (state S.Store conn.new)
         → OnOk result (PutsRow tables.orders.tree
@@ -58,9 +59,9 @@ pub fn append_order<S: Alter>(
     on: Day,
 ) -> Result<(), StoreFault>
     requires inside { InOffice (state S.Store conn.old) }
-    requires number { order < 2 ^ 63 }
-    requires small { ticket < 2 ^ 63 }
-    requires known { container < 2 ^ 63 }
+    requires number { IsNumber order }
+    requires small { IsNumber ticket }
+    requires known { IsNumber container }
     ensures makes { Makes S.Store ShowsRoom IsLegible conn.old conn.new result (IsNextOrder order)
         (with_order ticket container on) (tables.orders.tree ∷ []) }
 {
@@ -83,8 +84,8 @@ fn number_of(next: OrderState) -> u64
 /// Gives an order another state. It is found by its number.
 fn set_state<S: Alter>(conn: &mut Connection<S>, order: u64, next: u64) -> Result<(), StoreFault>
     requires inside { InOffice (state S.Store conn.old) }
-    requires number { order < 2 ^ 63 }
-    requires small { next < 2 ^ 63 }
+    requires number { IsNumber order }
+    requires small { IsNumber next }
     ensures leaves { Leaves (state S.Store conn.old) (state S.Store conn.new) result }
     ensures rows { HasCleanDisk (state S.Store conn.new) → (xs : List OrderRow)
         → Holds tables.orders order_cells (state S.Store conn.old) xs → AreCounted (λ o. o.id) xs
@@ -110,7 +111,7 @@ pub fn end_order<S: Alter>(
     next: OrderState,
 ) -> Result<(), StoreFault>
     requires inside { InOffice (state S.Store conn.old) }
-    requires number { order < 2 ^ 63 }
+    requires number { IsNumber order }
     ensures makes { Makes S.Store ShowsRoom IsLegible conn.old conn.new result (λ _. ⊤)
         (with_order_state order next) (tables.orders.tree ∷ []) }
 {

@@ -1,8 +1,9 @@
 //! Queues of containers.
 
-ghost use Rattle.std.specs.Prelude.{◌≡◌, ◌<◌, ◌^◌, nat_eq, List as Rows, map, filter, slice_get, IfOk, IsOk, ⊤};
+ghost use Rattle.std.specs.Prelude.{◌≡◌, nat_eq, List as Rows, map, filter, slice_get, IfOk, IsOk, ⊤};
 ghost use Rattle.sqlite.specs.Held.{state};
 ghost use Rattle.sqlite.specs.State.{HasCleanDisk};
+ghost use Rattle.isad_core.specs.Limits.{IsNumber};
 ghost use Rattle.desk_core.specs.DeskRows.{HoldingRow};
 ghost use Rattle.office_tables.specs.Asking.{Reads};
 ghost use Rattle.office_tables.specs.Calls.{Tells};
@@ -84,7 +85,7 @@ fn places_with<S: Alter>(
     container: u64,
 ) -> Result<Vec<PlaceEntry>, StoreFault>
     requires inside { InOffice (state S.Store conn.old) }
-    requires small { container < 2 ^ 63 }
+    requires small { IsNumber container }
     ensures reads { Reads (state S.Store conn.old) (state S.Store conn.new) result }
     ensures rows { HasCleanDisk (state S.Store conn.new) → (xs : Rows HoldingRow)
         → Holds tables.holding holding_cells (state S.Store conn.old) xs → AreByNumber (λ h. h.container) xs
@@ -109,7 +110,7 @@ fn place_of<S: Alter>(
     container: u64,
 ) -> Result<Place, StoreFault>
     requires inside { InOffice (state S.Store conn.old) }
-    requires small { container < 2 ^ 63 }
+    requires small { IsNumber container }
     ensures tells { Tells S.Store ShowsRoom IsLegible conn.old conn.new result (λ _. ⊤)
         (λ _ d place. IsAt (holding_of container d) place) }
 {

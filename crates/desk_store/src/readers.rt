@@ -1,11 +1,11 @@
 //! Tickets and their readers.
 
-ghost use Rattle.std.specs.Prelude.{◌≡◌, ◌<◌, ◌≤◌, ◌^◌, ℕ, nat_eq, false, if◌then◌else◌, List, [], ◌∷◌, map};
+ghost use Rattle.std.specs.Prelude.{◌≡◌, ◌<◌, ◌≤◌, ℕ, nat_eq, false, if◌then◌else◌, List, [], ◌∷◌, map};
 ghost use Rattle.std.specs.Prelude.{filter, length, OnOk, IfOk, IfSome, ⊤};
 ghost use Rattle.std.specs.List.{AllByRecursion, list_any};
 ghost use Rattle.sqlite.specs.Held.{state};
 ghost use Rattle.sqlite.specs.State.{HasCleanDisk};
-ghost use Rattle.isad_core.specs.Limits.{most_tickets};
+ghost use Rattle.isad_core.specs.Limits.{IsNumber, most_tickets};
 ghost use Rattle.desk_core.specs.DeskRows.{Desk, ReaderRow};
 ghost use Rattle.office_tables.specs.Asking.{Reads};
 ghost use Rattle.office_tables.specs.Calls.{Makes, Tells};
@@ -64,7 +64,7 @@ pub(crate) fn readers_with<S: Alter>(
     ticket: u64,
 ) -> Result<Vec<NamedReader>, StoreFault>
     requires inside { InOffice (state S.Store conn.old) }
-    requires small { ticket < 2 ^ 63 }
+    requires small { IsNumber ticket }
     ensures reads { Reads (state S.Store conn.old) (state S.Store conn.new) result }
     ensures rows { HasCleanDisk (state S.Store conn.new) → (xs : List ReaderRow)
         → Holds tables.reader reader_cells (state S.Store conn.old) xs → AreCounted (λ r. r.ticket) xs
@@ -107,7 +107,7 @@ fn insert_reader<S: Alter>(
     until: Day,
 ) -> Result<(), StoreFault>
     requires inside { InOffice (state S.Store conn.old) }
-    requires small { ticket < 2 ^ 63 }
+    requires small { IsNumber ticket }
     ensures leaves { Leaves (state S.Store conn.old) (state S.Store conn.new) result }
     ensures puts { HasCleanDisk (state S.Store conn.new)
         → OnOk result (PutsRow tables.reader.tree
@@ -131,7 +131,7 @@ fn set_last_day<S: Alter>(
     until: Day,
 ) -> Result<(), StoreFault>
     requires inside { InOffice (state S.Store conn.old) }
-    requires small { ticket < 2 ^ 63 }
+    requires small { IsNumber ticket }
     ensures leaves { Leaves (state S.Store conn.old) (state S.Store conn.new) result }
     ensures rows { HasCleanDisk (state S.Store conn.new) → (xs : List ReaderRow)
         → Holds tables.reader reader_cells (state S.Store conn.old) xs → AreCounted (λ r. r.ticket) xs
@@ -153,7 +153,7 @@ fn set_last_day<S: Alter>(
 /// Renews a ticket to another last day, earlier or later.
 pub fn renew<S: Alter>(conn: &mut Connection<S>, ticket: u64, until: Day) -> Result<(), StoreFault>
     requires inside { InOffice (state S.Store conn.old) }
-    requires small { ticket < 2 ^ 63 }
+    requires small { IsNumber ticket }
     ensures makes { Makes S.Store ShowsRoom IsLegible conn.old conn.new result (λ _. ⊤) (with_last_day ticket until)
         (tables.reader.tree ∷ []) }
 {
@@ -166,7 +166,7 @@ fn next_number<S: Alter>(conn: &mut Connection<S>) -> Result<Option<u64>, StoreF
     ensures reads { Reads (state S.Store conn.old) (state S.Store conn.new) result }
     ensures number { HasCleanDisk (state S.Store conn.new) → (d : Desk)
         → ShowsDesk (state S.Store conn.old).now.trees d → IfOk result (λ ticket. ticket ≡ next_ticket d) }
-    ensures small { IfOk result (λ ticket. IfSome ticket (λ n. n < 2 ^ 63)) }
+    ensures small { IfOk result (λ ticket. IfSome ticket IsNumber) }
     ensures faults { (d : Desk) → ShowsDesk (state S.Store conn.old).now.trees d
         → Excused (state S.Store conn.old) (state S.Store conn.new) result }
 {

@@ -5,6 +5,7 @@ ghost use Rattle.std.specs.Prelude.{IfOk, IfSome, ⊤};
 ghost use Rattle.std.specs.List.{AllByRecursion, list_any};
 ghost use Rattle.sqlite.specs.Held.{state};
 ghost use Rattle.sqlite.specs.State.{HasCleanDisk};
+ghost use Rattle.isad_core.specs.Limits.{IsNumber};
 ghost use Rattle.desk_core.specs.DeskRows.{SeatRow};
 ghost use Rattle.office_tables.specs.Asking.{Reads};
 ghost use Rattle.office_tables.specs.Calls.{Makes, Tells};
@@ -71,7 +72,7 @@ pub(crate) fn seats_with<S: Alter>(
     ticket: u64,
 ) -> Result<Vec<TakenSeat>, StoreFault>
     requires inside { InOffice (state S.Store conn.old) }
-    requires small { ticket < 2 ^ 63 }
+    requires small { IsNumber ticket }
     ensures reads { Reads (state S.Store conn.old) (state S.Store conn.new) result }
     ensures rows { HasCleanDisk (state S.Store conn.new) → (xs : List SeatRow)
         → Holds tables.seat seat_cells (state S.Store conn.old) xs → AreByNumber (λ s. s.seat) xs
@@ -92,8 +93,8 @@ pub(crate) fn seats_with<S: Alter>(
 /// Takes a seat that is free for a ticket that has none.
 fn insert_seat<S: Alter>(conn: &mut Connection<S>, seat: u64, ticket: u64) -> Result<(), StoreFault>
     requires inside { InOffice (state S.Store conn.old) }
-    requires number { seat < 2 ^ 63 }
-    requires small { ticket < 2 ^ 63 }
+    requires number { IsNumber seat }
+    requires small { IsNumber ticket }
     ensures leaves { Leaves (state S.Store conn.old) (state S.Store conn.new) result }
     ensures puts { HasCleanDisk (state S.Store conn.new)
         → OnOk result (PutsRow tables.seat.tree (seat_cells (record { seat = seat; ticket = ticket }))
@@ -112,7 +113,7 @@ fn insert_seat<S: Alter>(conn: &mut Connection<S>, seat: u64, ticket: u64) -> Re
 /// Frees a seat.
 fn clear_seat<S: Alter>(conn: &mut Connection<S>, seat: u64) -> Result<(), StoreFault>
     requires inside { InOffice (state S.Store conn.old) }
-    requires number { seat < 2 ^ 63 }
+    requires number { IsNumber seat }
     ensures leaves { Leaves (state S.Store conn.old) (state S.Store conn.new) result }
     ensures rows { HasCleanDisk (state S.Store conn.new) → (xs : List SeatRow)
         → Holds tables.seat seat_cells (state S.Store conn.old) xs → AreByNumber (λ s. s.seat) xs
@@ -133,7 +134,7 @@ pub fn set_seat<S: Alter>(
     who: Option<u64>,
 ) -> Result<(), StoreFault>
     requires inside { InOffice (state S.Store conn.old) }
-    requires small { IfSome who (λ ticket. ticket < 2 ^ 63) }
+    requires small { IfSome who IsNumber }
     ensures makes { Makes S.Store ShowsRoom IsLegible conn.old conn.new result (MayTake seat who)
         (with_seat seat who) (tables.seat.tree ∷ []) }
 {

@@ -1,6 +1,6 @@
 //! Who waits for what.
 
-ghost use Rattle.std.specs.Prelude.{◌≡◌, ◌<◌, ◌≤◌, ◌^◌, ◌&&◌, nat_eq, List as Rows, length, map, filter, IfOk};
+ghost use Rattle.std.specs.Prelude.{◌≡◌, ◌≤◌, ◌&&◌, nat_eq, List as Rows, length, map, filter, IfOk};
 ghost use Rattle.std.specs.List.{count_by, list_any};
 ghost use Rattle.sqlite.specs.Held.{state};
 ghost use Rattle.sqlite.specs.State.{HasCleanDisk};
@@ -47,7 +47,7 @@ pub(crate) fn waiting_for<S: Alter>(
     container: u64,
 ) -> Result<Vec<WaitingOrder>, StoreFault>
     requires inside { InOffice (state S.Store conn.old) }
-    requires small { container < 2 ^ 63 }
+    requires small { IsNumber container }
     ensures reads { Reads (state S.Store conn.old) (state S.Store conn.new) result }
     ensures rows { HasCleanDisk (state S.Store conn.new) → (xs : Rows OrderRow)
         → Holds tables.orders order_cells (state S.Store conn.old) xs → AreCounted (λ o. o.id) xs
@@ -67,7 +67,7 @@ pub(crate) fn waiting_for<S: Alter>(
 /// How many orders wait for a container. They are counted by the index of the orders by state and container.
 fn count_waiting<S: Alter>(conn: &mut Connection<S>, container: u64) -> Result<u32, StoreFault>
     requires inside { InOffice (state S.Store conn.old) }
-    requires small { container < 2 ^ 63 }
+    requires small { IsNumber container }
     ensures reads { Reads (state S.Store conn.old) (state S.Store conn.new) result }
     ensures number { HasCleanDisk (state S.Store conn.new) → (xs : Rows OrderRow)
         → Holds tables.orders order_cells (state S.Store conn.old) xs → length xs ≤ most_orders

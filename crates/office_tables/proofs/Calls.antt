@@ -7,7 +7,7 @@ use Rattle.sqlite.specs.Command.{Command}
 use Rattle.sqlite.specs.Command.TheVariants.{Insert, Update, Delete, CreateTable, CreateIndex}
 use Rattle.sqlite.specs.declared.error.Error.{Error}
 use Rattle.sqlite.specs.Listing.{understood}
-use Rattle.sqlite.specs.State.{State, HasCleanDisk, Survives, Shown, Shows, Executes, FailsToQuery, CommitsBy, MayCommit, CommitsShowing}
+use Rattle.sqlite.specs.State.{State, HasCleanDisk, IsUnchanged, Survives, Shown, Shows, Executes, FailsToQuery, CommitsBy, MayCommit, CommitsShowing}
 use Rattle.sqlite.proofs.Callers.{IsPlain, command_of, statement_of, never_commits}
 use Rattle.sqlite.proofs.StateLemmas.{survives_weaker, survives_then}
 use Rattle.tree_core.specs.Versions.{Version}
@@ -85,9 +85,12 @@ is_write CreateTable = true
 is_write (CreateIndex at) = true
 is_write _ = false
 
-stopped : (a b : State) → IsTrue a.in_transaction → IsStopped a b → GoesOn a b ⊎ IsBack a b
-stopped a b inside (inl same) =
-    inl (record { opened = both_open a b same.0.was_open same.0.is_open; committed = same.0.committed_is; was_inside = inside; is_inside = same.0.mode ∙ inside })
+pub unchanged_on : (a b : State) → IsTrue a.in_transaction → IsUnchanged a b → GoesOn a b
+unchanged_on a b inside same =
+    record { opened = both_open a b same.0.was_open same.0.is_open; committed = same.0.committed_is; was_inside = inside; is_inside = same.0.mode ∙ inside }
+
+pub stopped : (a b : State) → IsTrue a.in_transaction → IsStopped a b → GoesOn a b ⊎ IsBack a b
+stopped a b inside (inl same) = inl (unchanged_on a b inside same)
 stopped a b inside (inr back) = inr (record { was_open = back.was_open; now = λ h. (back.undone h).0; committed = λ h. (back.undone h).1; ended = back.autocommit })
 
 shown_on : (a b : State) → IsTrue a.in_transaction → Shows a b b.now (if a.in_transaction then a.committed else b.now) a.in_transaction → GoesOn a b
@@ -162,10 +165,7 @@ module _ (sql : List ℕ) (params : Row) (old new : State) (command : Command) (
         goes = record {
           on = record {
             crash = read_crash s;
-            within = λ clean.
-                let it = (same clean).0 in
-                let mode = (known (early old new _ s clean)).inside in
-                record { opened = both_open old new it.was_open it.is_open; committed = it.committed_is; was_inside = mode; is_inside = it.mode ∙ mode };
+            within = λ clean. unchanged_on old new (known (early old new _ s clean)).inside (same clean);
           };
           schema = λ clean. ap (λ d. d.schema) (same clean).0.now_is;
         };
@@ -191,9 +191,6 @@ write_went sql params old new command writes known done s = record {
   on = write_continues sql params old new command writes known (λ clean. (done clean).3) s;
   schema = λ clean. let it = done clean in it.2 ∙ sym it.1;
 }
-
-pub in_version : (v : Version) (sql : List ℕ) (command : Command) (old : State) → InTransaction v old → command_of (understood (schema v) sql) ≡ command → IsPlain (understood (schema v) sql) → HasCleanDisk old → Knows sql command old
-in_version v sql command old inside is plain clean = known_in (schema v) sql command old (inside clean).0 (inside clean).1 is plain
 
 pub on_ok_from : {X E : Type 0} (r : Result X E) (P : Type 0) → P → OnOk r P
 on_ok_from (Ok x) P p = p

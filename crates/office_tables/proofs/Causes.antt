@@ -1,5 +1,5 @@
 -- Why a statement fails on our tables, where the disk is clean and no limit is set.
-use Rattle.std.proofs.Common.{◌≡◌, ◌⊎◌, inl, inr, ℕ, zero, suc, ◌<◌, List, [], ◌∷◌, length, get_or, true, false, Ok, Err, Result, Option, Some, None, IsSome, Any, IfErr, sym, ap, subst, subst₂, ◌∙◌, append-nil, arith}
+use Rattle.std.proofs.Common.{◌≡◌, ◌⊎◌, inl, inr, ℕ, zero, suc, ◌<◌, List, [], ◌∷◌, length, get_or, true, false, Option, Some, None, IsSome, Any, sym, ap, subst, subst₂, ◌∙◌, append-nil, arith}
 use Rattle.sqlite.specs.Order.{Row}
 use Rattle.sqlite.specs.Schema.{Schema}
 use Rattle.sqlite.specs.Tree.{Trees}
@@ -37,20 +37,12 @@ module _ (old new : State) where
   pub failed_cause : {too_big : Type 0} (e : Error) → Fails old new too_big e → HasCause old new (fault_of e)
   failed_cause {too_big} e failed = subst (λ e. HasCause old new (fault_of e)) (sym failed.1) (by_cause too_big failed.0 failed.2)
 
-  pub memory_only : {X : Type 0} (r : Result X StoreFault) → IfErr r (λ e. e ≡ fault.Memory) → IfErr r (HasCause old new)
-  memory_only (Ok x) h = tt
-  memory_only (Err e) h = subst (HasCause old new) (sym h) tt
-
 -- a later step's fault is the whole call's
 pub cause_then : (a b c : State) → Continues a b → HasCleanDisk b → (e : StoreFault) → HasCause b c e → HasCause a c e
 cause_then a b c p clean fault.Memory h = tt
 cause_then a b c p clean fault.Disk (inl more) = inl (omega (arith, more, p.crash.counts))
 cause_then a b c p clean fault.Disk (inr shut) = inr (sym (p.within clean).opened ∙ shut)
 cause_then a b c p clean fault.Schema h = absurd h
-
-pub if_cause_then : {X : Type 0} (a b c : State) → Continues a b → HasCleanDisk b → (r : Result X StoreFault) → IfErr r (HasCause b c) → IfErr r (HasCause a c)
-if_cause_then a b c p clean (Ok x) h = tt
-if_cause_then a b c p clean (Err e) h = cause_then a b c p clean e h
 
 pub still_unlimited : (a b : State) → Continues a b → IsUnlimited a → IsUnlimited b
 still_unlimited a b p free = p.crash.limit ∙ free

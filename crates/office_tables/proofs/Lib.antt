@@ -30,6 +30,7 @@ pub mod CreationCauses
 pub mod LaterCauses
 pub mod RowWrites
 pub mod RowReads
+pub mod Gatherings
 pub mod Fresh
 pub mod numbered
 pub mod CallEnds

@@ -1,8 +1,9 @@
 -- UPDATE of a table that foreign keys refer to with no ON UPDATE.
-use Rattle.std.proofs.Common.{◌≡◌, ℕ, List, [], ◌∷◌, ◌++◌, length, Bool, true, false, ◌&&◌, ◌==◌, None, refl, sym, ap, ap₂, ◌∙◌, arith, map, drop}
+use Rattle.std.proofs.Common.{◌≡◌, ℕ, List, [], ◌∷◌, ◌++◌, length, Bool, true, false, ◌==◌, None, refl, sym, ap, ap₂, ◌∙◌, arith, map, drop}
 use Rattle.std.specs.List.{list_all, flat_map, filter_map, cons_option}
 use Rattle.std.proofs.lemmas.Bool.Decides.{nat_tests}
 use Rattle.std.proofs.lemmas.List.{length-map}
+use Rattle.std.proofs.lemmas.Bool.{and_parts}
 use Rattle.sqlite.specs.Cast.{cast_row}
 use Rattle.sqlite.specs.Edit.{edit_of, taken_by, row_at, id_in, without_all}
 use Rattle.sqlite.specs.Rowids.TheVariants.{Given}
@@ -27,10 +28,6 @@ is_none _ = false
 abbrev pub updates_freely : Schema → Bool
 updates_freely schema = list_all (λ t. list_all (λ ref. is_none ref.on_update) t.references) schema.tables
 
-both_true : (a b : Bool) → (a && b) ≡ true → (a ≡ true) × (b ≡ true)
-both_true true b h = (refl, h)
-both_true false b h = absurd (cc)
-
 none_is : (a : Action) → is_none a ≡ true → a ≡ NoAction
 none_is NoAction h = refl
 none_is _ h = absurd (cc)
@@ -49,13 +46,13 @@ no_works_on_update schema depth tree (o ∷ olds) (n ∷ news) free same = each 
     none : (child : Table) (refs : List Reference) → list_all (λ ref. is_none ref.on_update) refs ≡ true → filter_map (work_for schema Enforced depth tree (o ∷ olds) (n ∷ news) child) refs ≡ []
     none child [] h = refl
     none child (ref ∷ refs) h =
-        let k = both_true _ _ h in
+        let k = and_parts _ _ h in
         ap₂ cons_option (ap (λ deed. work_by depth tree (pairs (o ∷ olds) (n ∷ news)) child ref deed (parent_key schema.tables ref)) (no_deed n news ref k.0)) (none child refs k.1)
 
     each : (tables : List Table) → list_all (λ t. list_all (λ ref. is_none ref.on_update) t.references) tables ≡ true
         → flat_map (λ child. filter_map (work_for schema Enforced depth tree (o ∷ olds) (n ∷ news) child) child.references) tables ≡ []
     each [] h = refl
-    each (t ∷ tables) h = let k = both_true _ _ h in ap₂ ◌++◌ (none t t.references k.0) (each tables k.1)
+    each (t ∷ tables) h = let k = and_parts _ _ h in ap₂ ◌++◌ (none t t.references k.0) (each tables k.1)
 
 -- an UPDATE takes out as many rows as it puts in
 pub as_many : (db : Trees) (table : Table) (rows : List Row) → length (taken_by db (edit_of db table (ids_of rows) Given 1 rows)) ≡ length (edit_of db table (ids_of rows) Given 1 rows).news

@@ -1,9 +1,8 @@
 -- Rows that are put among others.
-use Rattle.std.proofs.Common.{◌≡◌, ◌≢◌, inl, inr, ℕ, zero, suc, ◌≤◌, ◌<◌, ℤ, pos, List, [], ◌∷◌, map, length, get_or, Bool, true, false, not, cond, ◌&&◌, ◌||◌, nat_lt, Ordering, Less, Equal, Greater, refl, sym, ap, subst, ◌∙◌, arith}
+use Rattle.std.proofs.Common.{◌≡◌, ◌≢◌, inl, inr, ℕ, zero, suc, ◌≤◌, ◌<◌, ℤ, pos, List, [], ◌∷◌, map, length, get_or, Bool, true, false, not, ◌&&◌, ◌||◌, Ordering, Less, Equal, Greater, refl, sym, ap, subst, ◌∙◌, arith}
 use Rattle.std.specs.Ordering.{int_cmp, match_ordering, is_eq}
 use Rattle.std.specs.List.{AllByRecursion}
 use Rattle.std.specs.List.Sorted.{IsPermutation, IsNonDecreasingBy}
-use Rattle.std.proofs.lemmas.Bool.Decides.{nat_tests}
 use Rattle.std.proofs.lemmas.List.Sorted.{IsPermutation-refl, IsPermutation-trans, IsPermutation-cons, IsPermutation-swap, IsNonDecreasingBy-short}
 use Rattle.sqlite.specs.declared.types.Value.TheVariants.{Int}
 use Rattle.sqlite.specs.Order.{Row, value_cmp}
@@ -16,6 +15,7 @@ use Rattle.sqlite_trees.proofs.TreeLemmas.{IsTable-put_row}
 use Rattle.office_tables.specs.Order.{Rises}
 use Rattle.office_tables.specs.Put.{put_by}
 use Rattle.office_tables.proofs.Rows.{by_key, compared, table_rises}
+use Rattle.office_tables.proofs.numbered.Counted.{less_below}
 
 module _ {A : Type 0} (row : A → Row) (key : A → ℤ) (keyed : (x : A) → rowid (row x) ≡ Int (key x)) where
   pub put_rows : (new : A) (xs : List A) → put_row (row new) (map row xs) ≡ map row (put_by key new xs)
@@ -62,13 +62,8 @@ put_more key new (x ∷ xs) fresh = at (put_more key new xs fresh.1) (int_cmp (k
     at rest Equal h = absurd (h refl)
     at rest Greater h = IsPermutation-refl (new ∷ x ∷ xs)
 
-less_is : (a b : Bool) → cond a Less (cond b Greater Equal) ≡ Less → a ≡ true
-less_is true b h = refl
-less_is false true h = absurd (cc)
-less_is false false h = absurd (cc)
-
 at_most : (a b : ℕ) → int_cmp (pos a) (pos b) ≡ Less → a ≤ b
-at_most a b h = let e : nat_lt a b ≡ true = less_is (nat_lt a b) (nat_lt b a) h in grind (arith, nat_tests, e)
+at_most a b h = omega (arith, less_below a b h)
 
 pub has_at : {A : Type 0} (xs : List A) (k : ℕ) (d : A) → k < length xs → Has xs (get_or xs k d)
 has_at [] k d low = absurd (omega (arith, low))

@@ -1,25 +1,32 @@
 -- What a query on one table answers, for typed records.
-use Rattle.std.proofs.Common.{◌≡◌, ℕ, ◌+◌, pos, negsuc, List, [], ◌∷◌, ◌++◌, filter, map, flat_map, get_or, Bool, true, false, cond, None, unwrap_or, Ordering, refl, sym, ap, subst, ◌∙◌, arith, nat_le}
+use Rattle.std.proofs.Common.{◌≡◌, ℕ, ◌+◌, pos, negsuc, List, [], ◌∷◌, ◌++◌, filter, map, flat_map, get_or, Bool, true, false, cond, None, unwrap_or, Ordering, Equal, refl, sym, ap, subst, ◌∙◌, arith, nat_le}
 use Rattle.std.specs.Ordering.{is_lt}
 use Rattle.std.specs.List.{list_all}
-use Rattle.std.specs.Cmp.{IsTotalOrder}
-use Rattle.office_tables.specs.Order.{Rises}
-use Rattle.office_tables.proofs.Sorted.{only_order}
 use Rattle.std.specs.List.Sorted.{IsSorted, IsPermutation}
 use Rattle.std.proofs.lemmas.List.{get_or-map, length-map}
 use Rattle.sqlite_value.specs.declared.keys.Key.{Key}
 use Rattle.sqlite.specs.declared.types.Value.TheVariants.{Int}
 use Rattle.sqlite.specs.Order.{Row}
+use Rattle.sqlite.specs.Table.{Table}
 use Rattle.sqlite.specs.Tree.{Trees}
 use Rattle.sqlite.specs.Term.{Term, lit, Env, eval_all, holds}
 use Rattle.sqlite.specs.Query.{Query, Join, inner, end, IsAnswer, output, output_cmp, Output, matches, key_cmp}
 use Rattle.sqlite.specs.Program.{overlay}
+use Rattle.sqlite_schema.specs.declared.program.Program.{Program}
 use Rattle.sqlite_trees.proofs.ListLemmas.{map-map, filter-map, filter_same, all_of, pull_back}
 
 -- SELECT project FROM from WHERE filter ORDER BY order
 abbrev pub plain_query : Join → List Term → List Term → List (Term × Key) → Query
 plain_query from filter project order =
     record { from = from; filter = filter; group = None; project = project; distinct = false; collations = []; order = order; limit = lit (Int (negsuc 0)); offset = lit (Int (pos 0)) }
+
+-- a program that finds the rows of one table: what a SELECT tells
+abbrev pub asking : Table → List Term → List Term → List (Term × Key) → Program
+asking table where_terms project order = record { lets = []; body = plain_query (inner table.tree end) where_terms project order }
+
+-- and what an UPDATE or a DELETE does, in whatever order
+abbrev pub choosing : Table → List Term → List Term → Program
+choosing table where_terms project = asking table where_terms project []
 
 pub overlay_none : (db : Trees) (t : ℕ) → overlay db [] t ≡ db t
 overlay_none db t = elim (nat_le 2147483648 t) as (λ b. unwrap_or (cond b None None) (db t) ≡ db t) [ true ↦ refl | false ↦ refl ]
@@ -71,8 +78,10 @@ module _ (t : ℕ) (where_terms project : List Term) (order : List (Term × Key)
         ap is_lt (sym (compares (get_or ys (k + 1) d) (get_or ys k d))) ∙ near in
         (ys, back.1, sorted, a.shown ∙ ap (λ (os : List Output). map (λ o. o.1) os) back.2 ∙ map-map (λ (o : Output). o.1) out ys)
 
-    -- where the records that are kept rise, the answer shows them as they stand
-    pub answers_in_order : IsTotalOrder cmp → (rows : List Row) → Rises cmp (filter keep xs) → IsAnswer q (overlay db []) params rows → rows ≡ map show (filter keep xs)
-    answers_in_order total rows up a =
-        let h = answers rows a in
-        h.3 ∙ ap (map show) (only_order cmp total (filter keep xs) h.0 up h.2 h.1)
+-- the records that are kept, in whatever order they are found
+pub chosen : {A : Type 0} (t : ℕ) (where_terms project : List Term) (db : Trees) (params : Row) (row source : A → Row) (xs : List A) (keep : A → Bool) → db t ≡ map row xs
+    → ((x : A) → list_all (holds (params ∷ row x ∷ [])) where_terms ≡ keep x) → ((x : A) → eval_all project (params ∷ row x ∷ []) ≡ source x)
+    → (rows : List Row) → IsAnswer (plain_query (inner t end) where_terms project []) (overlay db []) params rows → (ys : List A) × IsPermutation (filter keep xs) ys × (rows ≡ map source ys)
+chosen t where_terms project db params row source xs keep stored keeps shows rows answer =
+    let got = answers t where_terms project [] db params row xs keep source (λ _. []) (λ _ _. Equal) stored keeps shows (λ _. refl) (λ _ _. refl) rows answer in
+    (got.0, got.1, got.3)

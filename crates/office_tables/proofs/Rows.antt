@@ -39,9 +39,9 @@ filters p q (x ∷ xs) = elim (p x) as (λ b. filter q (cond b (x ∷ filter p x
   | false ↦ filters p q xs
 ]
 
-de_morgan : (a b : Bool) → (not a && not b) ≡ not (a || b)
-de_morgan true b = refl
-de_morgan false b = refl
+pub neither : (a b : Bool) → (not a && not b) ≡ not (a || b)
+neither true b = refl
+neither false b = refl
 
 pub same_test : {A : Type 0} (p q : A → Bool) → ((x : A) → p x ≡ q x) → (xs : List A) → filter p xs ≡ filter q xs
 same_test p q e xs = filter_same p q xs (all_of (λ x. p x ≡ q x) e xs)
@@ -54,7 +54,7 @@ without_all_is [] rows = sym (kept_all rows)
 without_all_is (id ∷ ids) rows =
     without_all_is ids (without_rowid id rows)
     ∙ filters (λ r. not (has_rowid id r)) (λ r. not (list_any (λ id. has_rowid id r) ids)) rows
-    ∙ same_test _ _ (λ r. de_morgan (has_rowid id r) (list_any (λ id. has_rowid id r) ids)) rows
+    ∙ same_test _ _ (λ r. neither (has_rowid id r) (list_any (λ id. has_rowid id r) ids)) rows
 
 pub IsTable-put_all : (news rows : List Row) → IsTable rows → IsTable (put_all rows news)
 IsTable-put_all [] rows up = up

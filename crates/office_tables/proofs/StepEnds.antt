@@ -11,7 +11,7 @@ use Rattle.office_tables.specs.Faults.{IsUnlimited, HasCause}
 use Rattle.office_tables.specs.Step.{Continues, Goes, IsCut, Looks}
 use Rattle.office_tables.specs.declared.fault.StoreFault.{StoreFault}
 use Rattle.office_tables.proofs.CallEnds.{makes_not, tells_not}
-use Rattle.office_tables.proofs.Calls.{cut_after, cut_then, goes_then, looks_then}
+use Rattle.office_tables.proofs.Calls.{cut_after, cut_then, goes_then}
 use Rattle.office_tables.proofs.Causes.{still_unlimited}
 use Rattle.office_tables.proofs.LaterCauses.{next_cause}
 use Rattle.office_tables.proofs.WriteEnds.{left_well, left_fault}
@@ -26,11 +26,6 @@ read_only a b (Err e) looked = record { crash = looked.goes.on.crash; looks = tt
 -- it ends with a fault
 pub read_not : {X : Type 0} (a b : State) (r : Result X StoreFault) (e : StoreFault) → r ≡ Err e → IsCut a b → Reads a b r
 read_not a b r e is cut = subst (Reads a b) (sym is) (record { crash = cut.crash; looks = tt; cut = cut })
-
--- its last step reads, after others that did
-pub read_last : {X : Type 0} (a b c : State) (r : Result X StoreFault) → Looks a b → Reads b c r → Reads a c r
-read_last a b c (Ok x) looked last = read_only a c (Ok x) (looks_then a b c looked last.looks)
-read_last a b c (Err e) looked last = read_not a c (Err e) e refl (cut_then a b c looked.goes.on last.cut)
 
 -- ---- a call that writes
 

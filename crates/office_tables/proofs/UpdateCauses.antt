@@ -47,7 +47,7 @@ use Rattle.office_tables.proofs.Failures.{IsWhole, fails_as}
 use Rattle.office_tables.proofs.Refusals.{same_error, edit_refused, never_misplaced}
 use Rattle.office_tables.proofs.Rows.{by_key, by_key_total, same_key, removed, eq_from, had, has_map, map_has, compared}
 use Rattle.office_tables.proofs.Sorted.{once, none_like, none_from, fewer}
-use Rattle.office_tables.proofs.Steps.{plain, went, same_value, is_referred_to, no_works_there}
+use Rattle.office_tables.proofs.Steps.{plain, went, same_value}
 use Rattle.office_tables.proofs.Updates.{left_is, put_are, changes_rows}
 
 -- ---- why an UPDATE is refused, whatever the schema is
@@ -66,11 +66,6 @@ pub data IsUpdateRefusal (limit : Option ℕ) (mode : Mode) (params : Row) (sche
 abbrev pub IsIdle : Schema → Mode → Table → Trees → Type 0
 IsIdle schema mode table db =
     (rows : List Row) → works schema mode.keys 0 table.tree (taken_by db (edit_of db table (ids_of rows) Given 1 rows)) (edit_of db table (ids_of rows) Given 1 rows).news ≡ []
-
--- so it is of a table that no foreign key refers to
-pub idle_alone : (schema : Schema) (mode : Mode) (table : Table) (db : Trees) → is_referred_to schema table.tree ≡ false → IsIdle schema mode table db
-idle_alone schema mode table db alone rows =
-    no_works_there schema mode.keys 0 table.tree (taken_by db (edit_of db table (ids_of rows) Given 1 rows)) (edit_of db table (ids_of rows) Given 1 rows).news alone
 
 module _ (schema : Schema) (at : ℕ) (any : Table) (is : slice_get schema.tables at ≡ Some (plain any)) where
   pub update_refused : (limit : Option ℕ) (mode : Mode) (params : Row) (text : List ℕ) (q : Program) (before : Database) (e : Error) → before.schema ≡ schema → IsIdle schema mode (plain any) before.trees

@@ -6,3 +6,5 @@ pub mod SelectOf
 pub mod OnlyOf
 pub mod LastOf
 pub mod CountOf
+pub mod WelcomeOf
+pub mod LeafOf

@@ -3,7 +3,7 @@ use Rattle.std.specs.Prelude.{◌≡◌, ◌⊎◌, ℕ, pos, List, [], ◌∷�
 use Rattle.std.specs.List.{AllByRecursion}
 use Rattle.sqlite.specs.Order.{Row}
 use Rattle.sqlite.specs.Command.{Command}
-use Rattle.sqlite.specs.State.{State, HasCleanDisk, Shown, FailsToQuery, Survives}
+use Rattle.sqlite.specs.State.{State, HasCleanDisk, Shown, FailsToQuery, IsUnchanged, Survives}
 use Rattle.sqlite.specs.declared.error.Error.{Error}
 use Rattle.sqlite.specs.declared.types.Value.TheVariants.{Int}
 use Rattle.office_tables.specs.Faults.{fault_of}
@@ -42,3 +42,14 @@ abbrev pub Misses : {A : Type 0} → (A → Row) → (A → Type 0) → List ℕ
 Misses {A} cells IsLegible sql params old new e =
     ((why : Error) × (e ≡ fault_of why) × FailsToQuery sql params old new why)
     ⊎ ((rows : List Row) × Shown sql params old new rows × ((xs : List A) → rows ≡ map cells xs → AllByRecursion IsLegible xs → e ≡ fault.Memory))
+
+-- this is what the rows that the query shows come to, one after the other
+pub record Gathers {G : Type 0} (Holds : List Row → G → Type 0) (sql : List ℕ) (params : Row) (old new : State) (all : G) : Type 0 where
+  pub rows : List Row
+  pub shown : Shown sql params old new rows
+  pub holds : Holds rows all
+
+-- there was no memory for it, and nothing is changed; or the query was refused
+abbrev pub StopsShort : List ℕ → Row → State → State → StoreFault → Type 0
+StopsShort sql params old new e =
+    ((e ≡ fault.Memory) × IsUnchanged old new) ⊎ ((why : Error) × (e ≡ fault_of why) × FailsToQuery sql params old new why)

@@ -9,6 +9,7 @@ use Rattle.sqlite.specs.Edit.{is_taken}
 use Rattle.sqlite.specs.State.{State, HasCleanDisk, Survives}
 use Rattle.tree_core.specs.Versions.{Version}
 use Rattle.office_tables.specs.Schema.{schema}
+use Rattle.office_tables.specs.Schema as tables
 
 -- while the disk is clean, the connection has our tables, and a transaction is open
 abbrev pub InTransaction : Version → State → Type 0
@@ -49,7 +50,9 @@ pub record IsCut (old new : State) : Type 0 where
 
 -- the trees of the tables, in either version
 abbrev pub table_trees : List ℕ
-table_trees = 0 ∷ 1 ∷ 3 ∷ 6 ∷ 7 ∷ 8 ∷ 10 ∷ 13 ∷ 14 ∷ 16 ∷ 18 ∷ 20 ∷ 24 ∷ []
+table_trees =
+    tables.reader.tree ∷ tables.seat.tree ∷ tables.orders.tree ∷ tables.holding.tree ∷ tables.run.tree ∷ tables.run_line.tree ∷ tables.permit.tree
+    ∷ tables.office.tree ∷ tables.unit.tree ∷ tables.element.tree ∷ tables.container.tree ∷ tables.housing.tree ∷ tables.link.tree ∷ []
 
 -- only the tables with these trees may have other rows
 abbrev pub OnlyTouches : List ℕ → Database → Database → Type 0

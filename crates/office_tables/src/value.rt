@@ -1,9 +1,10 @@
 //! Parameters of statements, as SQL has them.
 
-ghost use Rattle.std.specs.Prelude.{◌≡◌, pos, option_map, ◌<◌, ◌^◌, IfSome};
+ghost use Rattle.std.specs.Prelude.{◌≡◌, pos, option_map, IfSome};
 ghost use Rattle.sqlite.specs.Value.{owned};
 ghost use Rattle.sqlite.specs.Values.{or_null};
 ghost use Rattle.sqlite.specs.declared.types.Value.TheVariants.{Int, Text as words_cell};
+ghost use Rattle.isad_core.specs.Limits.{IsNumber};
 ghost use Rattle.office_tables.specs.Flags.{flag};
 
 use isad_core::{Day, Text};
@@ -13,14 +14,14 @@ use sqlite::types::ValueRef;
 pub const NO_NUMBER: u64 = 1 << 63;
 
 pub fn number<'a>(n: u64) -> ValueRef<'a>
-    requires { n < 2 ^ 63 }
+    requires { IsNumber n }
     ensures { owned result ≡ Int (pos n) }
 {
     ValueRef::Int(n as i64)
 }
 
 pub fn number_or_null<'a>(n: Option<u64>) -> ValueRef<'a>
-    requires { IfSome n (λ n. n < 2 ^ 63) }
+    requires { IfSome n IsNumber }
     ensures { owned result ≡ or_null Int (option_map pos n) }
 {
     match n {

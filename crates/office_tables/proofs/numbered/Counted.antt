@@ -1,8 +1,9 @@
 -- Rows that are numbered one after another.
-use Rattle.std.proofs.Common.{◌≡◌, ℕ, suc, ◌+◌, ◌<◌, pos, false, nat_eq, List, [], ◌∷◌, ◌++◌, length, map, Less, inl, inr, refl, ap, ◌∙◌, arith}
+use Rattle.std.proofs.Common.{◌≡◌, ℕ, suc, ◌+◌, ◌<◌, pos, false, nat_eq, List, [], ◌∷◌, ◌++◌, length, map, Less, inl, inr, Bool, true, cond, Greater, Equal, refl, ap, ◌∙◌, arith}
+use Rattle.std.specs.Prelude.{nat_lt}
 use Rattle.std.specs.List.{AllByRecursion, list_any}
 use Rattle.std.specs.Ordering.{int_cmp}
-use Rattle.std.proofs.lemmas.Bool.{lt-ltb, or_from}
+use Rattle.std.proofs.lemmas.Bool.{lt-ltb, ltb-true, or_from}
 use Rattle.std.proofs.lemmas.Bool.Decides.{nat_tests}
 use Rattle.sqlite_rules.specs.Lists.{Has}
 use Rattle.sqlite_trees.proofs.ListLemmas.{all_weaker}
@@ -12,6 +13,14 @@ use Rattle.office_tables.specs.Numbered.{AreCountedFrom}
 
 pub below_less : (m n : ℕ) → m < n → int_cmp (pos m) (pos n) ≡ Less
 below_less m n h = rw (lt-ltb m n h) refl
+
+pub less_below : (m n : ℕ) → int_cmp (pos m) (pos n) ≡ Less → m < n
+less_below m n h = ltb-true m n (less_is (nat_lt m n) (nat_lt n m) h)
+  where
+    less_is : (a b : Bool) → cond a Less (cond b Greater Equal) ≡ Less → a ≡ true
+    less_is true b h = refl
+    less_is false true h = absurd (cc)
+    less_is false false h = absurd (cc)
 
 module _ {A : Type 0} (number : A → ℕ) where
   -- each number is below the next that comes

@@ -1,5 +1,5 @@
 -- A row that is taken out and then put again: it stands in place of the one that was there.
-use Rattle.std.proofs.Common.{◌≡◌, ℕ, ◌<◌, pos, Bool, true, false, not, nat_eq, List, [], ◌∷◌, filter, Less, Equal, Greater, cond, inl, inr, refl, sym, ap, ◌∙◌, arith}
+use Rattle.std.proofs.Common.{◌≡◌, ℕ, ◌<◌, pos, true, false, not, nat_eq, List, [], ◌∷◌, filter, Less, Equal, Greater, inl, inr, refl, sym, ap, ◌∙◌, arith}
 use Rattle.std.specs.Prelude.{nat_lt}
 use Rattle.std.specs.List.{AllByRecursion}
 use Rattle.std.specs.Ordering.{int_cmp}
@@ -8,15 +8,7 @@ use Rattle.std.proofs.lemmas.Bool.Decides.{nat_tests}
 use Rattle.sqlite_trees.proofs.ListLemmas.{all_weaker}
 use Rattle.office_tables.specs.Order.{Rises}
 use Rattle.office_tables.specs.Put.{put_by}
-use Rattle.office_tables.proofs.numbered.Counted.{below_less}
-
-less_is : (a b : Bool) → cond a Less (cond b Greater Equal) ≡ Less → a ≡ true
-less_is true b h = refl
-less_is false true h = absurd (cc)
-less_is false false h = absurd (cc)
-
-below : (m n : ℕ) → int_cmp (pos m) (pos n) ≡ Less → m < n
-below m n h = let e : nat_lt m n ≡ true = less_is (nat_lt m n) (nat_lt n m) h in grind (arith, nat_tests, e)
+use Rattle.office_tables.proofs.numbered.Counted.{below_less, less_below}
 
 greater : (m n : ℕ) → n < m → int_cmp (pos m) (pos n) ≡ Greater
 greater m n h =
@@ -49,11 +41,11 @@ module _ {A : Type 0} (number : A → ℕ) where
     | inr not_before ↦ elim (cases_Bool (nat_lt (number new) (number x))) [
       | inl after ↦
           let e : nat_eq (number new) (number x) ≡ false = grind (arith, nat_tests, after) in
-          let rest = all_kept (number new) xs (all_weaker (λ y. int_cmp (pos (number x)) (pos (number y)) ≡ Less) (λ y. number new < number y) (λ y h. let k = below (number x) (number y) h in grind (arith, nat_tests, after, k)) xs up.0) in
+          let rest = all_kept (number new) xs (all_weaker (λ y. int_cmp (pos (number x)) (pos (number y)) ≡ Less) (λ y. number new < number y) (λ y h. let k = less_below (number x) (number y) h in grind (arith, nat_tests, after, k)) xs up.0) in
           rw e (ap (λ l. put_by (λ x. pos (number x)) new (x ∷ l)) rest)
       | inr not_after ↦
           let e : nat_eq (number new) (number x) ≡ true = grind (arith, nat_tests, not_before, not_after) in
-          let above = all_weaker (λ y. int_cmp (pos (number x)) (pos (number y)) ≡ Less) (λ y. number new < number y) (λ y h. let k = below (number x) (number y) h in grind (arith, nat_tests, not_after, k)) xs up.0 in
+          let above = all_weaker (λ y. int_cmp (pos (number x)) (pos (number y)) ≡ Less) (λ y. number new < number y) (λ y h. let k = less_below (number x) (number y) h in grind (arith, nat_tests, not_after, k)) xs up.0 in
           let here : put_by (λ x. pos (number x)) new (x ∷ xs) ≡ new ∷ xs = rw (equal (number x) (number new) not_before not_after) refl in
           rw e (ap (put_by (λ x. pos (number x)) new) (all_kept (number new) xs above) ∙ put_first new xs above ∙ sym here)
     ]

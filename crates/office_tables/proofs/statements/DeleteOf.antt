@@ -1,5 +1,5 @@
 -- What a DELETE from one table does that no foreign key refers to, and why it fails, for any of our texts and any records.
-use Rattle.std.proofs.Common.{◌≡◌, ℕ, ℤ, List, [], ◌∷◌, length, map, filter, Bool, true, false, not, Some, Ok, Equal, Result, OnOk, IfErr, ◌∙◌, slice_get, refl}
+use Rattle.std.proofs.Common.{◌≡◌, ℕ, ℤ, List, [], ◌∷◌, length, map, filter, Bool, true, false, not, Some, Ok, Result, OnOk, IfErr, ◌∙◌, slice_get}
 use Rattle.std.proofs.lemmas.Bool.{both_ways}
 use Rattle.std.specs.List.{list_all}
 use Rattle.sqlite.specs.declared.types.Value.TheVariants.{Null, Int}
@@ -25,7 +25,7 @@ use Rattle.office_tables.specs.Step.{HasRows}
 use Rattle.office_tables.specs.declared.fault.StoreFault.{StoreFault}
 use Rattle.office_tables.proofs.Causes.{none_refuse, sums_nothing}
 use Rattle.office_tables.proofs.DeleteCauses.{leaf_cause}
-use Rattle.office_tables.proofs.Queries.{plain_query, answers}
+use Rattle.office_tables.proofs.Queries.{plain_query, choosing, chosen}
 use Rattle.office_tables.proofs.RowWrites.{ran_well, ran_badly}
 use Rattle.office_tables.proofs.Rows.{by_key}
 use Rattle.office_tables.proofs.Steps.{deleted, Deleted, is_referred_to, plain}
@@ -33,13 +33,10 @@ use Rattle.office_tables.proofs.Touching.{touched}
 use Rattle.office_tables.proofs.Updates.{deletes_rows}
 
 -- DELETE of the rows that the terms find, by their numbers
-abbrev pub removing : Table → List Term → List Term → Program
-removing table where_terms project = record { lets = []; body = plain_query (inner table.tree end) where_terms project [] }
-
 module _ (v : Version) (at : ℕ) (table : Table) (there : slice_get (schema v).tables at ≡ Some (plain table)) (alone : is_referred_to (schema v) table.tree ≡ false)
-    (sql : List ℕ) (where_terms project : List Term) (params : Row) (means : Means v sql (length params) (Delete at (removing (plain table) where_terms project))) (old new : State) (has : old.now.schema ≡ schema v) where
+    (sql : List ℕ) (where_terms project : List Term) (params : Row) (means : Means v sql (length params) (Delete at (choosing (plain table) where_terms project))) (old new : State) (has : old.now.schema ≡ schema v) where
   abbrev q : Program
-  q = removing (plain table) where_terms project
+  q = choosing (plain table) where_terms project
 
   module _ {A : Type 0} (row : A → Row) (key : A → ℤ) (keyed : (x : A) → rowid (row x) ≡ Int (key x)) (xs : List A) (stored : old.now.trees table.tree ≡ map row xs) (up : Rises (by_key row key keyed) xs)
       (keep : A → Bool) (keeps : (x : A) → list_all (holds (params ∷ row x ∷ [])) where_terms ≡ keep x)
@@ -49,9 +46,9 @@ module _ (v : Version) (at : ℕ) (table : Table) (there : slice_get (schema v).
         let wrote = runs_as sql params old new (schema v) has (Delete at q) means.is means.plain count h in
         let it : Deleted (schema v) at table there (mode_of old) params q old.now new.now =
         deleted (schema v) at table there old.step_limit (mode_of old) params (statement_of sql (understood (schema v) sql)) q old.now new.now wrote.tally alone has wrote.changed in
-        let got = answers table.tree where_terms project [] old.now.trees params row xs keep source (λ _. []) (λ _ _. Equal) stored keeps shows (λ _. refl) (λ _ _. refl) it.rows (it.answer.answer Null) in
+        let got = chosen table.tree where_terms project old.now.trees params row source xs keep stored keeps shows it.rows (it.answer.answer Null) in
         record {
-          are = it.applies.rows ∙ deletes_rows (plain table) row key keyed old.now.trees xs stored up keep got.0 got.1 source named it.rows got.3;
+          are = it.applies.rows ∙ deletes_rows (plain table) row key keyed old.now.trees xs stored up keep got.0 got.1 source named it.rows got.2;
           only = touched v old.now new.now table.tree it.applies.tables;
         }
 

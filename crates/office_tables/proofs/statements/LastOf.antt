@@ -55,7 +55,8 @@ number_cells n = Int (pos n) ∷ []
 by_falling : (a b : ℕ) → key_cmp 0 (descending ∷ []) (Int (pos a) ∷ []) (Int (pos b) ∷ []) ≡ int_cmp (pos b) (pos a)
 by_falling a b = then-Equal _ ∙ value_cmp-Int (pos b) (pos a)
 
-not_below : (m n : ℕ) → is_lt (int_cmp (pos n) (pos m)) ≡ false → m ≤ n
+-- no greater number comes before
+pub not_below : (m n : ℕ) → is_lt (int_cmp (pos n) (pos m)) ≡ false → m ≤ n
 not_below m n h = elim (cases_Bool (nat_lt n m)) [
   | inl less ↦ absurd (let e : true ≡ false = ap (λ b. is_lt (cond b Less (cond (nat_lt m n) Greater Equal))) (sym less) ∙ h in cc)
   | inr not ↦ ltb-false n m not

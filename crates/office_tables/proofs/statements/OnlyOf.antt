@@ -22,7 +22,8 @@ all_free : (v : Version) → updates_freely (schema v) ≡ true
 all_free Links = refl
 all_free Spans = refl
 
-idle : (v : Version) (s : State) (table : Table) → IsIdle (schema v) (mode_of s) table s.now.trees
+-- no action of a foreign key is set off
+pub idle : (v : Version) (s : State) (table : Table) → IsIdle (schema v) (mode_of s) table s.now.trees
 idle v s table rows = no_works_on_update (schema v) 0 table.tree _ _ (all_free v) (as_many s.now.trees table rows)
 
 module _ (v : Version) (at : ℕ) (table : Table) (there : slice_get (schema v).tables at ≡ Some (plain table)) (sql : List ℕ) (q : Program) (params : Row) (old new : State) (has : old.now.schema ≡ schema v) where

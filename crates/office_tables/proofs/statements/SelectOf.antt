@@ -11,7 +11,6 @@ use Rattle.sqlite.specs.Query.{inner, end, key_cmp}
 use Rattle.sqlite.specs.Command.TheVariants.{Select}
 use Rattle.sqlite.specs.State.{State, Shown}
 use Rattle.sqlite.proofs.Callers.{reads_as}
-use Rattle.sqlite_schema.specs.declared.program.Program.{Program}
 use Rattle.sqlite_trees.proofs.ListLemmas.{map-map}
 use Rattle.sqlite_typing.specs.Types.{accepts_program}
 use Rattle.sqlite_value.specs.declared.keys.Key.{Key}
@@ -22,13 +21,9 @@ use Rattle.office_tables.specs.Order.{IsOrdered}
 use Rattle.office_tables.specs.Schema.{Version, schema}
 use Rattle.office_tables.specs.declared.fault.StoreFault.{StoreFault}
 use Rattle.office_tables.proofs.Causes.{read_cause, none_refuse, sums_nothing}
-use Rattle.office_tables.proofs.Queries.{plain_query, answers}
+use Rattle.office_tables.proofs.Queries.{plain_query, asking, answers}
 use Rattle.office_tables.proofs.Reading.{all_found}
 use Rattle.office_tables.proofs.RowReads.{all_caused}
-
--- SELECT of the rows that the terms find, in this order
-abbrev pub asking : Table → List Term → List Term → List (Term × Key) → Program
-asking table where_terms project order = record { lets = []; body = plain_query (inner table.tree end) where_terms project order }
 
 each_legible : {A B : Type 0} (tell : A → B) (P : B → Type 0) (xs : List A) → AllByRecursion (λ x. P (tell x)) xs → AllByRecursion P (map tell xs)
 each_legible tell P [] h = tt

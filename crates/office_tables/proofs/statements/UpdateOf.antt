@@ -1,5 +1,5 @@
 -- What an UPDATE of one table does, and why it fails, for any of our texts and any records.
-use Rattle.std.proofs.Common.{◌≡◌, ℕ, ℤ, List, [], ◌∷◌, length, map, filter, drop, if◌then◌else◌, Bool, true, Some, Ok, Equal, Result, OnOk, IfErr, ◌∙◌, slice_get, refl}
+use Rattle.std.proofs.Common.{◌≡◌, ℕ, ℤ, List, [], ◌∷◌, length, map, filter, drop, if◌then◌else◌, Bool, true, Some, Ok, Result, OnOk, IfErr, ◌∙◌, slice_get}
 use Rattle.std.proofs.lemmas.Bool.{both_ways}
 use Rattle.std.specs.List.{list_all}
 use Rattle.std.specs.List.Sorted.{IsPermutation}
@@ -27,47 +27,34 @@ use Rattle.office_tables.specs.Changing.{Ran}
 use Rattle.office_tables.specs.Faults.{IsUnlimited, HasCause}
 use Rattle.office_tables.specs.Meaning.{Means}
 use Rattle.office_tables.specs.Order.{Rises}
-use Rattle.office_tables.specs.Schema.{Version, Links, Spans, schema}
+use Rattle.office_tables.specs.Schema.{Version, schema}
 use Rattle.office_tables.specs.Step.{HasRows}
 use Rattle.office_tables.specs.declared.fault.StoreFault.{StoreFault}
 use Rattle.office_tables.proofs.Causes.{none_refuse, sums_nothing}
-use Rattle.office_tables.proofs.ParentUpdates.{no_works_on_update, as_many, updates_freely as all_free}
-use Rattle.office_tables.proofs.Queries.{plain_query, answers}
+use Rattle.office_tables.proofs.Queries.{plain_query, choosing, chosen}
 use Rattle.office_tables.proofs.RowWrites.{ran_well, ran_badly}
 use Rattle.office_tables.proofs.Rows.{by_key, had}
 use Rattle.office_tables.proofs.Steps.{updated_with, Updated, plain}
 use Rattle.office_tables.proofs.Touching.{touched}
-use Rattle.office_tables.proofs.UpdateCauses.{KeepsTable, IsIdle, update_cause, accepts}
+use Rattle.office_tables.proofs.UpdateCauses.{KeepsTable, update_cause, accepts}
 use Rattle.office_tables.proofs.Updates.{changes_rows}
-
-updates_freely : (v : Version) → all_free (schema v) ≡ true
-updates_freely Links = refl
-updates_freely Spans = refl
-
--- no action of a foreign key is set off
-idle : (v : Version) (s : State) (table : Table) → IsIdle (schema v) (mode_of s) table s.now.trees
-idle v s table rows = no_works_on_update (schema v) 0 table.tree _ _ (updates_freely v) (as_many s.now.trees table rows)
+use Rattle.office_tables.proofs.statements.OnlyOf.{idle}
 
 -- UPDATE of the rows that the terms find, by the values of the project's terms: the number, the new number, and the columns
-abbrev pub changing : Table → List Term → List Term → Program
-changing table where_terms project = record { lets = []; body = plain_query (inner table.tree end) where_terms project [] }
-
 module _ (v : Version) (at : ℕ) (table : Table) (there : slice_get (schema v).tables at ≡ Some (plain table)) (sql : List ℕ) (where_terms project : List Term) (params : Row)
-    (means : Means v sql (length params) (Update at (changing (plain table) where_terms project))) (old new : State) (has : old.now.schema ≡ schema v)
+    (means : Means v sql (length params) (Update at (choosing (plain table) where_terms project))) (old new : State) (has : old.now.schema ≡ schema v)
     {A : Type 0} (row : A → Row) (key : A → ℤ) (keyed : (x : A) → rowid (row x) ≡ Int (key x)) (xs : List A) (stored : old.now.trees table.tree ≡ map row xs) (up : Rises (by_key row key keyed) xs)
     (keep : A → Bool) (keeps : (x : A) → list_all (holds (params ∷ row x ∷ [])) where_terms ≡ keep x)
     (source : A → Row) (shows : (x : A) → eval_all project (params ∷ row x ∷ []) ≡ source x) (named : (x : A) → id_in (rowid (source x)) ≡ key x)
     (changed : A → A) (same_id : (x : A) → key (changed x) ≡ key x) (casts : (x : A) → Has xs x → keep x ≡ true → cast_row (plain table) (drop 1 (source x)) ≡ row (changed x)) where
   abbrev q : Program
-  q = changing (plain table) where_terms project
+  q = choosing (plain table) where_terms project
 
   abbrev Chosen : List Row → Type 0
   Chosen rows = (ys : List A) × IsPermutation (filter keep xs) ys × (rows ≡ map source ys)
 
-  chosen : (s : Schema) (rows : List Row) → Answers (record { schema = s; trees = old.now.trees }) q params rows → Chosen rows
-  chosen s rows given =
-      let got = answers table.tree where_terms project [] old.now.trees params row xs keep source (λ _. []) (λ _ _. Equal) stored keeps shows (λ _. refl) (λ _ _. refl) rows (given.answer Null) in
-      (got.0, got.1, got.3)
+  found : (s : Schema) (rows : List Row) → Answers (record { schema = s; trees = old.now.trees }) q params rows → Chosen rows
+  found s rows given = chosen table.tree where_terms project old.now.trees params row source xs keep stored keeps shows rows (given.answer Null)
 
   cast_each : (rows : List Row) (got : Chosen rows) (x : A) → Has got.0 x → cast_row (plain table) (drop 1 (source x)) ≡ row (changed x)
   cast_each rows got x h = let it = has_filtered keep xs x (had (filter keep xs) got.0 got.1 x h) in casts x it.0 it.1
@@ -77,7 +64,7 @@ module _ (v : Version) (at : ℕ) (table : Table) (there : slice_get (schema v).
       let wrote = runs_as sql params old new (schema v) has (Update at q) means.is means.plain count h in
       let it : Updated (schema v) at table there (mode_of old) params q old.now new.now =
       updated_with (schema v) at table there old.step_limit (mode_of old) params (statement_of sql (understood (schema v) sql)) q old.now new.now wrote.tally (idle v old (plain table)) has wrote.changed in
-      let got = chosen old.now.schema it.rows it.answer in
+      let got = found old.now.schema it.rows it.answer in
       record {
         are = it.applies.rows ∙ changes_rows (plain table) row key keyed old.now.trees xs stored up keep got.0 got.1 source named it.rows got.2 changed same_id (cast_each it.rows got) it.applies.fresh;
         only = touched v old.now new.now table.tree it.applies.tables;
@@ -96,6 +83,6 @@ module _ (v : Version) (at : ℕ) (table : Table) (there : slice_get (schema v).
         ran_badly sql params old new r ran
         (update_cause sql params old new (schema v) has at table there q means.is means.plain means.whole free live (idle v old (plain table))
         (λ e refused. none_refuse refused (λ t. both_ways _ t accepted) (sums_nothing _)) (λ obeys rows given.
-        let got = chosen (schema v) rows given in
+        let got = found (schema v) rows given in
         accepts kept (schema v) at (plain table) keeping row key keyed keep changed same_id alike xs up got.0 got.1
         typed present checked old.now.trees stored source named rows got.2 (cast_each rows got) obeys))

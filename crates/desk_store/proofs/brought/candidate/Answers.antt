@@ -2,10 +2,10 @@ use Rattle.std.proofs.Common.{◌≡◌, Some, None, sym, ap, ◌∙◌, refl}
 use Rattle.std.specs.Prelude.{option_map}
 use Rattle.sqlite.specs.Held.{state}
 use Rattle.office_tables.proofs.Calls.{cut_after, looks_nowhere}
+use Rattle.office_tables.proofs.CallEnds.{same_fault}
 use Rattle.desk_store.specs.Stacks.{ShowsStacks, IsLegibleStacks, IsKnownLine, box_with}
 use Rattle.desk_store.proofs.BoxRows.{Numbered}
 use Rattle.desk_store.proofs.BroughtRows.{line_told}
-use Rattle.desk_store.proofs.ReaderCalls.{handed_on}
 use Rattle.desk_store.proofs.ToldCalls.{ends_not, ends_well}
 use Rattle.desk_store.proofs.brought.candidate.Goals as goal
 
@@ -15,7 +15,7 @@ returns-in_err-written g c =
     record {
       tells = ends_not ShowsStacks IsLegibleStacks (IsKnownLine c.args.line.now) g.S.Store c.args.conn.now c.args.conn.now c.box_of.new.conn _ (looks_nowhere (state g.S.Store c.args.conn.now) c.requires.inside)
           c.in_err-written.field-0.0 c.in_err-written.ensures.tells.cut (λ s shown may kept. c.in_err-written.ensures.tells.faults tt s shown tt kept)
-          c.from_residual.result (handed_on c.from_residual.result c.in_err-written.field-0.0 e.0 e.1);
+          c.from_residual.result (same_fault c.from_residual.result c.in_err-written.field-0.0 e.0 e.1);
     }
 
 pub returns-in_default : goal.returns-in_default

@@ -7,11 +7,11 @@ use Rattle.sqlite_rules.proofs.ListLemmas.{all_has}
 use Rattle.desk_core.specs.declared.run.Candidate.{Candidate}
 use Rattle.office_tables.proofs.Calls.{early, looks_then}
 use Rattle.office_tables.proofs.Puts.{has_at}
+use Rattle.office_tables.proofs.CallEnds.{same_fault}
 use Rattle.office_tables.specs.declared.fault.StoreFault.TheVariants.{Memory}
 use Rattle.desk_store.specs.Stacks.{Stacks, ShowsStacks, IsLegibleStacks, IsKnownLine, IsToldLine}
 use Rattle.desk_store.specs.declared.runs.TakenLine.{TakenLine}
 use Rattle.desk_store.proofs.BroughtRows.{zip_more}
-use Rattle.desk_store.proofs.ReaderCalls.{handed_on}
 use Rattle.desk_store.proofs.ToldCalls.{ends_not, ends_full, shown_on}
 use Rattle.desk_store.proofs.brought.candidates_of.Goals as goal
 
@@ -25,7 +25,7 @@ returns-in_err-candidate g c =
       tells = ends_not ShowsStacks IsLegibleStacks (λ (s : Stacks). AllByRecursion (λ l. IsKnownLine l s) lines) g.S.Store c.args.conn.now c.loop-line.conn c.candidate.new.conn _ c.loop-line.invariant.looks
           c.in_err-candidate.field-0.0 c.in_err-candidate.ensures.tells.cut
           (λ s shown may kept. c.in_err-candidate.ensures.tells.faults tt s shown (all_has (λ l. IsKnownLine l s) lines (get_or lines i none) may (has_at lines i none c.loop-line-test.true)) kept)
-          c.from_residual.result (handed_on c.from_residual.result c.in_err-candidate.field-0.0 e.0 e.1);
+          c.from_residual.result (same_fault c.from_residual.result c.in_err-candidate.field-0.0 e.0 e.1);
     }
 
 pub returns-in_err-push : goal.returns-in_err-push
@@ -37,7 +37,7 @@ returns-in_err-push g c =
     record {
       tells = ends_full ShowsStacks IsLegibleStacks (λ (s : Stacks). AllByRecursion (λ l. IsKnownLine l s) c.args.lines.now) g.S.Store c.args.conn.now c.args.conn.now c.candidate.new.conn _
           (looks_then a b z c.loop-line.invariant.looks c.in_ok-candidate.ensures.tells.looks)
-          c.from_residual-in_err-push.result (handed_on c.from_residual-in_err-push.result Memory e.0 e.1);
+          c.from_residual-in_err-push.result (same_fault c.from_residual-in_err-push.result Memory e.0 e.1);
     }
 
 pub loop-line-preserved : goal.loop-line-preserved

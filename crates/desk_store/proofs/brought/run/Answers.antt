@@ -3,12 +3,12 @@ use Rattle.std.specs.Prelude.{slice_get}
 use Rattle.sqlite.specs.Held.{state}
 use Rattle.desk_core.specs.DeskRows.{RunRow}
 use Rattle.office_tables.proofs.Calls.{early, looks_then, looks_nowhere}
+use Rattle.office_tables.proofs.CallEnds.{same_fault}
 use Rattle.desk_store.specs.Runs.{run_with}
 use Rattle.desk_store.specs.Stacks.{ShowsStacks, IsLegibleStacks, AreKnown, IsToldRun}
 use Rattle.desk_store.proofs.BroughtCalls.{none_told, run_told, known_lines}
 use Rattle.desk_store.proofs.BroughtRows.{day_told}
 use Rattle.desk_store.proofs.CardCalls.{unknown}
-use Rattle.desk_store.proofs.ReaderCalls.{handed_on}
 use Rattle.desk_store.proofs.ToldCalls.{ends_not, ends_well, shown_on, shown_back}
 use Rattle.desk_store.proofs.brought.run.Goals as goal
 
@@ -37,7 +37,7 @@ returns-in_err-lines g c =
     record {
       tells = ends_not ShowsStacks IsLegibleStacks (AreKnown c.args.run) g.S.Store c.args.conn.now c.days_with.new.conn c.lines_with.new.conn _ c.in_ok-days.ensures.reads.looks
           c.in_err-lines.field-0.0 c.in_err-lines.ensures.reads.cut (λ s shown may kept. c.in_err-lines.ensures.faults s.desk.run_lines shown.desk.run_lines)
-          c.from_residual-in_err-lines.result (handed_on c.from_residual-in_err-lines.result c.in_err-lines.field-0.0 e.0 e.1);
+          c.from_residual-in_err-lines.result (same_fault c.from_residual-in_err-lines.result c.in_err-lines.field-0.0 e.0 e.1);
     }
 
 pub returns-in_err-told : goal.returns-in_err-told
@@ -54,7 +54,7 @@ returns-in_err-told g c =
           let shown_b = shown_back ShowsStacks b l c.in_ok-lines.ensures.reads.looks before s shown in
           let are = c.in_ok-lines.ensures.rows before s.desk.run_lines shown_b.desk.run_lines in
           c.in_err-told.ensures.tells.faults tt s shown (rw c.deref-2.ensures.value (known_lines c.args.run s c.in_ok-lines.lines.items are may)) kept clean)
-          c.from_residual-in_err-told.result (handed_on c.from_residual-in_err-told.result c.in_err-told.field-0.0 e.0 e.1);
+          c.from_residual-in_err-told.result (same_fault c.from_residual-in_err-told.result c.in_err-told.field-0.0 e.0 e.1);
     }
 
 pub returns : goal.returns

@@ -2,10 +2,11 @@ use Rattle.std.proofs.Common.{Result, [], ◌∷◌, sym, subst}
 use Rattle.sqlite.specs.Held.{state}
 use Rattle.office_tables.specs.Calls.{Makes}
 use Rattle.office_tables.specs.declared.fault.StoreFault.{StoreFault}
-use Rattle.desk_store.specs.Permits.{with_permit, HasUnitRow}
+use Rattle.office_tables.specs.Schema as tables
+use Rattle.office_tables.proofs.CallEnds.{same_fault}
+use Rattle.desk_store.specs.Permits.{with_permit, MayHave}
 use Rattle.desk_store.specs.Shows.{ShowsRoom, IsLegible}
 use Rattle.desk_store.proofs.PermitCalls.{not_cleared, grants}
-use Rattle.desk_store.proofs.ReaderCalls.{handed_on}
 use Rattle.desk_store.proofs.granting.grant.Goals as goal
 
 pub returns-in_err-clear_permit : goal.returns-in_err-clear_permit
@@ -14,8 +15,8 @@ returns-in_err-clear_permit g c =
     let whole = not_cleared g.S.Store c.args.conn.now c.clear_permit.new.conn c.clear_permit.new.conn c.args.ticket c.args.unit c.args.until c.in_err-clear_permit.field-0.0 c.in_err-clear_permit.ensures.leaves c.in_err-clear_permit.ensures.faults in
     let e = c.from_residual.ensures in
     record {
-      makes = subst (λ (r : Result Unit StoreFault). Makes g.S.Store ShowsRoom IsLegible c.args.conn.now c.clear_permit.new.conn r (λ _. HasUnitRow c.args.unit old.now.trees) (with_permit c.args.ticket c.args.unit c.args.until) (10 ∷ []))
-          (sym (handed_on c.from_residual.result c.in_err-clear_permit.field-0.0 e.0 e.1)) whole;
+      makes = subst (λ (r : Result Unit StoreFault). Makes g.S.Store ShowsRoom IsLegible c.args.conn.now c.clear_permit.new.conn r (MayHave c.args.ticket c.args.unit old.now.trees) (with_permit c.args.ticket c.args.unit c.args.until) (tables.permit.tree ∷ []))
+          (sym (same_fault c.from_residual.result c.in_err-clear_permit.field-0.0 e.0 e.1)) whole;
     }
 
 pub returns : goal.returns

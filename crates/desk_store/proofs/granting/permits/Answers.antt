@@ -1,31 +1,21 @@
-use Rattle.std.proofs.Common.{sym, subst}
-use Rattle.std.proofs.lemmas.Result.{IfOk-weaker}
+use Rattle.std.proofs.Common.{sym, subst, arith}
+use Rattle.std.specs.Prelude.{⊤}
 use Rattle.sqlite.specs.Held.{state}
+use Rattle.office_tables.proofs.Calls.{looks_nowhere}
 use Rattle.office_tables.specs.Order.{IsOrdered}
-use Rattle.office_tables.proofs.Calls.{early}
-use Rattle.office_tables.proofs.RowReads.{asks}
 use Rattle.desk_store.specs.Permits.{permits_of, by_unit}
-use Rattle.desk_store.proofs.PermitCalls.{told_ordered}
-use Rattle.desk_store.proofs.PermitRows.{permits_text, permits_command, permits_means, permits_finds, permits_faults}
+use Rattle.desk_store.specs.Shows.{ShowsRoom, IsLegible}
+use Rattle.desk_store.proofs.PermitCalls.{none_given}
 use Rattle.desk_store.proofs.granting.permits.Goals as goal
+use Rattle.desk_store.proofs.ToldCalls.{ends_well}
 
-pub find-requires : goal.find-requires
-find-requires g c = asks permits_text 1 permits_command (state g.S.Store c.args.conn.now) permits_means c.requires.inside
-
-pub returns : goal.returns
-returns g c =
+pub returns-then-ticket-from : goal.returns-then-ticket-from
+returns-then-ticket-from g c =
     let old = state g.S.Store c.args.conn.now in
-    let new = state g.S.Store c.find.new.conn in
     record {
-      tells = record {
-        answers = λ clean beside d shown.
-            let at = c.requires.inside (early old new _ c.find.ensures.reads.crash clean) in
-            IfOk-weaker c.find.result _ _ (λ all it. subst (IsOrdered by_unit (permits_of c.args.ticket d)) (sym it.2) (told_ordered c.args.ticket (old.now.trees 10) d.permits shown.permits it.0 it.1))
-            (permits_finds old new c.args.ticket at.0 at.1 d.permits shown.permits (λ found. found.items) c.find.result (rw c.number.ensures at (c.find.ensures.found clean)));
-        looks = c.find.ensures.reads.looks;
-        cut = c.find.ensures.reads.cut;
-        faults = λ beside d shown may kept clean free.
-            let at = c.requires.inside (early old new _ c.find.ensures.reads.crash clean) in
-            permits_faults old new c.args.ticket at.0 at.1 d.permits shown.permits (λ found. found.items) c.find.result kept.permits free (rw c.number.ensures at (c.find.ensures.missed clean));
-      };
+      tells = ends_well ShowsRoom IsLegible (λ _. ⊤) g.S.Store c.args.conn.now c.args.conn.now c.args.conn.now _ (looks_nowhere old c.requires.inside) _ (λ clean d shown.
+          let few = shown.few_tickets in
+          let over = c.if-ticket-from.true in
+          let most = c.from.ensures in
+          subst (IsOrdered by_unit (permits_of c.args.ticket d)) (sym c.new.ensures.items) (none_given c.args.ticket old.now.trees d shown (omega (arith, few, over, most))));
     }

@@ -1,22 +1,24 @@
 use Rattle.std.proofs.Common.{Some, None, ap, sym, ◌∙◌}
 use Rattle.std.proofs.lemmas.List.{append-nil}
+use Rattle.std.specs.Prelude.{⊤}
 use Rattle.sqlite.specs.Held.{state}
 use Rattle.office_tables.specs.declared.fault.StoreFault.TheVariants.{Memory}
 use Rattle.office_tables.proofs.Calls.{early, looks_then}
+use Rattle.office_tables.proofs.CallEnds.{same_fault}
 use Rattle.desk_store.specs.declared.lending.HoldingLine.{HoldingLine}
-use Rattle.desk_store.proofs.CardCalls.{shown_after, told_not, told_all}
-use Rattle.desk_store.proofs.LoanCalls.{loans_more, loans_whole, told_full}
-use Rattle.desk_store.proofs.ReaderCalls.{handed_on}
+use Rattle.desk_store.specs.Shows.{ShowsRoom, IsLegible}
+use Rattle.desk_store.proofs.LoanCalls.{loans_more, loans_whole}
 use Rattle.desk_store.proofs.lending.issued.Goals.{in-Some+in_ok-push, in_default}
 use Rattle.desk_store.proofs.lending.issued.Goals as goal
+use Rattle.desk_store.proofs.ToldCalls.{ends_full, ends_not, ends_well, shown_on}
 
 pub returns-in_err-loan : goal.returns-in_err-loan
 returns-in_err-loan g c =
     let e = c.from_residual-in_err-loan.ensures in
     record {
-      tells = told_not g.S.Store c.args.conn.now c.loop-line.conn c.loan_of.new.conn _ c.loop-line.invariant.looks
-          c.in_err-loan.field-0.0 c.in_err-loan.ensures.tells.cut (λ d shown kept. c.in_err-loan.ensures.tells.faults tt d shown tt kept)
-          c.from_residual-in_err-loan.result (handed_on c.from_residual-in_err-loan.result c.in_err-loan.field-0.0 e.0 e.1);
+      tells = ends_not ShowsRoom IsLegible (λ _. ⊤) g.S.Store c.args.conn.now c.loop-line.conn c.loan_of.new.conn _ c.loop-line.invariant.looks
+          c.in_err-loan.field-0.0 c.in_err-loan.ensures.tells.cut (λ d shown may kept. c.in_err-loan.ensures.tells.faults tt d shown tt kept)
+          c.from_residual-in_err-loan.result (same_fault c.from_residual-in_err-loan.result c.in_err-loan.field-0.0 e.0 e.1);
     }
 
 pub returns-in_err-push : goal.returns-in_err-push
@@ -26,8 +28,8 @@ returns-in_err-push g c =
     let d = state g.S.Store c.loan_of.new.conn in
     let e = c.from_residual-in_err-push.ensures in
     record {
-      tells = told_full g.S.Store c.args.conn.now c.loan_of.new.conn _ (looks_then a b d c.loop-line.invariant.looks c.in_ok-loan.ensures.tells.looks)
-          c.from_residual-in_err-push.result (handed_on c.from_residual-in_err-push.result Memory e.0 e.1);
+      tells = ends_full ShowsRoom IsLegible (λ _. ⊤) g.S.Store c.args.conn.now c.args.conn.now c.loan_of.new.conn _ (looks_then a b d c.loop-line.invariant.looks c.in_ok-loan.ensures.tells.looks)
+          c.from_residual-in_err-push.result (same_fault c.from_residual-in_err-push.result Memory e.0 e.1);
     }
 
 pub loop-line-init : goal.loop-line-init
@@ -50,7 +52,7 @@ loop-line-preserved g c =
       lines = λ clean desk shown. c.loop-line.invariant.lines (early b d _ last.goes.on.crash clean) desk shown;
       so_far = λ clean desk shown.
           let before = early b d _ last.goes.on.crash clean in
-          let told = c.in_ok-loan.ensures.tells.answers clean tt desk (shown_after a b looked before desk shown) in
+          let told = c.in_ok-loan.ensures.tells.answers clean tt desk (shown_on ShowsRoom a b looked before desk shown) in
           let done = c.loop-line.invariant.so_far before desk shown in
           let lines = c.deref-line-items.result.now in
           let i = c.loop-line.line-index in
@@ -68,7 +70,7 @@ loop-line-preserved g c =
 pub returns : goal.returns
 returns g c =
     record {
-      tells = told_all g.S.Store c.args.conn.now c.args.conn.now c.loop-line.conn _ c.loop-line.invariant.looks _ (λ clean desk shown.
+      tells = ends_well ShowsRoom IsLegible (λ _. ⊤) g.S.Store c.args.conn.now c.args.conn.now c.loop-line.conn _ c.loop-line.invariant.looks _ (λ clean desk shown.
           loans_whole desk.orders desk.holdings c.deref-line-items.result.now c.loop-line.line-index c.loop-line.loans.items c.loop-line-test.false
           (c.loop-line.invariant.lines clean desk shown) (c.loop-line.invariant.so_far clean desk shown));
     }

@@ -2,9 +2,10 @@ use Rattle.std.proofs.Common.{Result, [], ◌∷◌, sym, subst}
 use Rattle.std.specs.Prelude.{⊤}
 use Rattle.office_tables.specs.Calls.{Makes}
 use Rattle.office_tables.specs.declared.fault.StoreFault.{StoreFault}
+use Rattle.office_tables.specs.Schema as tables
+use Rattle.office_tables.proofs.CallEnds.{same_fault}
 use Rattle.desk_store.specs.Opening.{ShowsHouse, IsLegibleHouse, opened}
 use Rattle.desk_store.proofs.OpeningCalls.{not_freed, opens}
-use Rattle.desk_store.proofs.ReaderCalls.{handed_on}
 use Rattle.desk_store.proofs.opening.open_day.Goals as goal
 
 pub returns-in_err-free_seats : goal.returns-in_err-free_seats
@@ -12,8 +13,8 @@ returns-in_err-free_seats g c =
     let whole = not_freed g.S.Store c.args.conn.now c.free_seats.new.conn c.args.on c.in_err-free_seats.field-0.0 c.in_err-free_seats.ensures.leaves c.in_err-free_seats.ensures.faults in
     let e = c.from_residual.ensures in
     record {
-      makes = subst (λ (r : Result Unit StoreFault). Makes g.S.Store ShowsHouse IsLegibleHouse c.args.conn.now c.free_seats.new.conn r (λ _. ⊤) (opened c.args.on) (1 ∷ 13 ∷ []))
-          (sym (handed_on c.from_residual.result c.in_err-free_seats.field-0.0 e.0 e.1)) whole;
+      makes = subst (λ (r : Result Unit StoreFault). Makes g.S.Store ShowsHouse IsLegibleHouse c.args.conn.now c.free_seats.new.conn r (λ _. ⊤) (opened c.args.on) (tables.seat.tree ∷ tables.office.tree ∷ []))
+          (sym (same_fault c.from_residual.result c.in_err-free_seats.field-0.0 e.0 e.1)) whole;
     }
 
 pub returns : goal.returns

@@ -2,9 +2,9 @@ use Rattle.std.proofs.Common.{None, sym, ◌∙◌}
 use Rattle.std.specs.Prelude.{⊤}
 use Rattle.sqlite.specs.Held.{state}
 use Rattle.office_tables.proofs.Calls.{early, looks_then, looks_nowhere}
+use Rattle.office_tables.proofs.CallEnds.{same_fault}
 use Rattle.desk_store.specs.Stacks.{ShowsStacks, IsLegibleStacks, box_with}
 use Rattle.desk_store.proofs.QueueCalls.{unknown_queue, known_queue}
-use Rattle.desk_store.proofs.ReaderCalls.{handed_on}
 use Rattle.desk_store.proofs.ToldCalls.{ends_not, ends_well, shown_on}
 use Rattle.desk_store.proofs.queues.queue.Goals as goal
 
@@ -14,7 +14,7 @@ returns-in_err-known g c =
     record {
       tells = ends_not ShowsStacks IsLegibleStacks (λ _. ⊤) g.S.Store c.args.conn.now c.args.conn.now c.box_of.new.conn _ (looks_nowhere (state g.S.Store c.args.conn.now) c.requires.inside)
           c.in_err-known.field-0.0 c.in_err-known.ensures.tells.cut (λ s shown may kept. c.in_err-known.ensures.tells.faults tt s shown tt kept)
-          c.from_residual.result (handed_on c.from_residual.result c.in_err-known.field-0.0 e.0 e.1);
+          c.from_residual.result (same_fault c.from_residual.result c.in_err-known.field-0.0 e.0 e.1);
     }
 
 pub returns-in_default : goal.returns-in_default
@@ -30,7 +30,7 @@ returns-in_err-place g c =
     record {
       tells = ends_not ShowsStacks IsLegibleStacks (λ _. ⊤) g.S.Store c.args.conn.now c.box_of.new.conn c.place_of.new.conn _ c.in_ok-known.ensures.tells.looks
           c.in_err-place.field-0.0 c.in_err-place.ensures.tells.cut (λ s shown may kept. c.in_err-place.ensures.tells.faults tt s.desk shown.desk tt kept.desk)
-          c.from_residual-in_err-place.result (handed_on c.from_residual-in_err-place.result c.in_err-place.field-0.0 e.0 e.1);
+          c.from_residual-in_err-place.result (same_fault c.from_residual-in_err-place.result c.in_err-place.field-0.0 e.0 e.1);
     }
 
 pub returns-in_err-waiting : goal.returns-in_err-waiting
@@ -42,7 +42,7 @@ returns-in_err-waiting g c =
     record {
       tells = ends_not ShowsStacks IsLegibleStacks (λ _. ⊤) g.S.Store c.args.conn.now c.place_of.new.conn c.waiting_for.new.conn _ (looks_then a b p c.in_ok-known.ensures.tells.looks c.in_ok-place.ensures.tells.looks)
           c.in_err-waiting.field-0.0 c.in_err-waiting.ensures.reads.cut (λ s shown may kept. c.in_err-waiting.ensures.faults s.desk.orders shown.desk.orders)
-          c.from_residual-in_err-waiting.result (handed_on c.from_residual-in_err-waiting.result c.in_err-waiting.field-0.0 e.0 e.1);
+          c.from_residual-in_err-waiting.result (same_fault c.from_residual-in_err-waiting.result c.in_err-waiting.field-0.0 e.0 e.1);
     }
 
 pub returns : goal.returns

@@ -1,4 +1,5 @@
-use Rattle.std.proofs.Common.{sym, subst, ◌≤◌}
+use Rattle.std.proofs.Common.{sym, subst, ◌≤◌, length}
+use Rattle.std.proofs.Math.Nat.{le_refl}
 use Rattle.std.proofs.lemmas.List.{length-map}
 use Rattle.sqlite.specs.Held.{state}
 use Rattle.isad_core.specs.Limits.{most_tickets}
@@ -18,7 +19,7 @@ returns g c =
         shows_made = λ clean beside d shown may. on_ok_then c.set_last_day.result _ _ (λ has.
             with_readers old.now new.now d shown _ has.only has.are
             (counted_again (λ (r : ReaderRow). r.ticket) 1 _ (same_tickets c.args.ticket c.args.until) d.readers shown.tickets)
-            (subst (λ n. n ≤ most_tickets) (sym (length-map d.readers _)) shown.few_tickets)) (c.set_last_day.ensures.rows clean d.readers shown.readers shown.tickets);
+            (subst (λ n. n ≤ most_tickets) (sym (length-map d.readers _)) shown.few_tickets) (subst (λ n. length d.readers ≤ n) (sym (length-map d.readers _)) (le_refl _))) (c.set_last_day.ensures.rows clean d.readers shown.readers shown.tickets);
         only = c.set_last_day.ensures.only;
         goes = c.set_last_day.ensures.leaves.goes;
         cut = c.set_last_day.ensures.leaves.cut;

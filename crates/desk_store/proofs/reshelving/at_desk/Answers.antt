@@ -1,14 +1,14 @@
 use Rattle.std.proofs.Common.{subst, ◌∙◌}
+use Rattle.std.specs.Prelude.{⊤}
 use Rattle.sqlite.specs.Effect.{Database}
 use Rattle.sqlite.specs.Held.{state}
 use Rattle.office_tables.specs.declared.fault.StoreFault.TheVariants.{Memory}
 use Rattle.office_tables.proofs.Calls.{early, looks_then}
-use Rattle.desk_store.specs.Shows.{ShowsDesk}
-use Rattle.desk_store.proofs.CardCalls.{shown_after, told_not, told_all}
-use Rattle.desk_store.proofs.LoanCalls.{told_full}
-use Rattle.desk_store.proofs.ReaderCalls.{handed_on}
+use Rattle.office_tables.proofs.CallEnds.{same_fault}
+use Rattle.desk_store.specs.Shows.{ShowsDesk, ShowsRoom, IsLegible}
 use Rattle.desk_store.proofs.ReshelvingCalls.{told_more, told_whole, number_at}
 use Rattle.desk_store.proofs.reshelving.at_desk.Goals as goal
+use Rattle.desk_store.proofs.ToldCalls.{ends_full, ends_not, ends_well, shown_on}
 
 pub returns-in_err-awaited : goal.returns-in_err-awaited
 returns-in_err-awaited g c =
@@ -16,12 +16,12 @@ returns-in_err-awaited g c =
     let z = state g.S.Store c.is_awaited.new.conn in
     let e = c.from_residual-in_err-awaited.ensures in
     record {
-      tells = told_not g.S.Store c.args.conn.now c.loop-container.conn c.is_awaited.new.conn _ c.loop-container.invariant.looks
-          c.in_err-awaited.field-0.0 c.in_err-awaited.ensures.tells.cut (λ d shown kept clean.
+      tells = ends_not ShowsRoom IsLegible (λ _. ⊤) g.S.Store c.args.conn.now c.loop-container.conn c.is_awaited.new.conn _ c.loop-container.invariant.looks
+          c.in_err-awaited.field-0.0 c.in_err-awaited.ensures.tells.cut (λ d shown may kept clean.
           let before = early b z _ c.in_err-awaited.ensures.tells.cut.crash clean in
           let are = c.loop-container.invariant.containers before d (subst (λ (db : Database). ShowsDesk db.trees d) (c.loop-container.invariant.looks.same before) shown) in
           c.in_err-awaited.ensures.tells.faults tt d shown (number_at d c.deref-container-items.result.now c.loop-container.container-index are kept.holdings c.loop-container-test.true) kept clean)
-          c.from_residual-in_err-awaited.result (handed_on c.from_residual-in_err-awaited.result c.in_err-awaited.field-0.0 e.0 e.1);
+          c.from_residual-in_err-awaited.result (same_fault c.from_residual-in_err-awaited.result c.in_err-awaited.field-0.0 e.0 e.1);
     }
 
 pub returns-in_err-push : goal.returns-in_err-push
@@ -31,8 +31,8 @@ returns-in_err-push g c =
     let z = state g.S.Store c.is_awaited.new.conn in
     let e = c.from_residual-in_err-push.ensures in
     record {
-      tells = told_full g.S.Store c.args.conn.now c.is_awaited.new.conn _ (looks_then a b z c.loop-container.invariant.looks c.in_ok-awaited.ensures.tells.looks)
-          c.from_residual-in_err-push.result (handed_on c.from_residual-in_err-push.result Memory e.0 e.1);
+      tells = ends_full ShowsRoom IsLegible (λ _. ⊤) g.S.Store c.args.conn.now c.args.conn.now c.is_awaited.new.conn _ (looks_then a b z c.loop-container.invariant.looks c.in_ok-awaited.ensures.tells.looks)
+          c.from_residual-in_err-push.result (same_fault c.from_residual-in_err-push.result Memory e.0 e.1);
     }
 
 pub loop-container-preserved : goal.loop-container-preserved
@@ -47,7 +47,7 @@ loop-container-preserved g c =
       containers = λ clean desk shown. c.loop-container.invariant.containers (early b z _ last.goes.on.crash clean) desk shown;
       so_far = λ clean desk shown.
           let before = early b z _ last.goes.on.crash clean in
-          let told = c.in_ok-awaited.ensures.tells.answers clean tt desk (shown_after a b looked before desk shown) in
+          let told = c.in_ok-awaited.ensures.tells.answers clean tt desk (shown_on ShowsRoom a b looked before desk shown) in
           c.in_ok-push.ensures.items
           ∙ told_more desk.orders c.deref-container-items.result.now c.loop-container.container-index c.loop-container.told.items c.in_ok-awaited.awaited c.loop-container-test.true
           (c.loop-container.invariant.so_far before desk shown) told;
@@ -56,7 +56,7 @@ loop-container-preserved g c =
 pub returns : goal.returns
 returns g c =
     record {
-      tells = told_all g.S.Store c.args.conn.now c.args.conn.now c.loop-container.conn _ c.loop-container.invariant.looks _ (λ clean desk shown.
+      tells = ends_well ShowsRoom IsLegible (λ _. ⊤) g.S.Store c.args.conn.now c.args.conn.now c.loop-container.conn _ c.loop-container.invariant.looks _ (λ clean desk shown.
           told_whole desk c.deref-container-items.result.now c.loop-container.container-index c.loop-container.told.items c.loop-container-test.false
           (c.loop-container.invariant.containers clean desk shown) (c.loop-container.invariant.so_far clean desk shown));
     }

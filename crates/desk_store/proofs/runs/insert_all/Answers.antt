@@ -5,7 +5,7 @@ use Rattle.office_tables.specs.declared.fault.StoreFault.{StoreFault}
 use Rattle.office_tables.proofs.Calls.{on_ok_then, on_ok_both, on_err_then, goes_then, cut_then}
 use Rattle.office_tables.proofs.Causes.{still_unlimited}
 use Rattle.office_tables.proofs.LaterCauses.{last_cause}
-use Rattle.desk_store.proofs.ReaderCalls.{handed_on}
+use Rattle.office_tables.proofs.CallEnds.{same_fault}
 use Rattle.desk_store.proofs.RunCalls.{lines_still, run_free, no_line, run_shown, clean_before}
 use Rattle.desk_store.proofs.runs.insert_all.Goals as goal
 
@@ -15,7 +15,7 @@ returns-in_err-insert_run-clause-faults g c d shown is may clean free =
     let b = state g.S.Store c.insert_run.new.conn in
     let e = c.from_residual.ensures in
     let whole = c.in_err-insert_run.ensures.faults d.runs shown.runs (run_free a b b c.args.run c.args.on c.args.taken.now d shown is) clean free in
-    subst (λ (r : Result Unit StoreFault). IfErr r (HasCause a b)) (sym (handed_on c.from_residual.result c.in_err-insert_run.field-0.0 e.0 e.1)) whole
+    subst (λ (r : Result Unit StoreFault). IfErr r (HasCause a b)) (sym (same_fault c.from_residual.result c.in_err-insert_run.field-0.0 e.0 e.1)) whole
 
 pub returns-clause-goes : goal.returns-clause-goes
 returns-clause-goes g c =
@@ -48,4 +48,4 @@ returns-clause-faults g c desk shown is may clean free =
     let goes = c.in_ok-insert_run.ensures.leaves.goes in
     last_cause a b d goes.on c.insert_lines.result c.insert_lines.ensures.cut clean (λ cleaner.
     c.insert_lines.ensures.faults desk.run_lines (lines_still a b d c.args.run c.args.on c.args.taken.now (c.in_ok-insert_run.ensures.puts cleaner).only desk shown)
-    (no_line a b d c.args.run c.args.on c.args.taken.now desk is may) may.1 clean (still_unlimited a b goes.on free))
+    (no_line a b d c.args.run c.args.on c.args.taken.now desk shown is) may clean (still_unlimited a b goes.on free))

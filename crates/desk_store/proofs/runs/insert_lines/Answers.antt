@@ -5,9 +5,10 @@ use Rattle.office_tables.specs.declared.fault.StoreFault.{StoreFault}
 use Rattle.office_tables.proofs.Calls.{early, goes_then}
 use Rattle.office_tables.proofs.Causes.{cause_then, still_unlimited}
 use Rattle.office_tables.proofs.Touching.{touched_again}
+use Rattle.office_tables.proofs.CallEnds.{same_fault}
 use Rattle.desk_store.specs.Rows.{run_line_cells}
 use Rattle.office_tables.specs.Numbered.{HasNumbered}
-use Rattle.desk_store.proofs.ReaderCalls.{handed_on}
+use Rattle.office_tables.specs.Schema as tables
 use Rattle.desk_store.proofs.RunCalls.{free_line, line_more}
 use Rattle.desk_store.proofs.runs.insert_lines.Goals as goal
 
@@ -24,11 +25,11 @@ loop-line-preserved g c =
       (
         goes_then a b d invariant.1.0 last,
         (
-          λ clean. touched_again (8 ∷ []) a.now b.now d.now (invariant.1.1.0 (early b d _ last.on.crash clean)) (c.in_ok-insert_line.ensures.only clean),
+          λ clean. touched_again (tables.run_line.tree ∷ []) a.now b.now d.now (invariant.1.1.0 (early b d _ last.on.crash clean)) (c.in_ok-insert_line.ensures.only clean),
           λ clean ls at.
               let before = invariant.1.1.1 (early b d _ last.on.crash clean) ls at in
               let one = c.in_ok-insert_line.ensures.rows clean _ before in
-              subst (HasNumbered run_line_cells (d.now.trees 8)) (line_more c.args.run ls c.args.taken.now i _ low) one,
+              subst (HasNumbered run_line_cells (d.now.trees tables.run_line.tree)) (line_more c.args.run ls c.args.taken.now i _ low) one,
         ),
       ),
     )
@@ -48,4 +49,4 @@ returns-in_err-insert_line-clause-faults g c ls at none apart clean free =
     let why = c.in_err-insert_line.ensures.faults _ told free_one clean (still_unlimited a b so_far.on free) in
     let whole = cause_then a b d so_far.on before _ why in
     let e = c.from_residual.ensures in
-    subst (λ (r : Result Unit StoreFault). IfErr r (HasCause a d)) (sym (handed_on c.from_residual.result c.in_err-insert_line.field-0.0 e.0 e.1)) whole
+    subst (λ (r : Result Unit StoreFault). IfErr r (HasCause a d)) (sym (same_fault c.from_residual.result c.in_err-insert_line.field-0.0 e.0 e.1)) whole

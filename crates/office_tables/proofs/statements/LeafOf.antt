@@ -1,0 +1,34 @@
+-- Tables that two crates change: no foreign key refers to them, and their own keys fit the schema.
+use Rattle.std.proofs.Common.{◌≡◌, true, false, refl}
+use Rattle.sqlite_schema.specs.Names.{same_name}
+use Rattle.sqlite_schema.specs.Rules.{references_fit}
+use Rattle.sqlite_value.specs.Keys.{joined}
+use Rattle.office_tables.specs.Schema.{Version, Links, Spans, schema, seat, permit, office}
+use Rattle.office_tables.proofs.Steps.{is_referred_to}
+use Rattle.office_tables.proofs.UpdateCauses.{KeepsTable}
+
+pub seat_alone : (v : Version) → is_referred_to (schema v) seat.tree ≡ false
+unfolding joined same_name
+seat_alone Links = refl
+seat_alone Spans = refl
+
+pub seat_fits : (v : Version) → references_fit (schema v) seat false true ≡ true
+unfolding joined same_name
+seat_fits Links = refl
+seat_fits Spans = refl
+
+pub permit_alone : (v : Version) → is_referred_to (schema v) permit.tree ≡ false
+unfolding joined same_name
+permit_alone Links = refl
+permit_alone Spans = refl
+
+pub permit_fits : (v : Version) → references_fit (schema v) permit false true ≡ true
+unfolding joined same_name
+permit_fits Links = refl
+permit_fits Spans = refl
+
+-- an UPDATE of the office's row breaks no key
+pub office_kept : (v : Version) → KeepsTable (λ _. false) (schema v) 7 office
+unfolding joined same_name
+office_kept Links = record { listed = refl; apart = refl; spared = refl; fits = refl }
+office_kept Spans = record { listed = refl; apart = refl; spared = refl; fits = refl }

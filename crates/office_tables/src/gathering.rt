@@ -1,0 +1,67 @@
+//! The rows of an answer, taken one by one, so that many of them take no memory.
+
+ghost use Rattle.std.specs.Prelude.{[], IfOk, IfErr};
+ghost use Rattle.sqlite.specs.Held.{state};
+ghost use Rattle.sqlite.specs.Given.{IsPlain};
+ghost use Rattle.sqlite.specs.Listing.{understood};
+ghost use Rattle.sqlite.specs.State.{HasCleanDisk, Survives};
+ghost use Rattle.office_tables.specs.Asking.{IsOurQuery, Reads, Gathers, StopsShort};
+
+use crate::fault::StoreFault;
+use sqlite::{Alter, Connection, Row};
+
+/// What is gathered from rows, one after the other.
+pub trait Gathering {
+    ghost use Rattle.std.specs.Prelude.{◌≡◌, List, [], ◌∷◌, ◌++◌, OnOk, IfErr};
+    ghost use Rattle.sqlite.specs.Order.{Row};
+
+    /// It is what these rows, in this order, come to.
+    ghost holds: { List Row → Self → Type 0 };
+
+    /// Takes one row more.
+    fn take(&mut self, row: &Row) -> Result<(), StoreFault>
+        ensures takes { (rows : List Row) → holds rows self.old
+            → OnOk result (holds (rows ++ row.now ∷ []) self.new) }
+        ensures faults { IfErr result (λ e. e ≡ StoreFault.Memory) };
+}
+
+/// Takes the rows of an answer.
+fn take_rows<G: Gathering + Drop, S: Alter>(
+    conn: &mut Connection<S>,
+    sql: &str,
+    mut gathered: G,
+) -> Result<G, StoreFault>
+    requires plain { HasCleanDisk (state S.Store conn.old) → IsPlain (understood conn.old.schema sql.now) }
+    requires begins { G.holds [] gathered }
+    ensures gathers { HasCleanDisk (state S.Store conn.new)
+        → IfOk result (Gathers G.holds sql.now [] (state S.Store conn.old) (state S.Store conn.new)) }
+    ensures stops { HasCleanDisk (state S.Store conn.new)
+        → IfErr result (StopsShort sql.now [] (state S.Store conn.old) (state S.Store conn.new)) }
+    ensures crash { Survives (state S.Store conn.old) (state S.Store conn.new) (λ _. ⊥) }
+{
+    let mut rows = conn.query(sql, &[])?;
+    'rows: for _ in 0..usize::MAX {
+        let Some(row) = rows.next()? else {
+            return Ok(gathered);
+        };
+        gathered.take(row)?;
+    }
+    Err(StoreFault::Memory)
+}
+
+/// What the rows of a query of ours come to, that has no parameters.
+pub fn gather<G: Gathering + Drop, S: Alter>(
+    conn: &mut Connection<S>,
+    sql: &str,
+    start: G,
+) -> Result<G, StoreFault>
+    requires ours { IsOurQuery sql.now (state S.Store conn.old) }
+    requires begins { G.holds [] start }
+    ensures reads { Reads (state S.Store conn.old) (state S.Store conn.new) result }
+    ensures gathers { HasCleanDisk (state S.Store conn.new)
+        → IfOk result (Gathers G.holds sql.now [] (state S.Store conn.old) (state S.Store conn.new)) }
+    ensures stops { HasCleanDisk (state S.Store conn.new)
+        → IfErr result (StopsShort sql.now [] (state S.Store conn.old) (state S.Store conn.new)) }
+{
+    take_rows(conn, sql, start)
+}
