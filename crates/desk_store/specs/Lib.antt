@@ -10,3 +10,4 @@ pub mod Permits
 pub mod Opening
 pub mod Stacks
 pub mod Picking
+pub mod Doubts

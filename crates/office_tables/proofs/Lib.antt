@@ -31,6 +31,7 @@ pub mod LaterCauses
 pub mod RowWrites
 pub mod RowReads
 pub mod Gatherings
+pub mod ByNumber
 pub mod Fresh
 pub mod numbered
 pub mod CallEnds
