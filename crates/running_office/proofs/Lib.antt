@@ -1,0 +1,3 @@
+pub mod Crashes
+pub mod NewTables
+pub mod NewOffices

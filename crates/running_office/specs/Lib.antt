@@ -1,1 +1,4 @@
 pub mod Founding
+pub mod Shown
+pub mod Resting
+pub mod Opening

@@ -4,8 +4,10 @@ ghost use Rattle.std.specs.Prelude.{◌≡◌};
 ghost use Rattle.std.specs.List.{list_all};
 ghost use Rattle.catalogue_core.specs.Sources.{is_between as lies_between};
 ghost use Rattle.office_core.specs.Soundness.{is_country as is_country_code, is_repository as is_repository_code};
-ghost use Rattle.running_office.specs.Founding.{AreTaken};
+ghost use Rattle.running_office.specs.Founding.{AreTaken, IsGood, founded};
+ghost use Rattle.running_office.specs.Shown.{office_of};
 
+use catalogue_rows::OfficeRow;
 use isad_core::{Day, Text};
 use std::alloc::{AllocError, Global};
 use std::marker::Model;
@@ -161,5 +163,22 @@ impl Settings {
             run,
             day,
         })
+    }
+
+    /// The row of a new office with these settings. Its first unit will have number 1.
+    pub(crate) fn into_row(self) -> OfficeRow
+        ensures row { result ≡ office_of (founded self) }
+        ensures good { IsGood self }
+    {
+        OfficeRow {
+            country: self.country,
+            repo: self.repo,
+            seats: self.seats,
+            daily: self.daily,
+            hands: self.hands,
+            run_size: self.run,
+            day: self.day,
+            next_unit: 1,
+        }
     }
 }
