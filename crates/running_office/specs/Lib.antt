@@ -2,3 +2,4 @@ pub mod Founding
 pub mod Shown
 pub mod Resting
 pub mod Opening
+pub mod Doing

@@ -4,6 +4,7 @@
 mod faults;
 mod founding;
 mod offices;
+mod registering;
 mod settings;
 mod transactions;
 
