@@ -3,3 +3,4 @@ pub mod Shown
 pub mod Resting
 pub mod Opening
 pub mod Doing
+pub mod Sight

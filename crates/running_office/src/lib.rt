@@ -3,6 +3,7 @@
 
 mod faults;
 mod founding;
+mod names;
 mod offices;
 mod registering;
 mod settings;
