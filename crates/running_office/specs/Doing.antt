@@ -21,10 +21,10 @@ pub record DoesStep (places : Trees → Forest ℕ → Type 0) (version : Versio
   pub told : reply ≡ (step s asked).1
   pub shows : IsOk reply → ShowsState places version now (step s asked).0
 
--- Over the tables of a sound office the command's step is done, and it fails only for want of memory or by the disk; the
--- transaction then goes on, or was taken back.
-pub record Does (places : Trees → Forest ℕ → Type 0) (version : Version) (asked : Command) (old new : store.State) (r : Result Reply StoreFault) : Type 0 where
-  pub steps : HasCleanDisk new → (s : State) → IsSoundOffice s → ShowsState places version old.now s → IfOk r (λ reply. DoesStep places version s asked reply new.now)
+-- Over the tables of a sound office of which this much is known, the command's step is done, and it fails only for want of
+-- memory or by the disk; the transaction then goes on, or was taken back.
+pub record Does (places : Trees → Forest ℕ → Type 0) (version : Version) (known : State → Type 0) (asked : Command) (old new : store.State) (r : Result Reply StoreFault) : Type 0 where
+  pub steps : HasCleanDisk new → (s : State) → IsSoundOffice s → known s → ShowsState places version old.now s → IfOk r (λ reply. DoesStep places version s asked reply new.now)
   pub goes : OnOk r (Goes old new)
   pub cut : OnErr r (IsCut old new)
-  pub faults : (s : State) → IsSoundOffice s → ShowsState places version old.now s → Excused old new r
+  pub faults : (s : State) → IsSoundOffice s → known s → ShowsState places version old.now s → Excused old new r

@@ -1,6 +1,6 @@
 //! A reader gets a ticket.
 
-ghost use Rattle.std.specs.Prelude.{◌≡◌, true, IsUtf8};
+ghost use Rattle.std.specs.Prelude.{◌≡◌, true, IsUtf8, ⊤};
 ghost use Rattle.sqlite.specs.Held.{state};
 ghost use Rattle.office_core.specs.Rules.{is_name};
 ghost use Rattle.office_core.specs.declared.command.Command.TheVariants as command;
@@ -23,7 +23,7 @@ pub(crate) fn register<P: Places, S: Alter>(
     requires inside { InTransaction P.version (state S.Store conn.old) }
     requires named { is_name name.now ≡ true }
     requires text { IsUtf8 name.now }
-    ensures { Does P.shows P.version (command.Register name.now until) (state S.Store conn.old)
+    ensures { Does P.shows P.version (λ _. ⊤) (command.Register name.now until) (state S.Store conn.old)
         (state S.Store conn.new) result }
 {
     let Some(ticket) = add_reader(conn, name, until)? else {

@@ -1,4 +1,5 @@
 use Rattle.std.proofs.Common.{ℕ, Option, Ok, subst}
+use Rattle.std.specs.Prelude.{⊤}
 use Rattle.sqlite.specs.Held.{state}
 use Rattle.office_core.specs.declared.command.Command.TheVariants as command
 use Rattle.office_rows.specs.Reading.{tables}
@@ -19,9 +20,9 @@ returns-in_err-ticket g c =
     let b = state g.S.Store c.add_reader.new.conn in
     let made = c.in_err-ticket.ensures.makes in
     let e = c.from_residual.ensures in
-    does_not g.P.Places.shows g.P.Places.version (command.Register c.args.name.now c.args.until) a b c.from_residual.result c.in_err-ticket.field-0.0
+    does_not g.P.Places.shows g.P.Places.version (λ _. ⊤) (command.Register c.args.name.now c.args.until) a b c.from_residual.result c.in_err-ticket.field-0.0
     (same_fault c.from_residual.result c.in_err-ticket.field-0.0 e.0 e.1) made.cut
-    (λ s sound it clean free. made.faults tt (tables g.P.Places.version s).desk it.desk tt (desk_legible g.P.Places.version s sound) clean free)
+    (λ s sound so it clean free. made.faults tt (tables g.P.Places.version s).desk it.desk tt (desk_legible g.P.Places.version s sound) clean free)
 
 pub returns-in_default : goal.returns-in_default
 returns-in_default g c =
@@ -29,12 +30,12 @@ returns-in_default g c =
     let b = state g.S.Store c.add_reader.new.conn in
     let asked = command.Register c.args.name.now c.args.until in
     let made = c.in_ok-ticket.ensures.makes in
-    subst (λ (k : Option ℕ). Does g.P.Places.shows g.P.Places.version asked a b (Ok (reply_for k))) c.in_default.is (record {
-      steps = λ clean s sound it. registers g.P.Places.version s sound c.args.name.now c.args.until g.P.Places.shows g.met.P.Places.shows_same a.now b.now c.requires.named c.requires.text it (made.goes.schema clean) (made.only clean)
+    subst (λ (k : Option ℕ). Does g.P.Places.shows g.P.Places.version (λ _. ⊤) asked a b (Ok (reply_for k))) c.in_default.is (record {
+      steps = λ clean s sound so it. registers g.P.Places.version s sound c.args.name.now c.args.until g.P.Places.shows g.met.P.Places.shows_same a.now b.now c.requires.named c.requires.text it (made.goes.schema clean) (made.only clean)
           c.in_ok-ticket.field-0 (c.in_ok-ticket.ensures.number clean (tables g.P.Places.version s).desk it.desk) (made.shows_made clean tt (tables g.P.Places.version s).desk it.desk tt);
       goes = made.goes;
       cut = tt;
-      faults = λ s sound it clean free. tt;
+      faults = λ s sound so it clean free. tt;
     })
 
 pub returns : goal.returns
@@ -43,10 +44,10 @@ returns g c =
     let b = state g.S.Store c.add_reader.new.conn in
     let asked = command.Register c.args.name.now c.args.until in
     let made = c.in_ok-ticket.ensures.makes in
-    subst (λ (k : Option ℕ). Does g.P.Places.shows g.P.Places.version asked a b (Ok (reply_for k))) c.in-Some.is (record {
-      steps = λ clean s sound it. registers g.P.Places.version s sound c.args.name.now c.args.until g.P.Places.shows g.met.P.Places.shows_same a.now b.now c.requires.named c.requires.text it (made.goes.schema clean) (made.only clean)
+    subst (λ (k : Option ℕ). Does g.P.Places.shows g.P.Places.version (λ _. ⊤) asked a b (Ok (reply_for k))) c.in-Some.is (record {
+      steps = λ clean s sound so it. registers g.P.Places.version s sound c.args.name.now c.args.until g.P.Places.shows g.met.P.Places.shows_same a.now b.now c.requires.named c.requires.text it (made.goes.schema clean) (made.only clean)
           c.in_ok-ticket.field-0 (c.in_ok-ticket.ensures.number clean (tables g.P.Places.version s).desk it.desk) (made.shows_made clean tt (tables g.P.Places.version s).desk it.desk tt);
       goes = made.goes;
       cut = tt;
-      faults = λ s sound it clean free. tt;
+      faults = λ s sound so it clean free. tt;
     })
