@@ -34,7 +34,7 @@ module _ (places : Trees → Forest ℕ → Type 0) (version : Version) (known :
       → Does places version later asked b c r → Does places version known asked a c r
   does_after later a b c r looked learns last =
       let still = λ (at_b : HasCleanDisk b) (s : State) (it : ShowsState places version a.now s).
-          subst (λ (db : Database). ShowsState places version db s) (sym (looked.same at_b)) it in
+      subst (λ (db : Database). ShowsState places version db s) (sym (looked.same at_b)) it in
       record {
         steps = λ clean s sound so it.
             let at_b = early b c _ (went r b c last.goes last.cut) clean in

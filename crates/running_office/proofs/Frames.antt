@@ -8,7 +8,7 @@ use Rattle.sqlite.specs.Tree.{Trees}
 use Rattle.tree_core.specs.Forest.{Forest, each}
 use Rattle.tree_core.specs.Versions.{Version}
 use Rattle.catalogue_core.specs.Merging.{Catalogue}
-use Rattle.catalogue_rows.specs.Shows.{Shows, catalogue_trees}
+use Rattle.catalogue_rows.specs.Shows.{Shows, ShowsOffice, catalogue_trees, described_trees}
 use Rattle.catalogue_rows.specs.declared.office.OfficeRow.{OfficeRow}
 use Rattle.desk_core.specs.DeskRows.{Desk}
 use Rattle.desk_store.specs.Shows.{ShowsDesk}
@@ -42,33 +42,42 @@ numbered_same : {R : Type 0} (cells : ℤ × R → Row) (there now : List Row) (
 numbered_same cells there now rows same has = subst (λ l. HasNumbered cells l rows) (sym same) has
 
 module _ (old new : Database) (touched : List ℕ) (only : OnlyTouches touched old new) where
-  pub catalogue_kept : (places : Trees → Forest ℕ → Type 0) → ((old new : Trees) (f : Forest ℕ) → new tables.link.tree ≡ old tables.link.tree → places old f → places new f)
-      → (version : Version) (o : OfficeRow) (c : Catalogue) → are_apart touched catalogue_trees ≡ true → new.schema ≡ old.schema → Shows places version old o c → Shows places version new o c
-  catalogue_kept places same version o c apart schema it =
-      let kept = untouched touched old new only catalogue_trees apart in
+  -- the office's own row may be another
+  pub catalogue_with_office : (places : Trees → Forest ℕ → Type 0) → ((old new : Trees) (f : Forest ℕ) → new tables.link.tree ≡ old tables.link.tree → places old f → places new f)
+      → (version : Version) (o p : OfficeRow) (c : Catalogue) → are_apart touched (tables.link.tree ∷ described_trees) ≡ true → new.schema ≡ old.schema
+      → ShowsOffice version new.trees p → p.next_unit ≡ c.next → Shows places version old o c → Shows places version new p c
+  catalogue_with_office places same version o p c apart schema office next it =
+      let kept = untouched touched old new only (tables.link.tree ∷ described_trees) apart in
       let k = it.catalogue in
       record {
         catalogue = record {
           schema_is = schema ∙ k.schema_is;
-          office = kept.0 ∙ k.office;
-          next = k.next;
-          units = record { units = k.units.units; rows = kept.1.1.0 ∙ k.units.rows; rise = k.units.rise; are = k.units.are };
+          office = office;
+          next = next;
+          units = record { units = k.units.units; rows = kept.1.0 ∙ k.units.rows; rise = k.units.rise; are = k.units.are };
           elements = record {
             elements = k.elements.elements;
-            rows = numbered_same _ _ _ _ kept.1.1.1.0 k.elements.rows;
+            rows = numbered_same _ _ _ _ kept.1.1.0 k.elements.rows;
             are = k.elements.are;
             others = k.elements.others;
           };
-          containers = kept.1.1.1.1.0 ∙ k.containers;
+          containers = kept.1.1.1.0 ∙ k.containers;
           housings = record {
             housings = k.housings.housings;
-            rows = numbered_same _ _ _ _ kept.1.1.1.1.1.0 k.housings.rows;
+            rows = numbered_same _ _ _ _ kept.1.1.1.1.0 k.housings.rows;
             are = k.housings.are;
             others = k.housings.others;
           };
         };
-        shown = same old.trees new.trees (each (λ u. u.id) c.forest) kept.1.0 it.shown;
+        shown = same old.trees new.trees (each (λ u. u.id) c.forest) kept.0 it.shown;
       }
+
+  pub catalogue_kept : (places : Trees → Forest ℕ → Type 0) → ((old new : Trees) (f : Forest ℕ) → new tables.link.tree ≡ old tables.link.tree → places old f → places new f)
+      → (version : Version) (o : OfficeRow) (c : Catalogue) → are_apart touched catalogue_trees ≡ true → new.schema ≡ old.schema → Shows places version old o c → Shows places version new o c
+  catalogue_kept places same version o c apart schema it =
+      let parts = and_parts _ (are_apart touched (tables.link.tree ∷ described_trees)) apart in
+      let kept = untouched touched old new only catalogue_trees apart in
+      catalogue_with_office places same version o o c parts.1 schema (kept.0 ∙ it.catalogue.office) it.catalogue.next it
 
   pub desk_kept : (d : Desk) → are_apart touched desk_trees ≡ true → ShowsDesk old.trees d → ShowsDesk new.trees d
   desk_kept d apart it =

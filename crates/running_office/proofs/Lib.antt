@@ -5,3 +5,5 @@ pub mod Frames
 pub mod NewTables
 pub mod NewOffices
 pub mod Registered
+pub mod StillOut
+pub mod DayOpened

@@ -15,7 +15,7 @@ use Rattle.running_office.specs.Opening.{ShowsNew, new_desk}
 use Rattle.running_office.specs.Shown.{ShowsState, office_of}
 
 -- nobody sits
-none_seated : (n k : ℕ) → seat_rows_from n (replicate k None) ≡ []
+pub none_seated : (n k : ℕ) → seat_rows_from n (replicate k None) ≡ []
 none_seated n zero = refl
 none_seated n (suc k) = none_seated (suc n) k
 

@@ -5,6 +5,7 @@ mod faults;
 mod founding;
 mod names;
 mod offices;
+mod opening;
 mod registering;
 mod settings;
 mod transactions;
