@@ -7,3 +7,5 @@ pub mod NewOffices
 pub mod Registered
 pub mod StillOut
 pub mod DayOpened
+pub mod RowsOfLists
+pub mod Renewed

@@ -1,8 +1,8 @@
 -- What is told of the containers that are out says whether there are any.
-use Rattle.std.proofs.Common.{◌≡◌, ◌⊎◌, inl, inr, ℕ, zero, suc, ◌+◌, Bool, true, false, not, nat_eq, List, [], ◌∷◌, Option, Some, None, refl, sym, ap, subst, ◌∙◌, arith}
-use Rattle.std.specs.Prelude.{filter_map, find, is_some, option_map, slice_get}
+use Rattle.std.proofs.Common.{◌≡◌, ℕ, true, false, not, nat_eq, List, [], ◌∷◌, Option, Some, None, refl, sym, ap, ◌∙◌}
+use Rattle.std.specs.Prelude.{filter_map, find, is_some, option_map}
 use Rattle.std.specs.List.{list_any}
-use Rattle.std.proofs.lemmas.Bool.{cases_Bool, false≢true}
+use Rattle.std.proofs.lemmas.Bool.{false≢true}
 use Rattle.desk_core.specs.DeskRows.{OrderRow}
 use Rattle.desk_core.specs.declared.reader.Place.{Place}
 use Rattle.desk_core.specs.declared.reader.Place.TheVariants.{Shelf, Desk, Out}
@@ -12,29 +12,18 @@ use Rattle.office_core.specs.SoundOffice.{IsSoundOffice}
 use Rattle.office_core.specs.State.{Order, State, containers, is_out}
 use Rattle.office_core.specs.Words.{is_empty, numbered}
 use Rattle.office_core.proofs.Words.{same_number}
-use Rattle.office_rows.specs.DeskShown.{holding_row, order_row, order_rows, rows_from}
+use Rattle.office_rows.specs.DeskShown.{holding_row, order_row, order_rows}
 use Rattle.office_rows.specs.Reading.{tables}
+use Rattle.running_office.proofs.RowsOfLists.{found_row}
 use Rattle.tree_core.specs.Versions.{Version}
 
-one_found : {A : Type 0} (p : A → Bool) (x : A) (xs : List A) → (p x ≡ true) ⊎ (is_some (find p xs) ≡ true) → is_some (find p (x ∷ xs)) ≡ true
-one_found p x xs (inl e) = rw e refl
-one_found p x xs (inr e) = elim (cases_Bool (p x)) [ inl t ↦ rw t refl | inr f ↦ rw f e ]
+some_mapped : {X Y : Type 0} (f : X → Y) (o : Option X) → is_some o ≡ true → is_some (option_map f o) ≡ true
+some_mapped f None h = absurd (cc)
+some_mapped f (Some x) h = refl
 
 module _ (s : State) where
-  row_found : (n j : ℕ) (xs : List Order) → is_some (slice_get xs j) ≡ true → is_some (find (λ (row : OrderRow). nat_eq (n + j) row.id) (rows_from (order_row s) n xs)) ≡ true
-  row_found n j [] h = absurd (cc)
-  row_found n zero (x ∷ xs) h =
-      one_found (λ (row : OrderRow). nat_eq (n + 0) row.id) (order_row s n x) (rows_from (order_row s) (suc n) xs)
-      (inl (let e : n + 0 ≡ n = omega arith in ap (λ k. nat_eq k n) e ∙ same_number n))
-  row_found n (suc j) (x ∷ xs) h =
-      one_found (λ (row : OrderRow). nat_eq (n + suc j) row.id) (order_row s n x) (rows_from (order_row s) (suc n) xs)
-      (inr (let e : suc n + j ≡ n + suc j = omega arith in subst (λ k. is_some (find (λ (row : OrderRow). nat_eq k row.id) (rows_from (order_row s) (suc n) xs)) ≡ true) e (row_found (suc n) j xs h)))
-
   order_found : (o : ℕ) → is_some (numbered s.orders o) ≡ true → is_some (find (λ (row : OrderRow). nat_eq o row.id) (order_rows s)) ≡ true
-  order_found zero h = absurd (cc)
-  order_found (suc j) h =
-      let e : 1 + j ≡ suc j = omega arith in
-      subst (λ k. is_some (find (λ (row : OrderRow). nat_eq k row.id) (order_rows s)) ≡ true) e (row_found 1 j s.orders h)
+  order_found o h = ap is_some (found_row (order_row s) (λ (row : OrderRow). row.id) (λ n x. refl) o s.orders) ∙ some_mapped (order_row s o) (numbered s.orders o) h
 
   module _ (sound : IsSoundOffice s) where
     -- what a container is out with is an order

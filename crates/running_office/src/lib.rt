@@ -7,6 +7,7 @@ mod names;
 mod offices;
 mod opening;
 mod registering;
+mod renewing;
 mod settings;
 mod transactions;
 
