@@ -29,7 +29,7 @@ open_fault_of store.Memory = fault.Memory
 open_fault_of store.Disk = fault.Disk
 open_fault_of store.Schema = fault.Schema
 
--- memory may be wanting at any time, the disk is blamed for its own failures, and tables that are none of ours never are
+-- memory may be wanting at any time, the disk is blamed for its own failures, and the tables never are
 abbrev pub HasOpenCause : State → State → OpenFault → Type 0
 HasOpenCause old new fault.Memory = HasCause old new store.Memory
 HasOpenCause old new fault.Disk = HasCause old new store.Disk

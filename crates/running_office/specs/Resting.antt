@@ -14,8 +14,8 @@ use Rattle.office_tables.specs.Step.{IsBack}
 use Rattle.office_tables.specs.Transactions.{IsStopped}
 use Rattle.running_office.specs.Shown.{ShowsState}
 
--- No transaction is open; and while the connection is open, it has our tables as they were committed, and what is kept of
--- the settings, the day and the next unit number is what they tell.
+-- No transaction is open; and while the connection is open, it has our tables as they were committed, and what is known
+-- of the settings, the day and the next unit number is what they tell.
 pub record IsAtRest (version : Version) (known : OfficeRow) (at : store.State) : Type 0 where
   pub ended : at.in_transaction ≡ false
   pub schema_is : IsTrue at.is_open → at.now.schema ≡ schema version

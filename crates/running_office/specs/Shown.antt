@@ -24,7 +24,7 @@ office_of s = record {
   next_unit = s.catalogue.next;
 }
 
--- The catalogue's tables show its catalogue and its settings, the desk's have its rows, and its texts can be read back.
+-- The catalogue's tables show its catalogue and its settings, the desk's have its rows, and its texts are UTF-8.
 pub record ShowsState (places : Trees → Forest ℕ → Type 0) (version : Version) (db : Database) (s : State) : Type 0 where
   pub catalogue : Shows places version db (office_of s) s.catalogue
   pub desk : ShowsDesk db.trees (tables version s).desk

@@ -62,9 +62,11 @@ impl<P: Places, S: Alter> Office<P, S> {
             → IfErr result (λ e. HasCleanDisk (state S.Store e.1)
             → HasOpenCause (state S.Store conn) (state S.Store e.1) e.0) }
         ensures crash { IfOk result (λ office. Survives (state S.Store conn) (state S.Store office)
-            (λ db. ShowsState P.shows P.version (record { schema = schema P.version; trees = db }) (founded settings))) }
+            (λ db. ShowsState P.shows P.version (record { schema = schema P.version; trees = db })
+            (founded settings))) }
         ensures crash_back { IfErr result (λ e. Survives (state S.Store conn) (state S.Store e.1)
-            (λ db. ShowsState P.shows P.version (record { schema = schema P.version; trees = db }) (founded settings))) }
+            (λ db. ShowsState P.shows P.version (record { schema = schema P.version; trees = db })
+            (founded settings))) }
     {
         let mut conn = conn;
         let known = settings.into_row();
