@@ -1,0 +1,11 @@
+pub mod Crashes
+pub mod DeskSteps
+pub mod Doings
+pub mod Frames
+pub mod NewTables
+pub mod NewOffices
+pub mod Registered
+pub mod StillOut
+pub mod DayOpened
+pub mod RowsOfLists
+pub mod Renewed

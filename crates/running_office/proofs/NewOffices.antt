@@ -1,0 +1,33 @@
+-- The tables of a new office show it.
+use Rattle.std.proofs.Common.{◌≡◌, ℕ, zero, suc, List, [], replicate, None, refl, sym, ap, subst}
+use Rattle.sqlite.specs.Effect.{Database}
+use Rattle.sqlite.specs.Tree.{Trees}
+use Rattle.tree_core.specs.Forest.{Forest}
+use Rattle.tree_core.specs.Versions.{Version}
+use Rattle.desk_core.specs.DeskRows.{SeatRow}
+use Rattle.desk_store.specs.Shows.{ShowsDesk}
+use Rattle.office_core.specs.SoundOffice.{IsSoundOffice}
+use Rattle.office_core.proofs.Texts.{starts_sound_office}
+use Rattle.office_rows.specs.DeskShown.{seat_rows_from}
+use Rattle.office_rows.specs.Reading.{tables}
+use Rattle.running_office.specs.Founding.{Founding, IsGood, founded}
+use Rattle.running_office.specs.Opening.{ShowsNew, new_desk}
+use Rattle.running_office.specs.Shown.{ShowsState, office_of}
+
+-- nobody sits
+pub none_seated : (n k : ℕ) → seat_rows_from n (replicate k None) ≡ []
+none_seated n zero = refl
+none_seated n (suc k) = none_seated (suc n) k
+
+pub founded_sound : (f : Founding) → IsGood f → IsSoundOffice (founded f)
+founded_sound f good = starts_sound_office f.settings f.day good.settings good.day
+
+desk_is : (version : Version) (f : Founding) → new_desk ≡ (tables version (founded f)).desk
+desk_is version f = ap (λ (seats : List SeatRow). record new_desk { seats = seats }) (sym (none_seated 1 f.settings.seats))
+
+pub shows_founded : (places : Trees → Forest ℕ → Type 0) (version : Version) (db : Database) (f : Founding) → IsGood f → ShowsNew places version db (office_of (founded f)) → ShowsState places version db (founded f)
+shows_founded places version db f good it = record {
+  catalogue = it.catalogue;
+  desk = subst (ShowsDesk db.trees) (desk_is version f) it.desk;
+  texts = (founded_sound f good).texts;
+}

@@ -1,0 +1,105 @@
+-- A ticket that gets another last day, in the rows of the desk.
+use Rattle.std.proofs.Common.{◌≡◌, ℕ, zero, suc, ◌+◌, ◌<◌, true, false, nat_eq, List, [], ◌∷◌, length, map, Option, Some, None, Ok, Err, refl, sym, ap, subst, ◌∙◌, arith}
+use Rattle.std.specs.Prelude.{ℤ, is_some, option_map}
+use Rattle.std.specs.List.{flat_map}
+use Rattle.std.proofs.lemmas.Bool.Decides.{nat_tests}
+use Rattle.sqlite.specs.Effect.{Database}
+use Rattle.sqlite.specs.Tree.{Trees}
+use Rattle.tree_core.specs.Forest.{Forest}
+use Rattle.tree_core.specs.Versions.{Version}
+use Rattle.desk_core.specs.DeskRows.{PermitRow, ReaderRow}
+use Rattle.desk_core.specs.declared.refusal.Refusal.TheVariants.{UnknownTicket}
+use Rattle.desk_store.specs.Readers.{card_of, with_last_day}
+use Rattle.desk_store.specs.Readers as store
+use Rattle.desk_store.specs.Shows.{ShowsDesk}
+use Rattle.office_core.specs.Rules.{Reply, after, refusal, renewed}
+use Rattle.office_core.specs.SoundOffice.{AreTexts}
+use Rattle.office_core.specs.State.{Reader, State, is_ticket}
+use Rattle.office_core.specs.Words.{numbered, numbers_to}
+use Rattle.office_core.specs.declared.command.Command.{Command}
+use Rattle.office_core.specs.declared.command.Command.TheVariants as command
+use Rattle.office_core.specs.declared.done.Done.TheVariants as done
+use Rattle.office_core.proofs.Texts.{always_texts}
+use Rattle.office_core.proofs.Words.{same_number}
+use Rattle.office_rows.specs.DeskShown.{permit_row, permit_rows, reader_row, rows_from}
+use Rattle.office_rows.specs.Reading.{tables}
+use Rattle.office_tables.specs.Schema as schema
+use Rattle.office_tables.specs.Step.{OnlyTouches}
+use Rattle.running_office.specs.Doing.{DoesStep}
+use Rattle.running_office.specs.Shown.{ShowsState}
+use Rattle.running_office.proofs.DeskSteps.{desk_step}
+use Rattle.running_office.proofs.Doings.{accepted, refused}
+use Rattle.running_office.proofs.RowsOfLists.{found_row}
+
+other : (n j : ℕ) → nat_eq (n + suc j) n ≡ false
+other n j = grind (arith, nat_tests)
+
+before : (n t : ℕ) → t < n → nat_eq t n ≡ false
+before n t less = grind (arith, nat_tests, less)
+
+-- rows with greater numbers stay
+later_stay : (until : ℤ) (t n : ℕ) (xs : List Reader) → t < n → store.renewed t until (rows_from reader_row n xs) ≡ rows_from reader_row n xs
+later_stay until t n [] less = refl
+later_stay until t n (x ∷ xs) less = rw (before n t less) (ap (λ rows. reader_row n x ∷ rows) (later_stay until t (suc n) xs (omega (arith, less))))
+
+renewed_from : (until : ℤ) (n j : ℕ) (xs : List Reader) → rows_from reader_row n (renewed until xs (suc j)) ≡ store.renewed (n + j) until (rows_from reader_row n xs)
+renewed_from until n j [] = refl
+renewed_from until n zero (x ∷ xs) =
+    let e : n ≡ n + 0 = omega arith in
+    subst (λ k. record { ticket = n; name = x.name; until = until } ∷ rows_from reader_row (suc n) xs ≡ store.renewed k until (reader_row n x ∷ rows_from reader_row (suc n) xs)) e
+    (rw (same_number n) (ap (λ rows. record { ticket = n; name = x.name; until = until } ∷ rows) (sym (later_stay until n (suc n) xs (omega arith)))))
+renewed_from until n (suc j) (x ∷ xs) =
+    let e : suc n + j ≡ n + suc j = omega arith in
+    rw (other n j) (ap (λ rows. reader_row n x ∷ rows) (subst (λ k. rows_from reader_row (suc n) (renewed until xs (suc j)) ≡ store.renewed k until (rows_from reader_row (suc n) xs)) e (renewed_from until (suc n) j xs)))
+
+renewed_rows : (until : ℤ) (t : ℕ) (xs : List Reader) → is_some (numbered xs t) ≡ true → rows_from reader_row 1 (renewed until xs t) ≡ store.renewed t until (rows_from reader_row 1 xs)
+renewed_rows until zero xs h = absurd (cc)
+renewed_rows until (suc j) xs h = let e : 1 + j ≡ suc j = omega arith in subst (λ k. rows_from reader_row 1 (renewed until xs (suc j)) ≡ store.renewed k until (rows_from reader_row 1 xs)) e (renewed_from until 1 j xs)
+
+as_many : (until : ℤ) (xs : List Reader) (t : ℕ) → length (renewed until xs t) ≡ length xs
+as_many until xs zero = refl
+as_many until [] (suc n) = refl
+as_many until (x ∷ xs) (suc zero) = refl
+as_many until (x ∷ xs) (suc (suc n)) = ap suc (as_many until xs (suc n))
+
+some_mapped : {X Y : Type 0} (f : X → Y) (o : Option X) → is_some (option_map f o) ≡ is_some o
+some_mapped f None = refl
+some_mapped f (Some x) = refl
+
+module _ (version : Version) (s : State) (t : ℕ) (until : ℤ) where
+  abbrev asked : Command
+  asked = command.Renew t until
+
+  abbrev next : State
+  next = after s asked
+
+  -- who has a card has a ticket
+  pub has_card : (today : ℤ) → is_some (card_of t today (tables version s).desk) ≡ is_ticket s t
+  has_card today = some_mapped _ _ ∙ ap is_some (found_row reader_row (λ (r : ReaderRow). r.ticket) (λ n x. refl) t s.readers) ∙ some_mapped (reader_row t) (numbered s.readers t)
+
+  permits_same : permit_rows next ≡ permit_rows s
+  permits_same = ap (λ n. flat_map (λ t. map (permit_row t) (s.permits t)) (numbers_to n)) (as_many until s.readers t)
+
+  desk_after : is_ticket s t ≡ true → (tables version next).desk ≡ with_last_day t until (tables version s).desk
+  desk_after known =
+      ap (λ (rows : List ReaderRow). record (tables version next).desk { readers = rows }) (renewed_rows until t s.readers known)
+      ∙ ap (λ (rows : List PermitRow). record (with_last_day t until (tables version s).desk) { permits = rows }) permits_same
+
+  pub not_known : (places : Trees → Forest ℕ → Type 0) (db : Database) → is_ticket s t ≡ false → DoesStep places version s asked (Err UnknownTicket) db
+  not_known places db unknown =
+      let why : refusal s asked ≡ Some UnknownTicket = rw unknown refl in
+      record { told = sym (ap (λ (p : State × Reply). p.1) (refused s asked UnknownTicket why)); shows = λ ok. absurd (cc) }
+
+  pub renews : (places : Trees → Forest ℕ → Type 0) → ((old new : Trees) (f : Forest ℕ) → new schema.link.tree ≡ old schema.link.tree → places old f → places new f)
+      → (before now : Database) → is_ticket s t ≡ true → ShowsState places version before s → now.schema ≡ before.schema → OnlyTouches (schema.reader.tree ∷ []) before now
+      → ShowsDesk now.trees (with_last_day t until (tables version s).desk) → DoesStep places version s asked (Ok (done.Renew t)) now
+  renews places same before now known it schema_is only shown =
+      let why : refusal s asked ≡ None = rw known refl in
+      let one = accepted s asked why in
+      let texts = always_texts s (asked ∷ []) (tt, tt) it.texts in
+      record {
+        told = sym (ap (λ (p : State × Reply). p.1) one);
+        shows = λ ok. subst (ShowsState places version now) (sym (ap (λ (p : State × Reply). p.0) one))
+            (desk_step places same version s next before now (schema.reader.tree ∷ []) refl schema_is only it (with_last_day t until (tables version s).desk) shown (desk_after known) refl refl
+            (subst (λ (p : State × Reply). AreTexts p.0) one texts));
+      }

@@ -1,0 +1,37 @@
+use Rattle.std.proofs.Common.{subst}
+use Rattle.sqlite.specs.Held.{state}
+use Rattle.sqlite.proofs.StateLemmas.{survives_weaker}
+use Rattle.catalogue_rows.specs.declared.office.OfficeRow.{OfficeRow}
+use Rattle.office_tables.specs.Schema.{schema}
+use Rattle.running_office.specs.Opening.{ShowsNew}
+use Rattle.running_office.proofs.NewOffices.{founded_sound, shows_founded}
+use Rattle.running_office.proofs.offices.Office.create.Goals as goal
+
+pub returns-then-not-is_blank-clause-sound : goal.returns-then-not-is_blank-clause-sound
+returns-then-not-is_blank-clause-sound g c = founded_sound c.args.settings c.into_row-known.ensures.good
+
+pub returns-in-Ok-clause-sound : goal.returns-in-Ok-clause-sound
+returns-in-Ok-clause-sound g c = founded_sound c.args.settings c.into_row-known.ensures.good
+
+pub returns-in-Err-clause-sound : goal.returns-in-Err-clause-sound
+returns-in-Err-clause-sound g c = founded_sound c.args.settings c.into_row-known.ensures.good
+
+pub returns-in-Ok-clause-shows : goal.returns-in-Ok-clause-shows
+returns-in-Ok-clause-shows g c clean opened =
+    let d = state g.S.Store c.found.new.conn in
+    let new = subst (λ (row : OfficeRow). ShowsNew g.P.Places.shows g.P.Places.version d.now row) c.into_row-known.ensures.row (c.in-Ok.ensures.shows clean opened) in
+    shows_founded g.P.Places.shows g.P.Places.version d.now c.args.settings c.into_row-known.ensures.good new
+
+pub returns-in-Ok-clause-crash : goal.returns-in-Ok-clause-crash
+returns-in-Ok-clause-crash g c =
+    survives_weaker (state g.S.Store c.args.conn) (state g.S.Store c.found.new.conn) _ _
+    (λ clean db new. shows_founded g.P.Places.shows g.P.Places.version (record { schema = schema g.P.Places.version; trees = db }) c.args.settings c.into_row-known.ensures.good
+    (subst (λ (row : OfficeRow). ShowsNew g.P.Places.shows g.P.Places.version (record { schema = schema g.P.Places.version; trees = db }) row) c.into_row-known.ensures.row new))
+    c.in-Ok.ensures.crash
+
+pub returns-in-Err-clause-crash_back : goal.returns-in-Err-clause-crash_back
+returns-in-Err-clause-crash_back g c =
+    survives_weaker (state g.S.Store c.args.conn) (state g.S.Store c.found.new.conn) _ _
+    (λ clean db new. shows_founded g.P.Places.shows g.P.Places.version (record { schema = schema g.P.Places.version; trees = db }) c.args.settings c.into_row-known.ensures.good
+    (subst (λ (row : OfficeRow). ShowsNew g.P.Places.shows g.P.Places.version (record { schema = schema g.P.Places.version; trees = db }) row) c.into_row-known.ensures.row new))
+    c.in-Err.ensures.crash

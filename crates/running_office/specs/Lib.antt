@@ -1,0 +1,6 @@
+pub mod Founding
+pub mod Shown
+pub mod Resting
+pub mod Opening
+pub mod Doing
+pub mod Sight

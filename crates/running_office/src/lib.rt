@@ -1,0 +1,16 @@
+//! An office over its tables: one command, one transaction, one step.
+#![tactic(auto)]
+
+mod faults;
+mod founding;
+mod names;
+mod offices;
+mod opening;
+mod registering;
+mod renewing;
+mod settings;
+mod transactions;
+
+pub use faults::OpenFault;
+pub use offices::Office;
+pub use settings::{Settings, SettingsFault};
