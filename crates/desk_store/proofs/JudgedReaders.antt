@@ -35,7 +35,8 @@ use Rattle.office_tables.specs.Schema.{schema, reader}
 use Rattle.office_tables.proofs.Causes.{read_cause, none_refuse, sums_nothing}
 use Rattle.office_tables.proofs.CellTexts.{from_first}
 use Rattle.office_tables.proofs.Rows.{kept_all}
-use Rattle.office_tables.proofs.statements.SelectOf.{asking, select_rows}
+use Rattle.office_tables.proofs.Queries.{asking}
+use Rattle.office_tables.proofs.statements.SelectOf.{select_rows}
 use Rattle.desk_store.specs.Doubts.{is_reader_with, is_reader_answer, are_reader_answers, are_registered_well, readers_in, readers_are_doubtful}
 use Rattle.office_tables.proofs.ByNumber.{by, by_key, read_by_number, any_read, any_ordered, length_read, length_ordered}
 

@@ -16,27 +16,13 @@ use Rattle.office_tables.specs.Schema as tables
 use Rattle.office_tables.specs.Flags.{flag}
 use Rattle.office_tables.specs.Numbered.{HasNumbered}
 use Rattle.office_tables.specs.Permits.{permit_cells}
-use Rattle.office_tables.specs.Shared.{box_cells, office_cells}
+use Rattle.office_tables.specs.Shared.{container_row, office_cells}
 use Rattle.office_rows.specs.Causes.{first_held, MeetsKeys}
 use Rattle.office_rows.specs.CellCauses.{rows_in, unread, cell_cause}
 use Rattle.office_rows.specs.Judged.{IsCatalogueOf}
 use Rattle.office_rows.specs.Reading.{OfficeRows, tables as tables_of, state_of}
 
 -- ---- the cells of a row: its rowid and then its columns. The column that is the INTEGER PRIMARY KEY is kept as NULL.
-
-abbrev pub office_row_cells : OfficeRow → Row
-office_row_cells row =
-    office_cells (record {
-      version = row.version;
-      country = row.country;
-      repo = row.repo;
-      seats = row.seats;
-      daily = row.daily;
-      hands = row.hands;
-      run_size = row.run_size;
-      day = row.day;
-      next_unit = row.next_unit;
-    })
 
 abbrev pub unit_cells : UnitRow → Row
 unit_cells row =
@@ -47,7 +33,7 @@ abbrev pub element_cells : ℤ × ElementRow → Row
 element_cells (n, row) = Int n ∷ Int (pos row.unit) ∷ Int (pos row.k) ∷ Text row.value ∷ []
 
 abbrev pub container_cells : ContainerRow → Row
-container_cells row = box_cells (row.id, box_from row)
+container_cells row = container_row (row.id, box_from row)
 
 abbrev pub housing_cells : ℤ × HousingRow → Row
 housing_cells (n, row) = Int n ∷ Int (pos row.unit) ∷ Int (pos row.ord) ∷ Int (pos row.container) ∷ []
@@ -108,7 +94,7 @@ pub record HasDesk (db : Trees) (d : Desk) : Type 0 where
   pub permits : HasNumbered permit_cells (db tables.permit.tree) d.permits
 
 pub record HasTables (db : Trees) (t : OfficeRows) : Type 0 where
-  pub office : db tables.office.tree ≡ office_row_cells t.office ∷ []
+  pub office : db tables.office.tree ≡ office_cells t.office ∷ []
   pub catalogue : HasCatalogue db t.catalogue
   pub desk : HasDesk db t.desk
 

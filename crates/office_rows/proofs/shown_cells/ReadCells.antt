@@ -21,7 +21,8 @@ use Rattle.office_tables.specs.Numbered.{HasNumbered}
 use Rattle.office_tables.specs.Permits.{permit_cells}
 use Rattle.office_tables.proofs.CellTexts.{says_text}
 use Rattle.office_rows.specs.CellJudged.{IsLegibleUnitRow, IsLegibleContainerRow}
-use Rattle.office_rows.specs.CellsOfOffices.{HasRows, office_row_cells, unit_cells, element_cells, container_cells, housing_cells, link_cells, span_cells, reader_cells, seat_cells, order_cells, holding_cells, run_cells, run_line_cells}
+use Rattle.office_tables.specs.Shared.{office_cells}
+use Rattle.office_rows.specs.CellsOfOffices.{HasRows, unit_cells, element_cells, container_cells, housing_cells, link_cells, span_cells, reader_cells, seat_cells, order_cells, holding_cells, run_cells, run_line_cells}
 
 -- ---- cells
 
@@ -39,7 +40,7 @@ number_back (Some n) = refl
 
 -- ---- rows
 
-pub office_back : (row : OfficeRow) → IsUtf8 row.country → IsUtf8 row.repo → read_office (office_row_cells row) ≡ Some row
+pub office_back : (row : OfficeRow) → IsUtf8 row.country → IsUtf8 row.repo → read_office (office_cells row) ≡ Some row
 office_back row country repo =
     ap (λ o. from o (λ c. from (text_in (Text row.repo)) (λ r. Some (record row { country = c; repo = r })))) (says_text row.country country)
     ∙ ap (λ o. from o (λ r. Some (record row { repo = r }))) (says_text row.repo repo)

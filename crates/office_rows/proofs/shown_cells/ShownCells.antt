@@ -25,7 +25,8 @@ use Rattle.office_tables.specs.Permits.{permit_cells}
 use Rattle.office_rows.specs.Causes.{catalogue_tests, desk_tests, cause, first_held}
 use Rattle.office_rows.specs.CellCauses.{rows_in, unread, either_of, no_office}
 use Rattle.office_rows.specs.CellJudged.{AreLegibleRows, IsLegibleUnitRow, IsLegibleContainerRow}
-use Rattle.office_rows.specs.CellsOfOffices.{HasTables, IsRead, IsTold, SoundOfficesAreRead, SoundOfficesAreTold, office_row_cells, unit_cells, element_cells, container_cells, housing_cells, reader_cells, seat_cells, order_cells, holding_cells, run_cells, run_line_cells}
+use Rattle.office_tables.specs.Shared.{office_cells}
+use Rattle.office_rows.specs.CellsOfOffices.{HasTables, IsRead, IsTold, SoundOfficesAreRead, SoundOfficesAreTold, unit_cells, element_cells, container_cells, housing_cells, reader_cells, seat_cells, order_cells, holding_cells, run_cells, run_line_cells}
 use Rattle.office_rows.specs.Reading.{OfficeRows, tables as tables_of, state_of, number_of}
 use Rattle.office_rows.proofs.DeskPasses.{desk_passes}
 use Rattle.office_rows.proofs.JudgedWhole.{tables_are_shown}
@@ -113,7 +114,7 @@ module _ (version : Version) (db : Trees) (s : State) (has : HasTables db (table
   permits = numbered_read read_permit permit_cells (λ _. ⊤) (λ row h. permit_back row) (db tables.permit.tree) t.desk.permits has.desk.permits (λ row i. tt)
 
   office_all : has_unread read_office (db tables.office.tree) ≡ false
-  office_all = ap (has_unread read_office) has.office ∙ or_from (is_none (read_office (office_row_cells t.office))) false (ap is_none (office_back t.office texts.country texts.repo)) refl
+  office_all = ap (has_unread read_office) has.office ∙ or_from (is_none (read_office (office_cells t.office))) false (ap is_none (office_back t.office texts.country texts.repo)) refl
 
   office_same : (rows_in version db).office ≡ t.office
   office_same =

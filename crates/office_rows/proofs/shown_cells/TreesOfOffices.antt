@@ -14,7 +14,8 @@ use Rattle.office_tables.specs.Numbered.{HasNumbered}
 use Rattle.office_tables.specs.Order.{Rises}
 use Rattle.office_tables.specs.Permits.{permit_cells}
 use Rattle.office_tables.proofs.numbered.Counted.{below_less}
-use Rattle.office_rows.specs.CellsOfOffices.{HasRows, HasPlaces, HasTables, IsShownByTrees, office_row_cells, unit_cells, element_cells, container_cells, housing_cells, link_cells, span_cells, reader_cells, seat_cells, order_cells, holding_cells, run_cells, run_line_cells}
+use Rattle.office_tables.specs.Shared.{office_cells}
+use Rattle.office_rows.specs.CellsOfOffices.{HasRows, HasPlaces, HasTables, IsShownByTrees, unit_cells, element_cells, container_cells, housing_cells, link_cells, span_cells, reader_cells, seat_cells, order_cells, holding_cells, run_cells, run_line_cells}
 use Rattle.office_rows.specs.Reading.{OfficeRows, tables as tables_of}
 
 module _ {R : Type 0} where
@@ -49,7 +50,7 @@ place_cells (SpanRows spans) = map span_cells spans
 
 abbrev trees_of : OfficeRows → Trees
 trees_of t tree =
-    cond (nat_eq tree tables.office.tree) (office_row_cells t.office ∷ [])
+    cond (nat_eq tree tables.office.tree) (office_cells t.office ∷ [])
     (cond (nat_eq tree tables.unit.tree) (map unit_cells t.catalogue.units)
     (cond (nat_eq tree tables.link.tree) (place_cells t.catalogue.places)
     (cond (nat_eq tree tables.element.tree) (map element_cells (counted_from 1 t.catalogue.elements))
