@@ -97,5 +97,7 @@ module _ (old new : Database) (touched : List ℕ) (only : OnlyTouches touched o
         run_numbers = it.run_numbers;
         few_runs = it.few_runs;
         run_lines = numbered_same _ _ _ _ kept.1.1.1.1.1.0 it.run_lines;
+        line_runs = it.line_runs;
         permits = numbered_same _ _ _ _ kept.1.1.1.1.1.1.0 it.permits;
+        permit_tickets = it.permit_tickets;
       }

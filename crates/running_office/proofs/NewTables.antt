@@ -37,5 +37,7 @@ shows_none a b new made clean kept =
       run_numbers = tt;
       few_runs = omega arith;
       run_lines = record { numbered = []; are = kept.1.1.1.1.1.0 ∙ none.1.1.1.1.1.0; rise = tt; tell = IsPermutation-refl [] };
+      line_runs = tt;
       permits = record { numbered = []; are = kept.1.1.1.1.1.1.0 ∙ none.1.1.1.1.1.1.0; rise = tt; tell = IsPermutation-refl [] };
+      permit_tickets = tt;
     }
