@@ -20,7 +20,7 @@ abbrev pub orders_text : List ℕ
 orders_text = codes "CREATE TABLE orders (id INTEGER PRIMARY KEY, ticket INTEGER NOT NULL, container INTEGER NOT NULL, day INTEGER NOT NULL, state INTEGER NOT NULL) STRICT"
 
 abbrev pub orders_by_state_text : List ℕ
-orders_by_state_text = codes "CREATE INDEX orders_by_state ON orders (state, container)"
+orders_by_state_text = codes "CREATE INDEX orders_by_state ON orders (state, container, ticket)"
 
 abbrev pub orders_by_ticket_text : List ℕ
 orders_by_ticket_text = codes "CREATE INDEX orders_by_ticket ON orders (ticket, day)"

@@ -52,7 +52,7 @@ fn create_orders<S: Alter>(conn: &mut Connection<S>) -> Result<(), StoreFault>
     )?;
     create_index(
         conn,
-        "CREATE INDEX orders_by_state ON orders (state, container)",
+        "CREATE INDEX orders_by_state ON orders (state, container, ticket)",
     )?;
     create_index(
         conn,

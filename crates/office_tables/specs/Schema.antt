@@ -86,7 +86,7 @@ permit = table (codes "permit") 10 None (number (codes "ticket") ∷ number (cod
 
 -- those that wait are few among those of the past
 abbrev pub orders_by_state : Index
-orders_by_state = index (codes "orders_by_state") 4 orders (5 ∷ 3 ∷ [])
+orders_by_state = index (codes "orders_by_state") 4 orders (5 ∷ 3 ∷ 2 ∷ [])
 
 abbrev pub orders_by_ticket : Index
 orders_by_ticket = index (codes "orders_by_ticket") 5 orders (2 ∷ 4 ∷ [])

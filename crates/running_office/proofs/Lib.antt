@@ -1,11 +1,2 @@
-pub mod Crashes
-pub mod DeskSteps
-pub mod Doings
-pub mod Frames
 pub mod NewTables
 pub mod NewOffices
-pub mod Registered
-pub mod StillOut
-pub mod DayOpened
-pub mod RowsOfLists
-pub mod Renewed

@@ -8,16 +8,11 @@ use Rattle.desk_core.specs.DeskRows.{SeatRow}
 use Rattle.desk_store.specs.Shows.{ShowsDesk}
 use Rattle.office_core.specs.SoundOffice.{IsSoundOffice}
 use Rattle.office_core.proofs.Texts.{starts_sound_office}
-use Rattle.office_rows.specs.DeskShown.{seat_rows_from}
 use Rattle.office_rows.specs.Reading.{tables}
+use Rattle.shown_office.proofs.EmptySeats.{none_seated}
 use Rattle.running_office.specs.Founding.{Founding, IsGood, founded}
 use Rattle.running_office.specs.Opening.{ShowsNew, new_desk}
-use Rattle.running_office.specs.Shown.{ShowsState, office_of}
-
--- nobody sits
-pub none_seated : (n k : ℕ) → seat_rows_from n (replicate k None) ≡ []
-none_seated n zero = refl
-none_seated n (suc k) = none_seated (suc n) k
+use Rattle.shown_office.specs.Shown.{ShowsState, office_of}
 
 pub founded_sound : (f : Founding) → IsGood f → IsSoundOffice (founded f)
 founded_sound f good = starts_sound_office f.settings f.day good.settings good.day

@@ -12,7 +12,7 @@ use Rattle.office_tables.specs.Faults.{IsUnlimited}
 use Rattle.office_tables.specs.Schema.{schema}
 use Rattle.office_tables.specs.Step.{IsBack}
 use Rattle.office_tables.specs.Transactions.{IsStopped}
-use Rattle.running_office.specs.Shown.{ShowsState}
+use Rattle.shown_office.specs.Shown.{ShowsState}
 
 -- No transaction is open; and while the connection is open, it has our tables as they were committed, and what is known
 -- of the settings, the day and the next unit number is what they tell.

@@ -5,9 +5,6 @@ mod faults;
 mod founding;
 mod names;
 mod offices;
-mod opening;
-mod registering;
-mod renewing;
 mod settings;
 mod transactions;
 

@@ -9,7 +9,7 @@ ghost use Rattle.office_tables.specs.Schema.{no_schema, schema};
 ghost use Rattle.running_office.specs.Founding.{founded};
 ghost use Rattle.running_office.specs.Opening.{HasOpenCause};
 ghost use Rattle.running_office.specs.Resting.{IsAsBefore, IsIn};
-ghost use Rattle.running_office.specs.Shown.{ShowsState};
+ghost use Rattle.shown_office.specs.Shown.{ShowsState};
 
 use crate::faults::OpenFault;
 use crate::founding::found;

@@ -5,7 +5,7 @@ ghost use Rattle.std.specs.List.{list_all};
 ghost use Rattle.catalogue_core.specs.Sources.{is_between as lies_between};
 ghost use Rattle.office_core.specs.Soundness.{is_country as is_country_code, is_repository as is_repository_code};
 ghost use Rattle.running_office.specs.Founding.{AreTaken, IsGood, founded};
-ghost use Rattle.running_office.specs.Shown.{office_of};
+ghost use Rattle.shown_office.specs.Shown.{office_of};
 
 use catalogue_rows::OfficeRow;
 use isad_core::{Day, Text};

@@ -3,7 +3,7 @@ use Rattle.sqlite.specs.Held.{state}
 use Rattle.office_tables.specs.Step.{Continues, IsCut}
 use Rattle.office_tables.proofs.CallEnds.{excused_then}
 use Rattle.office_tables.proofs.Calls.{early, continues_then, cut_then, on_ok_then, on_ok_both, on_err_then}
-use Rattle.running_office.proofs.Crashes.{continued}
+use Rattle.shown_office.proofs.Crashes.{continued}
 use Rattle.running_office.proofs.NewTables.{making, made_desk, shows_none}
 use Rattle.running_office.proofs.founding.make_tables.Goals as goal
 

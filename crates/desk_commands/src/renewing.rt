@@ -5,7 +5,7 @@ ghost use Rattle.sqlite.specs.Held.{state};
 ghost use Rattle.office_core.specs.State.{is_ticket};
 ghost use Rattle.office_core.specs.declared.command.Command.TheVariants as command;
 ghost use Rattle.office_tables.specs.Step.{InTransaction};
-ghost use Rattle.running_office.specs.Doing.{Does};
+ghost use Rattle.shown_office.specs.Doing.{Does};
 
 use catalogue_store::Places;
 use desk_store::{reader, renew};
@@ -31,7 +31,7 @@ fn set_last_day<P: Places, S: Alter>(
 }
 
 /// Gives a ticket another last day, where the ticket was given.
-pub(crate) fn renew_ticket<P: Places, S: Alter>(
+pub fn renew_ticket<P: Places, S: Alter>(
     alloc: Global,
     conn: &mut Connection<S>,
     today: Day,

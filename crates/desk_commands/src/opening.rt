@@ -7,7 +7,7 @@ ghost use Rattle.office_core.specs.State.{containers, is_out};
 ghost use Rattle.office_core.specs.Words.{is_empty};
 ghost use Rattle.office_core.specs.declared.command.Command.TheVariants as command;
 ghost use Rattle.office_tables.specs.Step.{InTransaction};
-ghost use Rattle.running_office.specs.Doing.{Does};
+ghost use Rattle.shown_office.specs.Doing.{Does};
 
 use catalogue_store::Places;
 use desk_store::{Loan, issued, open_day};
@@ -39,7 +39,7 @@ fn begin_day<P: Places, S: Alter>(
 }
 
 /// Begins another day, which is known to be later.
-pub(crate) fn open<P: Places, S: Alter>(
+pub fn open<P: Places, S: Alter>(
     alloc: Global,
     conn: &mut Connection<S>,
     day: Day,

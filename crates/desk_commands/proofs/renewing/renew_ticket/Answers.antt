@@ -7,9 +7,9 @@ use Rattle.office_rows.specs.Reading.{tables}
 use Rattle.office_rows.proofs.LegibleRows.{desk_legible}
 use Rattle.office_tables.proofs.CallEnds.{same_fault}
 use Rattle.office_tables.proofs.Calls.{office_of}
-use Rattle.running_office.proofs.Doings.{does_after, does_not, does_refuse}
-use Rattle.running_office.proofs.Renewed.{has_card, not_known}
-use Rattle.running_office.proofs.renewing.renew_ticket.Goals as goal
+use Rattle.shown_office.proofs.Doings.{does_after, does_not, does_refuse}
+use Rattle.desk_commands.proofs.Renewed.{has_card, not_known}
+use Rattle.desk_commands.proofs.renewing.renew_ticket.Goals as goal
 
 pub reader-requires : goal.reader-requires
 reader-requires g c = record { inside = office_of g.P.Places.version (state g.S.Store c.args.conn.now) c.requires.inside }

@@ -14,8 +14,8 @@ use Rattle.office_core.specs.State.{State}
 use Rattle.office_rows.specs.Reading as rows
 use Rattle.office_tables.specs.Schema as tables
 use Rattle.office_tables.specs.Step.{OnlyTouches}
-use Rattle.running_office.specs.Shown.{ShowsState, office_of}
-use Rattle.running_office.proofs.Frames.{are_apart, catalogue_kept}
+use Rattle.shown_office.specs.Shown.{ShowsState, office_of}
+use Rattle.shown_office.proofs.Frames.{are_apart, catalogue_kept}
 
 -- the catalogue and the office's own row stay
 pub desk_step : (places : Trees → Forest ℕ → Type 0) → ((old new : Trees) (f : Forest ℕ) → new tables.link.tree ≡ old tables.link.tree → places old f → places new f)

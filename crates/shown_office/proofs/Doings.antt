@@ -16,9 +16,9 @@ use Rattle.office_tables.specs.Step.{Goes, IsCut, Looks}
 use Rattle.office_tables.proofs.CallEnds.{excused_then}
 use Rattle.office_tables.proofs.Calls.{early, cut_then, goes_then, on_err_then, on_ok_then}
 use Rattle.office_tables.specs.declared.fault.StoreFault.{StoreFault}
-use Rattle.running_office.specs.Doing.{Does, DoesStep}
-use Rattle.running_office.specs.Shown.{ShowsState}
-use Rattle.running_office.proofs.Crashes.{went}
+use Rattle.shown_office.specs.Doing.{Does, DoesStep}
+use Rattle.shown_office.specs.Shown.{ShowsState}
+use Rattle.shown_office.proofs.Crashes.{went}
 
 module _ (places : Trees → Forest ℕ → Type 0) (version : Version) (known : State → Type 0) (asked : Command) where
   -- it ends with a fault

@@ -4,9 +4,9 @@ use Rattle.office_rows.specs.Reading.{tables}
 use Rattle.office_rows.proofs.LegibleRows.{desk_legible}
 use Rattle.office_tables.proofs.CallEnds.{same_fault}
 use Rattle.office_tables.proofs.Calls.{office_of}
-use Rattle.running_office.proofs.Doings.{does_not}
-use Rattle.running_office.proofs.Renewed.{renews}
-use Rattle.running_office.proofs.renewing.set_last_day.Goals as goal
+use Rattle.shown_office.proofs.Doings.{does_not}
+use Rattle.desk_commands.proofs.Renewed.{renews}
+use Rattle.desk_commands.proofs.renewing.set_last_day.Goals as goal
 
 pub renew-requires : goal.renew-requires
 renew-requires g c = record { inside = office_of g.P.Places.version (state g.S.Store c.args.conn.now) c.requires.inside; small = c.requires.small }

@@ -5,7 +5,7 @@ ghost use Rattle.sqlite.specs.Held.{state};
 ghost use Rattle.office_core.specs.Rules.{is_name};
 ghost use Rattle.office_core.specs.declared.command.Command.TheVariants as command;
 ghost use Rattle.office_tables.specs.Step.{InTransaction};
-ghost use Rattle.running_office.specs.Doing.{Does};
+ghost use Rattle.shown_office.specs.Doing.{Does};
 
 use catalogue_store::Places;
 use desk_store::add_reader;
@@ -15,7 +15,7 @@ use office_tables::StoreFault;
 use sqlite::{Alter, Connection};
 
 /// Gives a reader the next ticket. The name is known to be one.
-pub(crate) fn register<P: Places, S: Alter>(
+pub fn register<P: Places, S: Alter>(
     conn: &mut Connection<S>,
     name: &Text,
     until: Day,

@@ -3,9 +3,9 @@ use Rattle.office_core.specs.declared.command.Command.TheVariants as command
 use Rattle.office_rows.proofs.LegibleRows.{desk_legible}
 use Rattle.office_tables.proofs.CallEnds.{same_fault}
 use Rattle.office_tables.proofs.Calls.{office_of}
-use Rattle.running_office.proofs.DayOpened.{house_of, opens_day, shows_house}
-use Rattle.running_office.proofs.Doings.{does_not}
-use Rattle.running_office.proofs.opening.begin_day.Goals as goal
+use Rattle.desk_commands.proofs.DayOpened.{house_of, opens_day, shows_house}
+use Rattle.shown_office.proofs.Doings.{does_not}
+use Rattle.desk_commands.proofs.opening.begin_day.Goals as goal
 
 pub open_day-requires : goal.open_day-requires
 open_day-requires g c = record { inside = office_of g.P.Places.version (state g.S.Store c.args.conn.now) c.requires.inside }

@@ -13,7 +13,7 @@ use Rattle.office_core.specs.declared.command.Command.{Command}
 use Rattle.office_tables.specs.Faults.{Excused}
 use Rattle.office_tables.specs.Step.{Goes, IsCut}
 use Rattle.office_tables.specs.declared.fault.StoreFault.{StoreFault}
-use Rattle.running_office.specs.Shown.{ShowsState}
+use Rattle.shown_office.specs.Shown.{ShowsState}
 
 -- The reply is that of the step. Where the command is accepted, the tables show the next state; where it is refused,
 -- the caller takes back what was done.

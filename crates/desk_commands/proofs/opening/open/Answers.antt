@@ -9,10 +9,10 @@ use Rattle.office_rows.specs.Reading.{tables}
 use Rattle.office_rows.proofs.LegibleRows.{desk_legible}
 use Rattle.office_tables.proofs.CallEnds.{same_fault}
 use Rattle.office_tables.proofs.Calls.{office_of}
-use Rattle.running_office.proofs.DayOpened.{refuses_day}
-use Rattle.running_office.proofs.Doings.{does_after, does_not, does_refuse}
-use Rattle.running_office.proofs.StillOut.{out_or_none}
-use Rattle.running_office.proofs.opening.open.Goals as goal
+use Rattle.desk_commands.proofs.DayOpened.{refuses_day}
+use Rattle.shown_office.proofs.Doings.{does_after, does_not, does_refuse}
+use Rattle.desk_commands.proofs.StillOut.{out_or_none}
+use Rattle.desk_commands.proofs.opening.open.Goals as goal
 
 not_false : (b : Bool) → not b ≡ false → b ≡ true
 not_false true e = refl

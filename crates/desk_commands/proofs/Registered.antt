@@ -27,10 +27,10 @@ use Rattle.office_rows.specs.Reading.{tables}
 use Rattle.office_rows.proofs.NumberedRows.{length-rows}
 use Rattle.office_tables.specs.Schema as schema
 use Rattle.office_tables.specs.Step.{OnlyTouches}
-use Rattle.running_office.specs.Doing.{DoesStep}
-use Rattle.running_office.specs.Shown.{ShowsState}
-use Rattle.running_office.proofs.DeskSteps.{desk_step}
-use Rattle.running_office.proofs.Doings.{accepted, refused}
+use Rattle.shown_office.specs.Doing.{DoesStep}
+use Rattle.shown_office.specs.Shown.{ShowsState}
+use Rattle.shown_office.proofs.DeskSteps.{desk_step}
+use Rattle.shown_office.proofs.Doings.{accepted, refused}
 
 rows_more : {X Y : Type 0} (row : ℕ → X → Y) (n : ℕ) (xs : List X) (x : X) → rows_from row n (xs ++ x ∷ []) ≡ rows_from row n xs ++ row (n + length xs) x ∷ []
 rows_more row n [] x = ap (λ k. row k x ∷ []) (let e : n ≡ n + 0 = omega arith in e)

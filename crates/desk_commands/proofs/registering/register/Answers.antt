@@ -6,10 +6,10 @@ use Rattle.office_rows.specs.Reading.{tables}
 use Rattle.office_rows.proofs.LegibleRows.{desk_legible}
 use Rattle.office_tables.proofs.CallEnds.{same_fault}
 use Rattle.office_tables.proofs.Calls.{office_of}
-use Rattle.running_office.specs.Doing.{Does}
-use Rattle.running_office.proofs.Doings.{does_not}
-use Rattle.running_office.proofs.Registered.{reply_for, registers}
-use Rattle.running_office.proofs.registering.register.Goals as goal
+use Rattle.shown_office.specs.Doing.{Does}
+use Rattle.shown_office.proofs.Doings.{does_not}
+use Rattle.desk_commands.proofs.Registered.{reply_for, registers}
+use Rattle.desk_commands.proofs.registering.register.Goals as goal
 
 pub add_reader-requires : goal.add_reader-requires
 add_reader-requires g c = record { inside = office_of g.P.Places.version (state g.S.Store c.args.conn.now) c.requires.inside }

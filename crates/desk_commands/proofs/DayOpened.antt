@@ -21,11 +21,11 @@ use Rattle.office_core.proofs.Texts.{always_texts}
 use Rattle.office_rows.specs.Reading.{tables}
 use Rattle.office_tables.specs.Schema as schema
 use Rattle.office_tables.specs.Step.{OnlyTouches}
-use Rattle.running_office.specs.Doing.{DoesStep}
-use Rattle.running_office.specs.Shown.{ShowsState, office_of}
-use Rattle.running_office.proofs.Doings.{accepted, refused}
-use Rattle.running_office.proofs.Frames.{catalogue_with_office}
-use Rattle.running_office.proofs.NewOffices.{none_seated}
+use Rattle.shown_office.specs.Doing.{DoesStep}
+use Rattle.shown_office.specs.Shown.{ShowsState, office_of}
+use Rattle.shown_office.proofs.Doings.{accepted, refused}
+use Rattle.shown_office.proofs.Frames.{catalogue_with_office}
+use Rattle.shown_office.proofs.EmptySeats.{none_seated}
 
 -- the desk of a state, and what the office's own row tells
 abbrev pub house_of : Version → State → House

@@ -25,11 +25,11 @@ use Rattle.office_rows.specs.DeskShown.{permit_row, permit_rows, reader_row, row
 use Rattle.office_rows.specs.Reading.{tables}
 use Rattle.office_tables.specs.Schema as schema
 use Rattle.office_tables.specs.Step.{OnlyTouches}
-use Rattle.running_office.specs.Doing.{DoesStep}
-use Rattle.running_office.specs.Shown.{ShowsState}
-use Rattle.running_office.proofs.DeskSteps.{desk_step}
-use Rattle.running_office.proofs.Doings.{accepted, refused}
-use Rattle.running_office.proofs.RowsOfLists.{found_row}
+use Rattle.shown_office.specs.Doing.{DoesStep}
+use Rattle.shown_office.specs.Shown.{ShowsState}
+use Rattle.shown_office.proofs.DeskSteps.{desk_step}
+use Rattle.shown_office.proofs.Doings.{accepted, refused}
+use Rattle.shown_office.proofs.RowsOfLists.{found_row}
 
 other : (n j : ℕ) → nat_eq (n + suc j) n ≡ false
 other n j = grind (arith, nat_tests)

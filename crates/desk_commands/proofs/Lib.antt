@@ -1,0 +1,4 @@
+pub mod Registered
+pub mod StillOut
+pub mod DayOpened
+pub mod Renewed

@@ -1,0 +1,2 @@
+//! When the tables of a store show an office, and what carrying out a command does to them.
+#![tactic(auto)]
