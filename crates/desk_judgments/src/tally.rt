@@ -1,0 +1,1 @@
+//! How often each number stands in a list.
