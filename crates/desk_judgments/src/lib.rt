@@ -5,11 +5,13 @@
 
 mod around;
 mod holdings;
+mod numbered;
 mod numbers;
 mod orders;
 mod readers;
 mod rows;
 mod runs;
+mod standing;
 mod tally;
 
 pub use around::Around;
