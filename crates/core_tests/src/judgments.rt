@@ -23,13 +23,17 @@ fn around(alloc: Global) -> Result<Around, AllocError> {
     })
 }
 
-const fn seat(seat: u64, ticket: u64) -> SeatRow {
+fn seat(seat: u64, ticket: u64) -> SeatRow {
     SeatRow { seat, ticket }
+}
+
+fn judge_seats(alloc: Global, rows: &[SeatRow]) -> Result<bool, AllocError> {
+    let around = around(alloc)?;
+    Ok(are_good_seats(&around, rows))
 }
 
 #[test]
 fn seats_are_judged(rt: HostRuntime) -> Result<(), Fail> {
-    let around = around(rt.alloc())?;
     let cases = [
         ([seat(1, 2), seat(3, 1)], true),
         ([seat(0, 2), seat(3, 1)], false),
@@ -38,12 +42,12 @@ fn seats_are_judged(rt: HostRuntime) -> Result<(), Fail> {
         ([seat(1, 0), seat(3, 1)], false),
     ];
     for (rows, wanted) in cases {
-        assert_eq!(rt; are_good_seats(&around, &rows), wanted);
+        assert_eq!(rt; judge_seats(rt.alloc(), &rows)?, wanted);
     }
     Ok(())
 }
 
-const fn permit(ticket: u64, unit: u64, until: i64) -> PermitRow {
+fn permit(ticket: u64, unit: u64, until: i64) -> PermitRow {
     PermitRow {
         ticket,
         unit,
@@ -51,10 +55,15 @@ const fn permit(ticket: u64, unit: u64, until: i64) -> PermitRow {
     }
 }
 
+/// The permit, as often as that.
+fn judge_permits(alloc: Global, row: PermitRow, times: usize) -> Result<bool, AllocError> {
+    let around = around(alloc)?;
+    let rows = vec![in alloc; row; times]?;
+    are_good_permits(alloc, &around, &rows)
+}
+
 #[test]
 fn permits_are_judged(rt: HostRuntime) -> Result<(), Fail> {
-    let alloc = rt.alloc();
-    let around = around(alloc)?;
     let cases = [
         (permit(1, 5, TODAY), 1, true),
         (permit(2, 7, -25_567), 1, true),
@@ -66,14 +75,13 @@ fn permits_are_judged(rt: HostRuntime) -> Result<(), Fail> {
         (permit(1, 5, TODAY), 101, false),
     ];
     for (row, times, wanted) in cases {
-        let rows = vec![in alloc; row; times]?;
-        assert_eq!(rt; are_good_permits(alloc, &around, &rows)?, wanted);
+        assert_eq!(rt; judge_permits(rt.alloc(), row, times)?, wanted);
     }
     Ok(())
 }
 
 /// An order with its ticket, container, day and state.
-const fn order(id: u64, ticket: u64, container: u64, day: i64, state: u64) -> OrderRow {
+fn order(id: u64, ticket: u64, container: u64, day: i64, state: u64) -> OrderRow {
     OrderRow {
         id,
         ticket,
@@ -83,14 +91,29 @@ const fn order(id: u64, ticket: u64, container: u64, day: i64, state: u64) -> Or
     }
 }
 
-const DONE: OrderRow = order(1, 1, 1, TODAY, 3);
+const DONE: OrderRow = OrderRow {
+    id: 1,
+    ticket: 1,
+    container: 1,
+    day: TODAY,
+    state: 3,
+};
 
-const OUT: OrderRow = order(2, 1, 1, TODAY, 2);
+const OUT: OrderRow = OrderRow {
+    id: 2,
+    ticket: 1,
+    container: 1,
+    day: TODAY,
+    state: 2,
+};
+
+fn judge_orders(alloc: Global, rows: &[OrderRow]) -> Result<bool, AllocError> {
+    let around = around(alloc)?;
+    are_good_orders(alloc, &around, rows)
+}
 
 #[test]
 fn orders_are_judged(rt: HostRuntime) -> Result<(), Fail> {
-    let alloc = rt.alloc();
-    let around = around(alloc)?;
     let cases = [
         ([DONE, OUT, order(3, 2, 1, TODAY, 1)], true),
         ([DONE, OUT, order(3, 1, 2, TODAY - 1, 4)], true),
@@ -107,12 +130,12 @@ fn orders_are_judged(rt: HostRuntime) -> Result<(), Fail> {
         ([DONE, OUT, order(3, 1, 1, TODAY - 1, 1)], false),
     ];
     for (rows, wanted) in cases {
-        assert_eq!(rt; are_good_orders(alloc, &around, &rows)?, wanted);
+        assert_eq!(rt; judge_orders(rt.alloc(), &rows)?, wanted);
     }
     Ok(())
 }
 
-const fn holding(container: u64, place: u64, held_by: Option<u64>) -> HoldingRow {
+fn holding(container: u64, place: u64, held_by: Option<u64>) -> HoldingRow {
     HoldingRow {
         container,
         place,
@@ -120,11 +143,13 @@ const fn holding(container: u64, place: u64, held_by: Option<u64>) -> HoldingRow
     }
 }
 
+fn judge_holdings(alloc: Global, rows: &[HoldingRow]) -> Result<bool, AllocError> {
+    let around = around(alloc)?;
+    are_good_holdings(alloc, &around, &[DONE, OUT], rows)
+}
+
 #[test]
 fn holdings_are_judged(rt: HostRuntime) -> Result<(), Fail> {
-    let alloc = rt.alloc();
-    let around = around(alloc)?;
-    let orders = [DONE, OUT];
     let cases = [
         ([holding(1, 2, Some(2)), holding(3, 1, None)], true),
         // no such container or place; at the desk for somebody, or out with nobody
@@ -139,17 +164,16 @@ fn holdings_are_judged(rt: HostRuntime) -> Result<(), Fail> {
         ([holding(1, 1, None), holding(3, 1, None)], false),
     ];
     for (rows, wanted) in cases {
-        let good = are_good_holdings(alloc, &around, &orders, &rows)?;
-        assert_eq!(rt; good, wanted);
+        assert_eq!(rt; judge_holdings(rt.alloc(), &rows)?, wanted);
     }
     Ok(())
 }
 
-const fn run(id: u64, day: i64) -> RunRow {
+fn run(id: u64, day: i64) -> RunRow {
     RunRow { id, day }
 }
 
-const fn line(run: u64, container: u64, order_no: u64, ticket: u64) -> RunLineRow {
+fn line(run: u64, container: u64, order_no: u64, ticket: u64) -> RunLineRow {
     RunLineRow {
         run,
         container,
@@ -158,11 +182,13 @@ const fn line(run: u64, container: u64, order_no: u64, ticket: u64) -> RunLineRo
     }
 }
 
+fn judge_runs(alloc: Global, runs: &[RunRow], lines: &[RunLineRow]) -> Result<bool, AllocError> {
+    let around = around(alloc)?;
+    are_good_runs(alloc, &around, &[DONE, OUT], runs, lines)
+}
+
 #[test]
 fn runs_are_judged(rt: HostRuntime) -> Result<(), Fail> {
-    let alloc = rt.alloc();
-    let around = around(alloc)?;
-    let orders = [DONE, OUT];
     let runs = [run(1, TODAY - 1), run(2, TODAY)];
     let first = line(1, 1, 1, 1);
     let second = line(2, 1, 2, 1);
@@ -186,8 +212,7 @@ fn runs_are_judged(rt: HostRuntime) -> Result<(), Fail> {
         (runs, [first, second, line(2, 1, 2, 2)], false),
     ];
     for (runs, lines, wanted) in cases {
-        let good = are_good_runs(alloc, &around, &orders, &runs, &lines)?;
-        assert_eq!(rt; good, wanted);
+        assert_eq!(rt; judge_runs(rt.alloc(), &runs, &lines)?, wanted);
     }
     Ok(())
 }
