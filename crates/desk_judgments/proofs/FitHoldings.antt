@@ -1,9 +1,9 @@
 -- Holdings as they are judged from the values at hand.
-use Rattle.std.proofs.Common.{◌≡◌, ℕ, ◌<◌, ◌≤◌, Bool, true, false, not, ◌&&◌, ◌||◌, List, map, length, Option, Some, None, refl, sym, ap, ◌∙◌, subst, inl, inr, arith, nat_eq, nat_le, nat_lt}
+use Rattle.std.proofs.Common.{◌≡◌, ℕ, ◌<◌, ◌≤◌, Bool, true, false, not, ◌&&◌, ◌||◌, List, map, length, Option, Some, None, refl, sym, ap, ◌∙◌, inl, inr, arith, nat_eq, nat_le, nat_lt}
 use Rattle.std.specs.Prelude.{is_none}
 use Rattle.std.specs.List.{list_any, list_all, count_by}
 use Rattle.std.specs.Option.{option_map_or, unwrap_or}
-use Rattle.std.proofs.lemmas.Bool.{and_parts, and_right, cases_eq, cases_lt, eq-eqb, ne_eqb, eqb-true, false≢true, le-leb, lt-leb, le-ltb, lt-ltb}
+use Rattle.std.proofs.lemmas.Bool.{and_parts, and_right, cases_eq, cases_lt, eq-eqb, ne_eqb, eqb-true, le-leb, lt-leb, le-ltb, lt-ltb}
 use Rattle.std.proofs.lemmas.List.Folds.{list_all-map}
 use Rattle.isad_core.specs.Words.{are_numbered_from, some_and}
 use Rattle.desk_core.specs.DeskCauses as causes
@@ -17,7 +17,7 @@ use Rattle.desk_judgments.specs.declared.rows.OrderRow.{OrderRow}
 use Rattle.desk_judgments.specs.declared.tally.Tally.{Tally}
 use Rattle.desk_judgments.proofs.Counts.{any_count, count_map}
 use Rattle.desk_judgments.proofs.NumberedRows.{any_numbered, own_number}
-use Rattle.desk_judgments.proofs.Tests.{all_agree, all_at, and_same, any_agree_in, or_same}
+use Rattle.desk_judgments.proofs.Tests.{all_agree, all_at, and_same, any_agree_in}
 
 from_one : (n : ℕ) → nat_le 1 n ≡ nat_lt 0 n
 from_one n = elim (cases_lt 0 n) [

@@ -1,6 +1,6 @@
 -- Orders as they are judged from the values at hand.
-use Rattle.std.proofs.Common.{◌≡◌, ℕ, suc, ◌+◌, ◌<◌, ◌≤◌, Bool, true, false, not, ◌&&◌, ◌||◌, List, map, filter, length, refl, sym, ap, ◌∙◌, inl, inr, arith, nat_eq, nat_le, nat_lt}
-use Rattle.std.specs.Prelude.{ℤ, int_le}
+use Rattle.std.proofs.Common.{◌≡◌, ℕ, ◌+◌, ◌<◌, ◌≤◌, Bool, true, false, not, ◌&&◌, ◌||◌, List, map, filter, length, refl, sym, ap, ◌∙◌, inl, inr, arith, nat_eq, nat_le, nat_lt}
+use Rattle.std.specs.Prelude.{int_le}
 use Rattle.std.specs.declared.cmp.Ordering.{Ordering}
 use Rattle.std.specs.declared.cmp.Ordering.TheVariants.{Less, Equal, Greater}
 use Rattle.std.specs.List.{list_any, list_all, count_by}
@@ -22,7 +22,7 @@ use Rattle.desk_judgments.specs.declared.around.Around.{Around}
 use Rattle.desk_judgments.specs.declared.rows.OrderRow.{OrderRow}
 use Rattle.desk_judgments.proofs.Counts.{any_count, count_agree, count_filter, count_map, count_split}
 use Rattle.desk_judgments.proofs.NumberedRows.{numbered_map, once}
-use Rattle.desk_judgments.proofs.Tests.{all_agree, all_and, all_filter, and_groups, and_same, and_then, any_agree_in, not_any, not_over}
+use Rattle.desk_judgments.proofs.Tests.{all_agree, all_and, all_filter, and_same, and_then, any_agree_in, not_any, not_over}
 use Rattle.desk_judgments.proofs.FitReaders.{registered}
 
 -- ---- keys that compare equal

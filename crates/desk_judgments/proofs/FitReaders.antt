@@ -8,7 +8,7 @@ use Rattle.isad_core.specs.Limits.{most_permits, most_tickets}
 use Rattle.isad_core.specs.Words.{are_numbered_from, is_between}
 use Rattle.desk_core.specs.DeskCauses as causes
 use Rattle.desk_core.specs.DeskRows as desk
-use Rattle.tree_core.proofs.Lists.{In, eqb_comm}
+use Rattle.tree_core.proofs.Lists.{eqb_comm}
 use Rattle.desk_judgments.specs.Rows.{Surrounds, seat_row, permit_row}
 use Rattle.desk_judgments.specs.Fit.{is_fit_seat, is_fit_permit, times}
 use Rattle.desk_judgments.specs.declared.around.Around.{Around}

@@ -1,11 +1,11 @@
 -- Rows that are numbered from 1 without a gap.
-use Rattle.std.proofs.Common.{◌≡◌, ℕ, zero, suc, ◌+◌, ◌-◌, ◌<◌, ◌≤◌, Bool, true, false, not, ◌&&◌, ◌||◌, cond, List, [], ◌∷◌, length, Option, Some, None, refl, sym, ap, ◌∙◌, subst, inl, inr, arith, map, nat_eq, nat_le, nat_lt, zero-add}
+use Rattle.std.proofs.Common.{◌≡◌, ℕ, zero, suc, ◌+◌, ◌-◌, ◌<◌, ◌≤◌, Bool, true, false, ◌&&◌, ◌||◌, cond, List, [], ◌∷◌, length, Option, Some, None, refl, sym, ap, ◌∙◌, subst, inl, inr, arith, map, nat_eq, nat_le, nat_lt, zero-add}
 use Rattle.std.specs.Prelude.{slice_get}
 use Rattle.std.specs.List.{list_any, count_by}
-use Rattle.std.proofs.lemmas.Bool.{and_parts, and_left, or_from, or_cases, eqb-true, eq-eqb, ne_eqb, le-leb, lt-leb, le-ltb, lt-ltb, cases_order, cases_lt}
+use Rattle.std.proofs.lemmas.Bool.{and_parts, and_left, or_from, eqb-true, eq-eqb, ne_eqb, le-leb, lt-leb, le-ltb, lt-ltb, cases_order, cases_lt}
 use Rattle.isad_core.specs.Words.{are_numbered_from, is_between, some_and}
-use Rattle.tree_core.proofs.Lists.{In, eqb_comm, any_agree}
-use Rattle.desk_judgments.proofs.Counts.{count_cons, count_agree, count_none}
+use Rattle.tree_core.proofs.Lists.{In}
+use Rattle.desk_judgments.proofs.Counts.{count_cons, count_none}
 
 -- the row with this number
 abbrev pub nth : {R : Type 0} → List R → ℕ → Option R

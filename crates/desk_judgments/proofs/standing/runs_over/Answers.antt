@@ -1,4 +1,4 @@
-use Rattle.std.proofs.Common.{rules, arith}
+use Rattle.std.proofs.Common.{arith}
 use Rattle.desk_judgments.proofs.SortedKeys.{met_over, met_none, met_all}
 use Rattle.desk_judgments.proofs.standing.runs_over.Goals as goal
 
