@@ -11,9 +11,15 @@ use Rattle.std.proofs.lemmas.Cmp.{tied_itself, alike_right}
 use Rattle.std.proofs.lemmas.List.{drop_all}
 use Rattle.std.proofs.lemmas.List.Sorted.{ranks_by, sorted_far, list_any-IsPermutation, sum_by-IsPermutation}
 use Rattle.tree_core.proofs.Lists.{In, Contains-from_In, any_agree, any_none, none_any}
-use Rattle.desk_judgments.specs.Standing.{standing, stands_over, run_over}
+use Rattle.desk_judgments.specs.Standing.{standing, stands_over}
 use Rattle.desk_judgments.proofs.Counts.{count_cons, count_agree, count_none}
 use Rattle.desk_judgments.proofs.Tests.{false_together}
+
+-- Whether a key stands there too often, told key by key: so many of the last one stood just before.
+abbrev pub run_over : {K : Type 0} → (K → K → Ordering) → ℕ → K → ℕ → List K → Bool
+run_over cmp most last before [] = false
+run_over cmp most last before (key ∷ keys) =
+    cond (is_eq (cmp last key)) (nat_le most before || run_over cmp most last (suc before) keys) (nat_le most 0 || run_over cmp most key 1 keys)
 
 any_some : {X : Type 0} (p : X → Bool) (xs : List X) → list_any p xs ≡ true → (x : X) × In x xs × (p x ≡ true)
 any_some p [] h = absurd (false≢true h)

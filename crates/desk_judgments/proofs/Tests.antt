@@ -17,10 +17,6 @@ and_then false b x y e f = ap (λ v. v && y) e
 pub or_same : (a b x y : Bool) → a ≡ b → x ≡ y → (a || x) ≡ (b || y)
 or_same a b x y e f = ap (λ v. v || x) e ∙ ap (λ v. b || v) f
 
-pub and_groups : (a b c : Bool) → ((a && b) && c) ≡ (a && (b && c))
-and_groups true b c = refl
-and_groups false b c = refl
-
 pub and_flips : (a b : Bool) → (a && b) ≡ (b && a)
 and_flips true true = refl
 and_flips true false = refl
@@ -30,10 +26,6 @@ and_flips false false = refl
 pub not_or : (a b : Bool) → not (a || b) ≡ (not a && not b)
 not_or true b = refl
 not_or false b = refl
-
-pub not_not : (a : Bool) → not (not a) ≡ a
-not_not true = refl
-not_not false = refl
 
 -- two that are false together
 pub false_together : (a b : Bool) → (a ≡ false → b ≡ false) → (b ≡ false → a ≡ false) → a ≡ b

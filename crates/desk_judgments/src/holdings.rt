@@ -13,7 +13,8 @@ use crate::rows::{HoldingRow, OrderRow};
 use crate::tally::Tally;
 use std::alloc::{AllocError, Global};
 
-/// Whether the holdings are such as a desk with these orders has.
+/// Whether the holdings are such as a desk with these orders has. The orders are to be good; in which
+/// order the holdings come is open.
 pub fn are_good_holdings(
     alloc: Global,
     around: &Around,

@@ -20,7 +20,9 @@ use std::alloc::{AllocError, Global};
 /// How many orders there may ever be.
 const MOST_ORDERS: usize = 10_000_000;
 
-/// Whether the orders are such as a desk has.
+/// Whether the orders are such as a desk has: numbered from 1, each by itself, no more of a ticket and a
+/// day than may be, and no two of a ticket that wait or are out for one container. It takes about n log n
+/// steps, in whatever order tickets and days come.
 pub fn are_good_orders(
     alloc: Global,
     around: &Around,

@@ -28,8 +28,8 @@ fn seats_are_fit(around: &Around, seats: &[SeatRow]) -> bool
     seats.iter().all(|row| is_given(row.seat, around.seats) && is_given(row.ticket, around.readers))
 }
 
-/// Whether each permit is a reader's, for a unit that is there, to a day of the calendar, and none has
-/// more of them than he may.
+/// Whether each permit is a reader's, for a unit that is there, to a day of the calendar, and no ticket
+/// has more of them than it may. They may come in any order.
 pub fn are_good_permits(
     alloc: Global,
     around: &Around,

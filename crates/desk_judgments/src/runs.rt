@@ -18,7 +18,8 @@ use std::alloc::{AllocError, Global};
 /// How many runs there may ever be.
 const MOST_RUNS: usize = 1_000_000;
 
-/// Whether the runs and their lines are such as a desk with these orders has.
+/// Whether the runs and their lines are such as a desk with these orders has. The orders are to be good;
+/// in which order the lines come is open.
 pub fn are_good_runs(
     alloc: Global,
     around: &Around,

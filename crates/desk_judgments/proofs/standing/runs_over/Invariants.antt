@@ -1,5 +1,5 @@
 use Rattle.std.proofs.Common.{◌≡◌, ◌-◌, ◌≤◌, get_or, drop}
-use Rattle.desk_judgments.specs.Standing.{run_over}
+use Rattle.desk_judgments.proofs.SortedKeys.{run_over}
 use Rattle.desk_judgments.proofs.standing.runs_over.Given as goal
 
 abbrev pub invariant-loop-i : goal.invariant-loop-i
