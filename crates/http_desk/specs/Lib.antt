@@ -6,3 +6,4 @@ pub mod Quiet
 pub mod Gathering
 pub mod Talking
 pub mod Worked
+pub mod WorkedSessions
