@@ -2,6 +2,7 @@ pub mod Messages
 pub mod Session
 pub mod Laws
 pub mod Sending
+pub mod Parts
 pub mod Quiet
 pub mod Gathering
 pub mod Talking
