@@ -9,3 +9,5 @@ pub mod Printed
 pub mod Turns
 pub mod Sessions
 pub mod Wholes
+pub mod WorkedHeads
+pub mod WorkedPieces

@@ -3,7 +3,7 @@ use Rattle.std.proofs.Common.{◌≡◌, ◌++◌, length, append_assoc, Bool, s
 use Rattle.std.specs.Prelude.{decimal, codes}
 use Rattle.isad_core.specs.Texts.{Bytes}
 use Rattle.http_messages.specs.Answers.{Answer, head_text, number_of, phrase_of, type_name, allow_field, close_field}
-use Rattle.http_desk.specs.Sending.{pieces_text}
+use Rattle.http_desk.specs.Parts.{pieces_text}
 use Rattle.http_desk.specs.Sending.{Sends}
 use Rattle.http_desk.specs.declared.sending.Sent.{Sent}
 

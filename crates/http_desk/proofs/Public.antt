@@ -59,12 +59,12 @@ if_open false route h = tt
 
 public_plain : (x : Bytes) → IsOpen (plain_route plain (codes "/public/" ++ x))
 public_plain x =
-    plain_open plain (codes "/public/" ++ x) (inr tt, (inr tt, (inl refl, (inr tt, (inr tt, (inr tt, (inr tt, (inr tt, (inr tt, (inr tt, (inr tt, (inr tt, (inr tt, (inr tt, (inr tt, (inr tt, (inr tt, (inr tt, (inr tt, tt)))))))))))))))))))
+    plain_open plain (codes "/public/" ++ x) (inr tt, (inr tt, (inr tt, (inl refl, (inr tt, (inr tt, (inr tt, (inr tt, (inr tt, (inr tt, (inr tt, (inr tt, (inr tt, (inr tt, (inr tt, (inr tt, (inr tt, (inr tt, (inr tt, tt)))))))))))))))))))
 
 public_ending : (x : Bytes) → IsOpen (ending_route ending (codes "/public/" ++ x))
 public_ending x =
     ending_open ending (codes "/public/" ++ x)
-    (inr (λ y. map_open query.Aid _ (λ n. tt)), (inr (λ y. map_open query.Page _ (λ n. tt)), (inl refl, (inl refl, (inl refl, (inl refl, (inl refl, tt)))))))
+    (inl refl, (inl refl, (inl refl, (inl refl, (inl refl, (inr (λ y. map_open query.Aid _ (λ n. tt)), (inr (λ y. map_open query.Page _ (λ n. tt)), tt)))))))
 
 public_routes : (x : Bytes) → IsOpen (route_of (codes "/public/" ++ x))
 public_routes x = either_open (plain_route plain (codes "/public/" ++ x)) (ending_route ending (codes "/public/" ++ x)) (public_plain x) (public_ending x)

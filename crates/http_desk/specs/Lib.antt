@@ -2,7 +2,9 @@ pub mod Messages
 pub mod Session
 pub mod Laws
 pub mod Sending
+pub mod Parts
 pub mod Quiet
 pub mod Gathering
 pub mod Talking
 pub mod Worked
+pub mod WorkedSessions

@@ -5,6 +5,7 @@ pub mod ended;
 pub mod filling;
 pub mod gathering;
 pub mod laws;
+pub mod means;
 pub mod reply;
 pub mod respond;
 pub mod sending;

@@ -2,16 +2,17 @@
 ghost use Rattle.std.specs.Prelude.{◌≡◌, ◌≢◌, ◌+◌, ◌<◌, ◌^◌, length, false};
 ghost use Rattle.http_messages.specs.Answers.{answer_text, continue_text};
 ghost use Rattle.http_messages.specs.Replies.{answer_in};
-ghost use Rattle.http_desk.specs.Sending.{Sends, pieces_text};
+ghost use Rattle.http_desk.specs.Sending.{Sends};
+ghost use Rattle.http_desk.specs.Parts.{parts_text};
 
 use crate::sending::{Sent, send};
 use http_messages::answered::{Answered, close_line, code_of, phrase, type_of, written_body};
 use itoa::Buffer;
 use std::io::Write;
 
-/// Writes pieces. They have one lifetime, so that an array may hold them.
-fn send_pieces<'a, W: Write>(
-    writer: &mut W,
+/// The parts of an answer that differ from answer to answer.
+#[derive(Clone, Copy, Debug)]
+struct Parts<'a> {
     status: &'a [u8],
     phrase: &'a [u8],
     kind: &'a [u8],
@@ -19,31 +20,36 @@ fn send_pieces<'a, W: Write>(
     allow: &'a [u8],
     close: &'a [u8],
     body: &'a [u8],
+}
+
+/// Writes an answer's parts, with what stands between them.
+fn send_parts<W: Write>(
+    writer: &mut W,
+    parts: Parts<'_>,
     failed: &mut bool,
     interrupted: &mut bool,
 ) -> Sent
-    requires { length (pieces_text status.now phrase.now kind.now size.now allow.now close.now body.now) + 16 < 2 ^ 64 }
+    requires { length (parts_text parts) + 16 < 2 ^ 64 }
     ensures failed { failed.new ≡ false → (failed.old ≡ false) × (result ≢ Sent.Failed) }
     ensures bound { interrupted.new ≡ false → (interrupted.old ≡ false) × (result ≢ Sent.Bound) }
-    ensures sends { Sends (W.contents writer.old) (W.contents writer.new)
-        (pieces_text status.now phrase.now kind.now size.now allow.now close.now body.now) result }
+    ensures sends { Sends (W.contents writer.old) (W.contents writer.new) (parts_text parts.entry) result }
 {
     send(
         writer,
         &[
             b"HTTP/1.1 ",
-            status,
+            parts.status,
             b" ",
-            phrase,
+            parts.phrase,
             b"\r\nContent-Type: ",
-            kind,
+            parts.kind,
             b"\r\nContent-Length: ",
-            size,
+            parts.size,
             b"\r\n",
-            allow,
-            close,
+            parts.allow,
+            parts.close,
             b"\r\n",
-            body,
+            parts.body,
         ],
         failed,
         interrupted,
@@ -69,18 +75,16 @@ pub fn send_answer<W: Write>(
     let number = digits.format(code_of(status).as_u16()).as_bytes();
     let mut more_digits = Buffer::new();
     let length = more_digits.format(answer.body().len()).as_bytes();
-    send_pieces(
-        writer,
-        number,
-        phrase(status),
-        type_of(answer.is_text()),
-        length,
-        answer.allow_line(),
-        close_line(closing),
-        written_body(bare, answer),
-        failed,
-        interrupted,
-    )
+    let parts = Parts {
+        status: number,
+        phrase: phrase(status),
+        kind: type_of(answer.is_text()),
+        size: length,
+        allow: answer.allow_line(),
+        close: close_line(closing),
+        body: written_body(bare, answer),
+    };
+    send_parts(writer, parts, failed, interrupted)
 }
 
 /// Writes that a body may come.

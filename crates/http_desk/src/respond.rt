@@ -11,10 +11,11 @@ ghost use Rattle.http_messages.specs.Replies.{answer_in};
 ghost use Rattle.http_messages.specs.Routing.{route_in};
 ghost use Rattle.office_core.specs.declared.command.Command.TheVariants as commands;
 
+use crate::means::Means;
 use http_messages::answered::Answered;
 use http_messages::judging::Head;
 use http_messages::members::command_in;
-use http_messages::routing::{Route, is_method, is_post, route_of};
+use http_messages::routing::{Route, is_method, is_post};
 use http_messages::status::Status;
 use http_messages::targets::path_of;
 use isad_core::{List, Text};
@@ -164,7 +165,7 @@ fn by_route<M: Machine>(
 
 /// Answers a request whose body came whole.
 pub fn respond<M: Machine>(
-    alloc: Global,
+    means: &Means,
     office: &mut M,
     block: &[u8],
     head: Head,
@@ -178,8 +179,8 @@ pub fn respond<M: Machine>(
         × (answer_in a ≡ (spec.answered s (request_in block.now head) body.now).0)) }
     ensures busy { OnErr result (M.is_intact office.new → (s : State) → M.shows office.old s → M.shows office.new s) }
 {
-    match route_of(path_of(head.target.of(block))) {
+    match means.routes.route_of(path_of(head.target.of(block))) {
         None => Ok(Answered::Error(Status::NotFound)),
-        Some(route) => by_route(alloc, office, block, head, body, route),
+        Some(route) => by_route(means.alloc, office, block, head, body, route),
     }
 }

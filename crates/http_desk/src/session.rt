@@ -13,6 +13,7 @@ ghost use Rattle.http_desk.specs.Quiet.{NoReadFault, NoWriteFault, NoBound};
 
 use crate::ended::{Calls, Ended, Next};
 use crate::gathering::{FoundBody, FoundHead, gather_body, gather_head};
+use crate::means::Means;
 use crate::reply::{send_answer, send_continue};
 use crate::respond::respond;
 use crate::sending::Sent;
@@ -109,7 +110,7 @@ fn remove_front(buffer: &mut Vec<u8>, n: usize)
 
 /// Has a whole message answered.
 fn act<W: Write, M: Machine>(
-    alloc: Global,
+    means: &Means,
     writer: &mut W,
     office: &mut M,
     buffer: &mut Vec<u8>,
@@ -135,7 +136,7 @@ fn act<W: Write, M: Machine>(
     let end = size + body_len(head);
     let closing = is_closing(head, number);
     let bare = is_bare(&buffer[..size], head);
-    match respond(alloc, office, &buffer[..size], head, &buffer[size..end]) {
+    match respond(means, office, &buffer[..size], head, &buffer[size..end]) {
         Err(_busy) => refuse(writer, false, Status::Busy, calls),
         Ok(answer) => {
             let sent = send_answer(
@@ -158,7 +159,7 @@ fn act<W: Write, M: Machine>(
 
 /// Receives the body of an accepted head, and has the message answered.
 fn receive<R: Read, W: Write, M: Machine>(
-    alloc: Global,
+    means: &Means,
     reader: &mut R,
     writer: &mut W,
     office: &mut M,
@@ -197,7 +198,7 @@ fn receive<R: Read, W: Write, M: Machine>(
         &mut calls.read_failed,
         &mut calls.interrupted,
     ) {
-        FoundBody::Whole => act(alloc, writer, office, buffer, size, head, number, calls),
+        FoundBody::Whole => act(means, writer, office, buffer, size, head, number, calls),
         FoundBody::Cut => Next::Ends(Ended::Cut),
         FoundBody::Failed => Next::Ends(Ended::ReadFault),
         FoundBody::Bound => Next::Ends(Ended::Bound),
@@ -207,7 +208,7 @@ fn receive<R: Read, W: Write, M: Machine>(
 
 /// One message's place.
 fn exchange<R: Read, W: Write, M: Machine>(
-    alloc: Global,
+    means: &Means,
     reader: &mut R,
     writer: &mut W,
     office: &mut M,
@@ -234,7 +235,7 @@ fn exchange<R: Read, W: Write, M: Machine>(
         FoundHead::Whole(size) => match judge(&buffer[..size]) {
             Judged::Refused(status, bare) => refuse(writer, bare, status, calls),
             Judged::Accepted(head) => receive(
-                alloc, reader, writer, office, buffer, size, head, number, &mut turns, calls,
+                means, reader, writer, office, buffer, size, head, number, &mut turns, calls,
             ),
         },
         FoundHead::TooLong => refuse(writer, false, Status::BadRequest, calls),
@@ -244,6 +245,33 @@ fn exchange<R: Read, W: Write, M: Machine>(
         FoundHead::Bound => Next::Ends(Ended::Bound),
         FoundHead::NoMemory => refuse(writer, false, Status::Busy, calls),
     }
+}
+
+/// Answers the requests of one peer, one after the other.
+fn talk_with<R: Read, W: Write, M: Machine>(
+    means: &Means,
+    reader: &mut R,
+    writer: &mut W,
+    office: &mut M,
+    calls: &mut Calls,
+) -> Ended
+    ensures session { Talks M.shows M.is_intact (R.remaining reader.old) (R.remaining reader.new)
+        (W.contents writer.old) (W.contents writer.new) office.old result office.new }
+    ensures intact { M.is_intact office.new → M.is_intact office.old }
+    ensures at_end { AtEndIf (R.remaining reader.new) (Next.Ends result) }
+    // Each fault comes only where such a call has failed, and a bound only where one was interrupted.
+    ensures reads { calls.new.read_failed ≡ false → result ≢ Ended.ReadFault }
+    ensures writes { calls.new.write_failed ≡ false → result ≢ Ended.WriteFault }
+    ensures turns { calls.new.interrupted ≡ false → result ≢ Ended.Bound }
+{
+    let mut buffer = Vec::new(means.alloc);
+    for number in 1..10_001u32 {
+        match exchange(means, reader, writer, office, &mut buffer, number, calls) {
+            Next::Goes => {}
+            Next::Ends(ended) => return ended,
+        }
+    }
+    Ended::Closed
 }
 
 /// Answers the requests of one peer, one after the other. What came is a session's input, and what went its output.
@@ -264,14 +292,13 @@ pub fn talk_watched<R: Read, W: Write, M: Machine>(
     ensures writes { calls.new.write_failed ≡ false → result ≢ Ended.WriteFault }
     ensures turns { calls.new.interrupted ≡ false → result ≢ Ended.Bound }
 {
-    let mut buffer = Vec::new(alloc);
-    for number in 1..10_001u32 {
-        match exchange(alloc, reader, writer, office, &mut buffer, number, calls) {
-            Next::Goes => {}
-            Next::Ends(ended) => return ended,
-        }
+    match Means::new(alloc) {
+        Ok(means) => talk_with(&means, reader, writer, office, calls),
+        Err(_) => match refuse(writer, false, Status::Busy, calls) {
+            Next::Ends(ended) => ended,
+            Next::Goes => unreachable!(),
+        },
     }
-    Ended::Closed
 }
 
 /// The same, where nobody asks how the calls went.

@@ -1,7 +1,13 @@
 //! Small cases of the definitions, computed.
 ghost use Rattle.http_desk.specs.Worked.{Answered};
+ghost use Rattle.http_desk.specs.WorkedSessions.{Talked};
 
 /// Answers, to the byte.
 pub fn worked_answers()
     ensures { Answered }
+{}
+
+/// Whole sessions, to the byte.
+pub fn worked_sessions()
+    ensures { Talked }
 {}

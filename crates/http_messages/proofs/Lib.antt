@@ -5,3 +5,5 @@ pub mod Weighs
 pub mod Options
 pub mod Paths
 pub mod Bodies
+pub mod Matched
+pub mod Routed

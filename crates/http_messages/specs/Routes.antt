@@ -24,25 +24,25 @@ pub data Route : Type 0 where
 -- paths of one route
 abbrev pub plain : List (Bytes × Route)
 plain =
-    (codes "/public/fonds", Asks query.Fonds)
-    ∷ (codes "/public/orders", TakesForm form.Order)
-    ∷ (codes "/desk/issued", Asks query.IssuedNow)
-    ∷ (codes "/desk/day", TakesForm form.OpenDay)
-    ∷ (codes "/desk/status", TakesForm form.SetStatus)
+    (codes "/desk/cancel", TakesForm form.Cancel)
     ∷ (codes "/desk/closure", TakesForm form.SetClosure)
-    ∷ (codes "/desk/move", TakesForm form.Move)
-    ∷ (codes "/desk/remove", TakesForm form.Remove)
-    ∷ (codes "/desk/register", TakesForm form.Register)
-    ∷ (codes "/desk/renew", TakesForm form.Renew)
-    ∷ (codes "/desk/seat", TakesForm form.TakeSeat)
-    ∷ (codes "/desk/leave", TakesForm form.LeaveSeat)
-    ∷ (codes "/desk/cancel", TakesForm form.Cancel)
-    ∷ (codes "/desk/run", Does command.Run)
-    ∷ (codes "/desk/reshelve", Does command.Reshelve)
+    ∷ (codes "/desk/day", TakesForm form.OpenDay)
+    ∷ (codes "/desk/issued", Asks query.IssuedNow)
     ∷ (codes "/desk/issue", TakesForm form.Issue)
-    ∷ (codes "/desk/return", TakesForm form.Return)
+    ∷ (codes "/desk/leave", TakesForm form.LeaveSeat)
+    ∷ (codes "/desk/move", TakesForm form.Move)
     ∷ (codes "/desk/permit", TakesForm form.Permit)
+    ∷ (codes "/desk/register", TakesForm form.Register)
+    ∷ (codes "/desk/remove", TakesForm form.Remove)
+    ∷ (codes "/desk/renew", TakesForm form.Renew)
+    ∷ (codes "/desk/reshelve", Does command.Reshelve)
+    ∷ (codes "/desk/return", TakesForm form.Return)
     ∷ (codes "/desk/revoke", TakesForm form.Revoke)
+    ∷ (codes "/desk/run", Does command.Run)
+    ∷ (codes "/desk/seat", TakesForm form.TakeSeat)
+    ∷ (codes "/desk/status", TakesForm form.SetStatus)
+    ∷ (codes "/public/fonds", Asks query.Fonds)
+    ∷ (codes "/public/orders", TakesForm form.Order)
     ∷ []
 
 -- 1 to 10 digits, the first not 0
@@ -71,13 +71,13 @@ named source = if is_name source then Some (TakesFile source) else None
 -- paths that end in a number or a name
 abbrev pub ending : List (Bytes × (Bytes → Option Route))
 ending =
-    (codes "/public/aid/", numbered query.Aid)
-    ∷ (codes "/public/units/", numbered query.Page)
-    ∷ (codes "/desk/runs/", numbered query.RunSlip)
-    ∷ (codes "/desk/readers/", numbered query.ReaderOrders)
-    ∷ (codes "/desk/queue/", numbered query.Queue)
+    (codes "/desk/import/", named)
     ∷ (codes "/desk/permits/", numbered query.ReaderPermits)
-    ∷ (codes "/desk/import/", named)
+    ∷ (codes "/desk/queue/", numbered query.Queue)
+    ∷ (codes "/desk/readers/", numbered query.ReaderOrders)
+    ∷ (codes "/desk/runs/", numbered query.RunSlip)
+    ∷ (codes "/public/aid/", numbered query.Aid)
+    ∷ (codes "/public/units/", numbered query.Page)
     ∷ []
 
 -- ---- how a path is looked up

@@ -1,15 +1,17 @@
 //! What a path leads to.
-ghost use Rattle.std.specs.Prelude.{◌≡◌, ◌&&◌, ◌==◌, ◌<◌, ◌≤◌, ◌^◌, length, map, take, drop, not, nat_le, nat_eq, option_map, option_and_then, if◌then◌else◌, Some, None, true};
+ghost use Rattle.std.specs.Prelude.{◌≡◌, ◌&&◌, ◌==◌, ◌<◌, ◌≤◌, ◌^◌, [], length, map, take, drop, not, nat_le, nat_eq, option_map, option_and_then, if◌then◌else◌, IfOk, Some, None, true};
 ghost use Rattle.std.specs.List.{list_all, list_any};
 ghost use Rattle.std.specs.Char.{is_ascii_digit};
 ghost use Rattle.std.specs.Str.{bytes_eq, is_utf8};
 ghost use Rattle.std.specs.Str.Parse.{digits_value};
 ghost use Rattle.http_messages.specs.Routes as spec;
-ghost use Rattle.http_messages.specs.Routing.{route_in, plain_in, plain_entry, makes, ending_entry};
+ghost use Rattle.http_messages.specs.Routing.{route_in, plain_in, makes, beginning, pattern_entry, with_all, patterns, table};
 
 use crate::form::Form;
 use http::Method;
+use matchit::Router;
 use office_core::Query;
+use std::alloc::{AllocError, Global};
 
 /// What a path leads to.
 #[derive(Clone, Copy, Debug)]
@@ -22,7 +24,7 @@ pub enum Route<'p> {
 }
 
 /// What a path of the table leads to.
-#[derive(Clone, Copy, Debug)]
+#[derive(Clone, Copy, Debug, Drop)]
 pub enum Plain {
     Fonds,
     IssuedNow,
@@ -31,15 +33,8 @@ pub enum Plain {
     TakesForm(Form),
 }
 
-/// A path of one route.
-#[derive(Clone, Copy, Debug)]
-pub struct PlainRow {
-    pub text: &'static str,
-    pub leads: Plain,
-}
-
 /// What a path that ends in a number or a name leads to.
-#[derive(Clone, Copy, Debug)]
+#[derive(Clone, Copy, Debug, Drop)]
 pub enum Ending {
     Aid,
     Page,
@@ -50,23 +45,25 @@ pub enum Ending {
     Import,
 }
 
-/// The beginning of such a path.
-#[derive(Clone, Copy, Debug)]
-pub struct EndingRow {
-    pub text: &'static str,
-    pub leads: Ending,
+/// What a pattern leads to.
+#[derive(Clone, Copy, Debug, Drop)]
+pub enum Leads {
+    Plain(Plain),
+    Ending(Ending),
 }
 
-/// What the path leads to by these rows.
-fn plain_by(rows: &[PlainRow], path: &[u8]) -> Option<Plain>
-    ensures { option_map plain_in result ≡ spec.plain_route (map plain_entry rows.now) path.now }
-{
-    for row in rows {
-        if row.text.as_bytes() == path {
-            return Some(row.leads);
-        }
-    }
-    None
+/// A pattern of paths, as a router reads it.
+#[derive(Clone, Copy, Debug, Drop)]
+pub struct Pattern {
+    pub text: &'static str,
+    pub leads: Leads,
+}
+
+/// The table of the routes, ready for paths to be looked up. One serves any number of requests.
+#[derive(Drop)]
+pub struct Routes {
+    router: Router<Leads>,
+    ghost holds: { router ≡ table },
 }
 
 /// What stands after that beginning of a path.
@@ -86,91 +83,6 @@ fn after<'p>(beginning: &[u8], path: &'p [u8]) -> Option<&'p [u8]>
         }
     }
     Some(rest)
-}
-
-/// What a path of one route leads to.
-fn plain_of(path: &[u8]) -> Option<Plain>
-    ensures { option_map plain_in result ≡ spec.plain_route spec.plain path.now }
-{
-    let rows = [
-        PlainRow {
-            text: "/public/fonds",
-            leads: Plain::Fonds,
-        },
-        PlainRow {
-            text: "/public/orders",
-            leads: Plain::TakesForm(Form::Order),
-        },
-        PlainRow {
-            text: "/desk/issued",
-            leads: Plain::IssuedNow,
-        },
-        PlainRow {
-            text: "/desk/day",
-            leads: Plain::TakesForm(Form::OpenDay),
-        },
-        PlainRow {
-            text: "/desk/status",
-            leads: Plain::TakesForm(Form::SetStatus),
-        },
-        PlainRow {
-            text: "/desk/closure",
-            leads: Plain::TakesForm(Form::SetClosure),
-        },
-        PlainRow {
-            text: "/desk/move",
-            leads: Plain::TakesForm(Form::Move),
-        },
-        PlainRow {
-            text: "/desk/remove",
-            leads: Plain::TakesForm(Form::Remove),
-        },
-        PlainRow {
-            text: "/desk/register",
-            leads: Plain::TakesForm(Form::Register),
-        },
-        PlainRow {
-            text: "/desk/renew",
-            leads: Plain::TakesForm(Form::Renew),
-        },
-        PlainRow {
-            text: "/desk/seat",
-            leads: Plain::TakesForm(Form::TakeSeat),
-        },
-        PlainRow {
-            text: "/desk/leave",
-            leads: Plain::TakesForm(Form::LeaveSeat),
-        },
-        PlainRow {
-            text: "/desk/cancel",
-            leads: Plain::TakesForm(Form::Cancel),
-        },
-        PlainRow {
-            text: "/desk/run",
-            leads: Plain::Run,
-        },
-        PlainRow {
-            text: "/desk/reshelve",
-            leads: Plain::Reshelve,
-        },
-        PlainRow {
-            text: "/desk/issue",
-            leads: Plain::TakesForm(Form::Issue),
-        },
-        PlainRow {
-            text: "/desk/return",
-            leads: Plain::TakesForm(Form::Return),
-        },
-        PlainRow {
-            text: "/desk/permit",
-            leads: Plain::TakesForm(Form::Permit),
-        },
-        PlainRow {
-            text: "/desk/revoke",
-            leads: Plain::TakesForm(Form::Revoke),
-        },
-    ];
-    plain_by(&rows, path)
 }
 
 fn all_digits(bytes: &[u8]) -> bool
@@ -286,63 +198,29 @@ fn made(ending: Ending, rest: &[u8]) -> Option<Route<'_>>
     }
 }
 
-/// What the path leads to by one row.
-fn ending_at<'p>(row: EndingRow, path: &'p [u8]) -> Option<Route<'p>>
-    ensures { option_map route_in result ≡ option_and_then (makes row.leads) (spec.after row.text.now path.now) }
+/// What a path begins with that ends so.
+fn beginning(ending: Ending) -> &'static [u8]
+    ensures { result.now ≡ beginning ending }
 {
-    match after(row.text.as_bytes(), path) {
-        Some(rest) => made(row.leads, rest),
+    match ending {
+        Ending::Aid => b"/public/aid/",
+        Ending::Page => b"/public/units/",
+        Ending::RunSlip => b"/desk/runs/",
+        Ending::ReaderOrders => b"/desk/readers/",
+        Ending::Queue => b"/desk/queue/",
+        Ending::ReaderPermits => b"/desk/permits/",
+        Ending::Import => b"/desk/import/",
+    }
+}
+
+/// What the path leads to, where it ends so.
+fn ended(ending: Ending, path: &[u8]) -> Option<Route<'_>>
+    ensures { option_map route_in result ≡ option_and_then (makes ending) (spec.after (beginning ending) path.now) }
+{
+    match after(beginning(ending), path) {
+        Some(rest) => made(ending, rest),
         None => None,
     }
-}
-
-/// What the path leads to by these rows.
-fn ending_by<'p>(rows: &[EndingRow], path: &'p [u8]) -> Option<Route<'p>>
-    ensures { option_map route_in result ≡ spec.ending_route (map ending_entry rows.now) path.now }
-{
-    for row in rows {
-        if let Some(route) = ending_at(*row, path) {
-            return Some(route);
-        }
-    }
-    None
-}
-
-/// What a path leads to that ends in a number or a name.
-fn ending_of(path: &[u8]) -> Option<Route<'_>>
-    ensures { option_map route_in result ≡ spec.ending_route spec.ending path.now }
-{
-    let rows = [
-        EndingRow {
-            text: "/public/aid/",
-            leads: Ending::Aid,
-        },
-        EndingRow {
-            text: "/public/units/",
-            leads: Ending::Page,
-        },
-        EndingRow {
-            text: "/desk/runs/",
-            leads: Ending::RunSlip,
-        },
-        EndingRow {
-            text: "/desk/readers/",
-            leads: Ending::ReaderOrders,
-        },
-        EndingRow {
-            text: "/desk/queue/",
-            leads: Ending::Queue,
-        },
-        EndingRow {
-            text: "/desk/permits/",
-            leads: Ending::ReaderPermits,
-        },
-        EndingRow {
-            text: "/desk/import/",
-            leads: Ending::Import,
-        },
-    ];
-    ending_by(&rows, path)
 }
 
 fn of_plain(plain: Plain) -> Route<'static>
@@ -357,13 +235,159 @@ fn of_plain(plain: Plain) -> Route<'static>
     }
 }
 
-/// What a path leads to.
-pub fn route_of(path: &[u8]) -> Option<Route<'_>>
-    ensures { option_map route_in result ≡ spec.route_of path.now }
+/// A router with these patterns.
+fn router_of(alloc: Global, patterns: &[Pattern]) -> Result<Router<Leads>, AllocError>
+    ensures { IfOk result (λ router. router ≡ with_all [] (map pattern_entry patterns.now)) }
 {
-    match plain_of(path) {
-        Some(plain) => Some(of_plain(plain)),
-        None => ending_of(path),
+    let mut router = Router::new(alloc);
+    for pattern in patterns {
+        if router.insert(pattern.text, pattern.leads).is_err() {
+            return Err(AllocError);
+        }
+    }
+    Ok(router)
+}
+
+/// The router of the table.
+fn table_router(alloc: Global) -> Result<Router<Leads>, AllocError>
+    ensures { IfOk result (λ router. router ≡ table) }
+{
+    let patterns = [
+        Pattern {
+            text: "/public/fonds",
+            leads: Leads::Plain(Plain::Fonds),
+        },
+        Pattern {
+            text: "/public/aid/{unit}",
+            leads: Leads::Ending(Ending::Aid),
+        },
+        Pattern {
+            text: "/public/units/{unit}",
+            leads: Leads::Ending(Ending::Page),
+        },
+        Pattern {
+            text: "/public/orders",
+            leads: Leads::Plain(Plain::TakesForm(Form::Order)),
+        },
+        Pattern {
+            text: "/desk/runs/{run}",
+            leads: Leads::Ending(Ending::RunSlip),
+        },
+        Pattern {
+            text: "/desk/readers/{ticket}",
+            leads: Leads::Ending(Ending::ReaderOrders),
+        },
+        Pattern {
+            text: "/desk/queue/{container}",
+            leads: Leads::Ending(Ending::Queue),
+        },
+        Pattern {
+            text: "/desk/permits/{ticket}",
+            leads: Leads::Ending(Ending::ReaderPermits),
+        },
+        Pattern {
+            text: "/desk/issued",
+            leads: Leads::Plain(Plain::IssuedNow),
+        },
+        Pattern {
+            text: "/desk/import/{source}",
+            leads: Leads::Ending(Ending::Import),
+        },
+        Pattern {
+            text: "/desk/day",
+            leads: Leads::Plain(Plain::TakesForm(Form::OpenDay)),
+        },
+        Pattern {
+            text: "/desk/status",
+            leads: Leads::Plain(Plain::TakesForm(Form::SetStatus)),
+        },
+        Pattern {
+            text: "/desk/closure",
+            leads: Leads::Plain(Plain::TakesForm(Form::SetClosure)),
+        },
+        Pattern {
+            text: "/desk/move",
+            leads: Leads::Plain(Plain::TakesForm(Form::Move)),
+        },
+        Pattern {
+            text: "/desk/remove",
+            leads: Leads::Plain(Plain::TakesForm(Form::Remove)),
+        },
+        Pattern {
+            text: "/desk/register",
+            leads: Leads::Plain(Plain::TakesForm(Form::Register)),
+        },
+        Pattern {
+            text: "/desk/renew",
+            leads: Leads::Plain(Plain::TakesForm(Form::Renew)),
+        },
+        Pattern {
+            text: "/desk/seat",
+            leads: Leads::Plain(Plain::TakesForm(Form::TakeSeat)),
+        },
+        Pattern {
+            text: "/desk/leave",
+            leads: Leads::Plain(Plain::TakesForm(Form::LeaveSeat)),
+        },
+        Pattern {
+            text: "/desk/cancel",
+            leads: Leads::Plain(Plain::TakesForm(Form::Cancel)),
+        },
+        Pattern {
+            text: "/desk/run",
+            leads: Leads::Plain(Plain::Run),
+        },
+        Pattern {
+            text: "/desk/reshelve",
+            leads: Leads::Plain(Plain::Reshelve),
+        },
+        Pattern {
+            text: "/desk/issue",
+            leads: Leads::Plain(Plain::TakesForm(Form::Issue)),
+        },
+        Pattern {
+            text: "/desk/return",
+            leads: Leads::Plain(Plain::TakesForm(Form::Return)),
+        },
+        Pattern {
+            text: "/desk/permit",
+            leads: Leads::Plain(Plain::TakesForm(Form::Permit)),
+        },
+        Pattern {
+            text: "/desk/revoke",
+            leads: Leads::Plain(Plain::TakesForm(Form::Revoke)),
+        },
+    ];
+    router_of(alloc, &patterns)
+}
+
+impl Routes {
+    pub fn new(alloc: Global) -> Result<Routes, AllocError> {
+        let router = table_router(alloc)?;
+        Ok(Routes { router })
+    }
+
+    /// What the path leads to in the router.
+    fn found<'p>(&self, text: &'p str) -> Option<Route<'p>>
+        ensures { option_map route_in result ≡ spec.route_of text.now }
+    {
+        match self.router.at(text) {
+            Ok(found) => match *found.value {
+                Leads::Plain(plain) => Some(of_plain(plain)),
+                Leads::Ending(ending) => ended(ending, text.as_bytes()),
+            },
+            Err(_) => None,
+        }
+    }
+
+    /// What a path leads to.
+    pub fn route_of<'p>(&self, path: &'p [u8]) -> Option<Route<'p>>
+        ensures { option_map route_in result ≡ spec.route_of path.now }
+    {
+        match str::from_utf8(path) {
+            Ok(text) => self.found(text),
+            Err(_) => None,
+        }
     }
 }
 

@@ -8,7 +8,7 @@ use Rattle.http_desk.proofs.reply.send_answer.Goals as goal
 pub returns-clause-sends : goal.returns-clause-sends
 returns-clause-sends g c =
     let a = answer_in c.args.answer.now in
-    sent_pieces _ _ c.send_pieces.result c.args.closing a (body_text c.args.bare a) _ _ _ _ _ _ _
+    sent_pieces _ _ c.send_parts.result c.args.closing a (body_text c.args.bare a) _ _ _ _ _ _ _
     (c.as_bytes-number.ensures.value ∙ c.format.ensures.text ∙ ap decimal (c.as_u16.ensures.value ∙ c.code_of.ensures ∙ ap number_of c.status-status.ensures))
     (c.phrase.ensures.phrase ∙ ap phrase_of c.status-status.ensures)
     (c.type_of.ensures.name ∙ ap type_name c.is_text.ensures)
@@ -16,4 +16,4 @@ returns-clause-sends g c =
     c.allow_line.ensures.line
     c.close_line.ensures.line
     c.written_body.ensures
-    c.send_pieces.ensures.sends
+    c.send_parts.ensures.sends

@@ -4,7 +4,7 @@ use Rattle.http_messages.specs.declared.status.Status.TheVariants.{Busy, BadRequ
 use Rattle.http_messages.specs.Heads.{Judges}
 use Rattle.http_messages.specs.Heads as heads
 use Rattle.http_messages.specs.Heard.{request_in, verdict_in}
-use Rattle.http_desk.specs.Messages.{IsBlank, IsHeadCut, IsTooLong, NoHead, Refuses, Fails, HasHead, HeadCut}
+use Rattle.http_desk.specs.Messages.{IsBlank, IsHeadCut, IsTooLong, NoHead, Refuses, Fails, HasHead, HeadCut, Nothing}
 use Rattle.http_desk.specs.Talking.{Turn, Through}
 use Rattle.http_desk.proofs.Turns.{refused, head_found, may_fail, bound_here, stops_early}
 use Rattle.http_desk.proofs.session.exchange.Goals as goal
@@ -47,6 +47,11 @@ returns-in-TooLong-clause-turn g c =
     let (written, appended, through) = refused g.M.Machine.shows g.M.Machine.is_intact c.args.number c.args.office.now c.args.office.now (c.args.buffer.now.items ++ got) [] c.gather_head.new.buffer.items NoHead false BadRequest _ _ _ c.refuse-in-TooLong.ensures.sent
     (subst IsTooLong e c.in-TooLong.ensures.found) tt (λ s. (refl, refl)) (λ i s h. h) in
     (got, written, consumed, appended, through)
+
+pub returns-in-Blank-clause-turn : goal.returns-in-Blank-clause-turn
+returns-in-Blank-clause-turn g c =
+    let (got, consumed, e) = c.gather_head.ensures.got in
+    (got, [], consumed, Appends-nil _, λ i s shown. (s, shown, record { last = Nothing; stands = subst IsBlank e c.in-Blank.ensures.found; ends = refl; written = refl; leaves = refl }))
 
 pub returns-in-Cut-clause-turn : goal.returns-in-Cut-clause-turn
 returns-in-Cut-clause-turn g c =

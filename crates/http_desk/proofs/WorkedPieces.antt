@@ -1,0 +1,53 @@
+-- What worked messages are answered, and what state they leave.
+use Rattle.std.proofs.Common.{◌≡◌, refl, false, codes, []}
+use Rattle.http_messages.specs.Answers.{head_text, continue_text}
+use Rattle.std.specs.Fmt.{digits}
+use Rattle.std.specs.Str.{is_utf8, chars}
+use Rattle.std.proofs.Math.Utf8.{encode}
+use Rattle.csv.specs.Reading.{records_from, strip_bom}
+use Rattle.csv.specs.Machine.{next_record}
+use Rattle.serde_json.proofs.OnLiterals.{serde_json_on_literals}
+use Rattle.isad_core.specs.Days.{day_text}
+use Rattle.atom_csv.specs.Columns.{columns}
+use Rattle.atom_csv.specs.Values.{described}
+use Rattle.catalogue_core.specs.Housing.{is_open}
+use Rattle.catalogue_core.specs.Intake.{take}
+use Rattle.office_core.specs.State.{State}
+use Rattle.http_desk.specs.Messages.{Message}
+use Rattle.http_desk.specs.Session.{message_text, state_after}
+use Rattle.http_desk.specs.Worked.{filled, with_draft, fonds_list, not_found}
+use Rattle.http_desk.specs.WorkedSessions.{one_unit}
+use Rattle.http_desk.proofs.WorkedHeads.{asks_for, orders_at}
+
+abbrev pub list_message : Message
+list_message = record { request = asks_for (codes "/public/fonds"); body = [] }
+
+abbrev pub page_message : Message
+page_message = record { request = asks_for (codes "/public/units/2"); body = [] }
+
+abbrev pub draft_message : Message
+draft_message = record { request = orders_at (codes "/desk/status") 27; body = codes "{\"unit\":2,\"status\":\"draft\"}" }
+
+pub list_told : message_text false filled list_message ≡ fonds_list
+unfolding head_text continue_text is_open take is_utf8 chars encode records_from strip_bom next_record columns described digits day_text serde_json_on_literals
+list_told = refl
+
+-- questions change nothing
+pub list_keeps : (s : State) → state_after s list_message ≡ s
+list_keeps s = refl
+
+pub page_keeps : (s : State) → state_after s page_message ≡ s
+unfolding digits
+page_keeps s = refl
+
+pub draft_told : message_text false filled draft_message ≡ one_unit
+unfolding head_text continue_text is_open take is_utf8 chars encode records_from strip_bom next_record columns described digits day_text serde_json_on_literals
+draft_told = refl
+
+pub draft_leaves : state_after filled draft_message ≡ with_draft
+unfolding is_utf8 chars encode digits day_text serde_json_on_literals
+draft_leaves = refl
+
+pub page_told : message_text false with_draft page_message ≡ not_found
+unfolding head_text continue_text is_open take is_utf8 chars encode records_from strip_bom next_record columns described digits day_text serde_json_on_literals
+page_told = refl

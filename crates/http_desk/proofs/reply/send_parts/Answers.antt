@@ -1,0 +1,6 @@
+use Rattle.std.proofs.Common.{append-nil}
+use Rattle.http_desk.proofs.Sends.{sends}
+use Rattle.http_desk.proofs.reply.send_parts.Goals as goal
+
+pub returns-clause-sends : goal.returns-clause-sends
+returns-clause-sends g c = rw (← append-nil c.args.parts.body.now) (sends _ _ _ c.send.result c.send.ensures.all c.send.ensures.front)
