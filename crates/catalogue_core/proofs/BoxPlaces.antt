@@ -8,10 +8,7 @@ use Rattle.isad_core.specs.Boxes.{distinct, is_same as is_same_box}
 use Rattle.catalogue_core.specs.Merging.{number_in}
 use Rattle.catalogue_core.specs.OneRule.{NumbersArePlaces}
 use Rattle.catalogue_core.proofs.Imported.{distinct_filter}
-use Rattle.catalogue_core.proofs.ImportedAgain.{same_text}
-
-box_itself : (b : BoxKey) → is_same_box b b ≡ true
-box_itself b = rw (same_text b.name, same_text b.location, same_text b.kind) refl
+use Rattle.catalogue_core.proofs.ImportedAgain.{box_itself}
 
 abbrev Pass : (BoxKey → Bool) → List BoxKey → Type 0
 Pass p xs = AllByRecursion (λ x. p x ≡ true) xs

@@ -8,6 +8,7 @@ use Rattle.std.proofs.lemmas.List.Folds.{list_any-append}
 use Rattle.std.proofs.lemmas.List.Sorted.{IsPermutation-refl, IsPermutation-trans, IsPermutation-sym, IsPermutation-cons, IsPermutation-append_comm, IsPermutation-append_left, IsPermutation-append_right, list_any-IsPermutation}
 use Rattle.tree_core.specs.Forest.{Forest, Empty, Node, nodes, has, tree, branch, cut, put_below, put_last, move_last}
 use Rattle.std.specs.Option.{option_map_or}
+use Rattle.tree_core.proofs.SpanShifts.{cut_none, none_of}
 use Rattle.catalogue_core.proofs.Rooted.{has_node, nodes-join}
 
 -- ---- how many nodes pass
@@ -75,16 +76,6 @@ passing_cut is gone (Node a c o) = at (gone a) (passing_cut is gone c) (passing_
     at false x y = omega (arith, x, y)
 
 -- ---- a node that is not there
-
-pub none_of : {A : Type 0} (is : A → Bool) (a : A) (c o : Forest A) → has is (Node a c o) ≡ false → (is a ≡ false) × (has is c ≡ false) × (has is o ≡ false)
-none_of is a c o h =
-    let x = or_parts (is a) (has is c || has is o) (sym (has_node is a c o) ∙ h) in
-    let y = or_parts (has is c) (has is o) x.1 in
-    (x.0, y.0, y.1)
-
-pub cut_none : {A : Type 0} (is : A → Bool) (f : Forest A) → has is f ≡ false → cut is f ≡ f
-cut_none is Empty h = refl
-cut_none is (Node a c o) h = (let n = none_of is a c o h in rw (n.0, cut_none is c n.1, cut_none is o n.2) refl)
 
 pub put_none : {A : Type 0} (is : A → Bool) (g f : Forest A) → has is f ≡ false → put_below is g f ≡ f
 put_none is g Empty h = refl

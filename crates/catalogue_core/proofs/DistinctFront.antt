@@ -1,9 +1,12 @@
--- Containers that were made distinct already, with others behind them.
-use Rattle.std.proofs.Common.{◌≡◌, Bool, true, false, not, cond, ◌||◌, List, [], ◌∷◌, ◌++◌, refl, sym, ap, ◌∙◌, subst}
-use Rattle.std.specs.Prelude.{filter}
+-- Containers that stand once: which of them are known, and what others behind them add.
+use Rattle.std.proofs.Common.{◌≡◌, ℕ, suc, Bool, true, false, not, cond, ◌||◌, List, [], ◌∷◌, ◌++◌, Option, Some, None, refl, sym, ap, ◌∙◌, subst, inl, inr}
+use Rattle.std.specs.Prelude.{filter, is_some, option_map}
 use Rattle.std.specs.List.{list_any}
+use Rattle.std.proofs.lemmas.Bool.{cases_Bool}
 use Rattle.isad_core.specs.declared.values.BoxKey.{BoxKey}
 use Rattle.isad_core.specs.Boxes.{distinct, is_same}
+use Rattle.isad_core.proofs.BoxLemmas.{same_sym}
+use Rattle.catalogue_core.specs.Merging.{number_in}
 use Rattle.catalogue_core.proofs.Imported.{distinct_append, distinct_again, same_box}
 
 -- another container is found as well where those like x are left out
@@ -24,6 +27,26 @@ any_distinct b (x ∷ xs) = at (is_same x b) refl (any_distinct b xs)
         → (c || list_any (λ y. is_same y b) (filter (λ later. not (is_same x later)) (distinct xs))) ≡ (c || list_any (λ x. is_same x b) xs)
     at true e k = refl
     at false e k = any_kept x b e (distinct xs) ∙ k
+
+-- a container that is known is known where each stands once
+pub known_distinct : (xs : List BoxKey) (b : BoxKey) → list_any (is_same b) (distinct xs) ≡ list_any (is_same b) xs
+known_distinct xs b = turned (distinct xs) ∙ (any_distinct b xs ∙ sym (turned xs))
+  where
+    turned : (ys : List BoxKey) → list_any (is_same b) ys ≡ list_any (λ y. is_same y b) ys
+    turned ys = ap (λ test. list_any test ys) (λ i y. same_sym b y i)
+
+-- it is known where it has a number
+pub found_any : (cs : List BoxKey) (b : BoxKey) → is_some (number_in cs b) ≡ list_any (is_same b) cs
+found_any [] b = refl
+found_any (c ∷ cs) b =
+    elim (cases_Bool (is_same c b)) [
+      | inl same ↦ let other : is_same b c ≡ true = sym (same_sym c b) ∙ same in rw (same, other) refl
+      | inr differs ↦ let other : is_same b c ≡ false = sym (same_sym c b) ∙ differs in rw (differs, other) (later (number_in cs b) ∙ found_any cs b)
+    ]
+  where
+    later : (o : Option ℕ) → is_some (option_map suc o) ≡ is_some o
+    later None = refl
+    later (Some n) = refl
 
 pub distinct_front : (xs ys : List BoxKey) → distinct (distinct xs ++ ys) ≡ distinct (xs ++ ys)
 distinct_front xs ys =

@@ -8,7 +8,8 @@ use Rattle.tree_core.specs.Forest.{Forest, Empty, Node, nodes, each, has, has_pl
 use Rattle.tree_core.proofs.EachLemmas.{nodes-each, has-each, path-each}
 use Rattle.catalogue_core.specs.Units.{Unit, has_id}
 use Rattle.catalogue_core.specs.Moves.{depth}
-use Rattle.catalogue_core.proofs.Branches.{none_of, put_none}
+use Rattle.tree_core.proofs.SpanShifts.{none_of}
+use Rattle.catalogue_core.proofs.Branches.{put_none}
 use Rattle.catalogue_core.proofs.Rooted.{has_node}
 
 -- the first of two that is there

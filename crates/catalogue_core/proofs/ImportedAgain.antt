@@ -21,7 +21,8 @@ use Rattle.catalogue_core.specs.Intake.{same_values, unit_of, is_same, is_new, i
 use Rattle.catalogue_core.proofs.EachOf.{all_append, all_split, all_filtered, all_and, all_true, all_distinct, all_of_found}
 use Rattle.catalogue_core.proofs.FileRows.{AreApartRows}
 use Rattle.catalogue_core.proofs.Imported.{new_rows, same_box, boxes_grow, distinct_again}
-use Rattle.catalogue_core.proofs.Rooted.{has-each, has-join, nodes-join, grown_keeps, new_there}
+use Rattle.tree_core.proofs.EachLemmas.{has-each}
+use Rattle.catalogue_core.proofs.Rooted.{has-join, nodes-join, grown_keeps, new_there}
 
 -- ---- texts and values that are the same
 

@@ -9,6 +9,7 @@ use Rattle.std.proofs.lemmas.List.Folds.{list_any-append}
 use Rattle.isad_core.specs.Texts.{Bytes}
 use Rattle.atom_csv.specs.declared.file.Row.{Row}
 use Rattle.tree_core.specs.Forest.{Forest, Empty, Node, nodes, each, has, join}
+use Rattle.tree_core.proofs.EachLemmas.{has-each}
 use Rattle.catalogue_core.specs.Units.{Unit, is_from}
 use Rattle.catalogue_core.specs.Merging.{New, branches, number_of, numbered_from, new_unit, new_units, revised, grown, merged_forest, has_legacy}
 use Rattle.catalogue_core.specs.Members.{StandsIn}
@@ -111,14 +112,6 @@ every_rooted f source n rows = all_rooted f source (numbered_from f source n [] 
 
 pub has_node : {A : Type 0} (is : A → Bool) (a : A) (c o : Forest A) → has is (Node a c o) ≡ (is a || (has is c || has is o))
 has_node is a c o = ap (λ b. is a || b) (list_any-append is (nodes c) (nodes o))
-
-pub has-each : {A B : Type 0} (is : B → Bool) (g : A → B) (f : Forest A) → has is (each g f) ≡ has (λ a. is (g a)) f
-has-each is g Empty = refl
-has-each is g (Node a c o) =
-    has_node is (g a) (each g c) (each g o)
-    ∙ (ap (λ b. is (g a) || (b || has is (each g o))) (has-each is g c)
-    ∙ (ap (λ b. is (g a) || (has (λ a. is (g a)) c || b)) (has-each is g o)
-    ∙ sym (has_node (λ a. is (g a)) a c o)))
 
 pub nodes-join : {A : Type 0} (f g : Forest A) → nodes (join f g) ≡ nodes f ++ nodes g
 nodes-join Empty g = refl

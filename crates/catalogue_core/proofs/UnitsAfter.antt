@@ -10,7 +10,8 @@ use Rattle.catalogue_core.specs.Units.{Unit, has_id}
 use Rattle.catalogue_core.specs.Merging.{Catalogue, New, numbered_from, revised, merged_forest}
 use Rattle.catalogue_core.specs.Finding.{has_unit}
 use Rattle.catalogue_core.proofs.Imported.{new_rows}
-use Rattle.catalogue_core.proofs.Rooted.{or_each, has_node, has-each, has-join, revised_id}
+use Rattle.tree_core.proofs.EachLemmas.{has-each}
+use Rattle.catalogue_core.proofs.Rooted.{or_each, has_node, has-join, revised_id}
 use Rattle.catalogue_core.proofs.DistinctLists.{all_so}
 use Rattle.catalogue_core.proofs.ImportedAgain.{all_merged}
 

@@ -18,7 +18,9 @@ use Rattle.catalogue_rows.specs.Rows.{HousingRow, housing_row, counted_from}
 use Rattle.catalogue_rows.specs.Shows.{ShowsContainers}
 use Rattle.office_tables.specs.Step.{OnlyTouches, PutsRow}
 use Rattle.office_tables.proofs.numbered.OwnNumbers.{one_more, still_numbered}
-use Rattle.catalogue_rows.proofs.BoxNumbers.{all_apart, all_known, distinct_front, keeps_number, one_apart}
+use Rattle.catalogue_core.proofs.DistinctFront.{distinct_front}
+use Rattle.catalogue_core.proofs.Imported.{distinct_again}
+use Rattle.catalogue_rows.proofs.BoxNumbers.{all_known, keeps_number}
 
 abbrev new_row : Trees → ℕ → ℕ → ℕ → ℤ × HousingRow
 new_row db unit ord container = (next_rowid (db tables.housing.tree), record { unit = unit; ord = ord; container = container })
@@ -43,7 +45,7 @@ housed old mid new unit ord n key boxes xs at numbered kept puts =
     let all = with_boxes boxes (key ∷ []) in
     let there : AreHoused mid.trees all xs = record {
       containers = numbered.1;
-      apart = one_apart boxes key at.apart;
+      apart = distinct_again (boxes ++ key ∷ []);
       rows = still_numbered housing_row (old.trees tables.housing.tree) (mid.trees tables.housing.tree) xs (kept tables.housing.tree refl refl) at.rows;
     } in
     let it = one_housing mid new unit ord n all xs there puts in
@@ -70,7 +72,7 @@ same_cells cs bs (b ∷ known) n apart all =
 
 -- one container more
 pub boxes_more : (boxes seen : List BoxKey) (b : BoxKey) → distinct boxes ≡ boxes → with_boxes (with_boxes boxes seen) (b ∷ []) ≡ with_boxes boxes (seen ++ b ∷ [])
-boxes_more boxes seen b apart = distinct_front (boxes ++ seen) (b ∷ []) (all_apart boxes seen apart) ∙ ap distinct (append_assoc boxes seen (b ∷ []))
+boxes_more boxes seen b apart = distinct_front (boxes ++ seen) (b ∷ []) ∙ ap distinct (append_assoc boxes seen (b ∷ []))
 
 pub housing_more : (boxes seen : List BoxKey) (b : BoxKey) (place : ℕ) → distinct boxes ≡ boxes → place ≡ length seen
     → cells_in (with_boxes boxes seen) seen ++ (place + 1, box_number (with_boxes (with_boxes boxes seen) (b ∷ [])) b) ∷ [] ≡ cells_in (with_boxes boxes (seen ++ b ∷ [])) (seen ++ b ∷ [])
@@ -78,7 +80,7 @@ housing_more boxes seen b place apart is =
     let now = with_boxes boxes seen in
     let next = with_boxes now (b ∷ []) in
     let told = λ (cs : List BoxKey) (box : ℕ × BoxKey). (let c : ℕ × ℕ = (box.0, box_number cs box.1) in c) in
-    let same : cells_in next seen ≡ cells_in now seen = same_cells now (b ∷ []) seen 1 (all_apart boxes seen apart) (all_known boxes seen apart) in
+    let same : cells_in next seen ≡ cells_in now seen = same_cells now (b ∷ []) seen 1 (distinct_again (boxes ++ seen)) (all_known boxes seen) in
     let more : cells_in next (seen ++ b ∷ []) ≡ cells_in next seen ++ (1 + length seen, box_number next b) ∷ [] = ap (map (told next)) (counted_more 1 seen b) ∙ map-append (told next) (counted_from 1 seen) ((1 + length seen, b) ∷ []) in
     let at : place + 1 ≡ 1 + length seen = omega (arith, is) in
     ap₂ (λ l n. l ++ (let c : ℕ × ℕ = (n, box_number next b) in c) ∷ []) (sym same) at ∙ sym more ∙ ap (λ cs. cells_in cs (seen ++ b ∷ [])) (boxes_more boxes seen b apart)

@@ -26,7 +26,9 @@ use Rattle.office_tables.specs.Put.{put_by}
 use Rattle.catalogue_rows.specs.Shows.{texts_from, element_number}
 use Rattle.catalogue_core.specs.Units.{Unit, has_id}
 use Rattle.office_tables.specs.Schema as tables
-use Rattle.catalogue_rows.proofs.BoxNumbers.{all_apart, all_known, box_itself, still_known, unknown_unnumbered, same_box}
+use Rattle.catalogue_core.proofs.Imported.{distinct_again, same_box}
+use Rattle.catalogue_core.proofs.ImportedAgain.{box_itself}
+use Rattle.catalogue_rows.proofs.BoxNumbers.{all_known, still_known, unknown_unnumbered}
 use Rattle.catalogue_rows.proofs.Finding.{itself}
 use Rattle.catalogue_rows.proofs.HousingLemmas.{cells_in, same_cells}
 use Rattle.office_tables.proofs.Puts.{put_rows}
@@ -175,7 +177,7 @@ module _ (unit i : ℕ) (boxes told : List BoxKey) (b : BoxKey) (xs ys : List Ho
   next = with_boxes now (b ∷ [])
 
   now_apart : distinct now ≡ now
-  now_apart = all_apart boxes seen apart
+  now_apart = distinct_again (boxes ++ seen)
 
   -- the next container's place has no row yet
   pub housing_place : list_any (λ (h : HousingRow). nat_eq unit h.unit && nat_eq (i + 1) h.ord) ys ≡ false
@@ -186,8 +188,8 @@ module _ (unit i : ℕ) (boxes told : List BoxKey) (b : BoxKey) (xs ys : List Ho
   -- nor has its number
   pub housing_number : list_any (is_same b) seen ≡ false → list_any (λ (h : HousingRow). nat_eq unit h.unit && nat_eq (box_number next b) h.container) ys ≡ false
   housing_number new =
-      let known = all_known boxes seen apart in
-      let here = (and_parts (list_any (is_same b) next) true (all_known now (b ∷ []) now_apart)).0 in
+      let known = all_known boxes seen in
+      let here = (and_parts (list_any (is_same b) next) true (all_known now (b ∷ []))).0 in
       let still : list_all (λ c. list_any (is_same c) next) seen ≡ true = test_from (λ c. list_any (is_same c) next) seen (λ c h. still_known now (b ∷ []) c now_apart (test_has (λ c. list_any (is_same c) now) seen c known h)) in
       let other = λ (c : ℕ × ℕ). nat_eq (box_number next b) c.1 ≡ false in
       none_told (λ (h : HousingRow). h.unit) housing_cell unit (λ c. nat_eq (box_number next b) c.1) (cells_in now seen) xs ys w none

@@ -1,6 +1,6 @@
 -- The rows of the catalogue's tables. A row is its rowid and then its columns; the column that is the INTEGER PRIMARY
 -- KEY is kept as NULL.
-use Rattle.std.specs.Prelude.{ℕ, ◌+◌, ℤ, pos, List, [], ◌∷◌, option_map}
+use Rattle.std.specs.Prelude.{ℕ, ◌+◌, pos, List, [], ◌∷◌}
 use Rattle.std.specs.declared.cmp.Ordering.{Ordering}
 use Rattle.std.specs.Ordering.{int_cmp, ordering_then}
 use Rattle.sqlite.specs.declared.types.Value.TheVariants.{Null, Int, Text}
@@ -14,6 +14,7 @@ use Rattle.catalogue_rows.specs.declared.office.OfficeRow.{OfficeRow}
 pub use Rattle.tree_core.specs.Versions.{version_number}
 pub use Rattle.catalogue_core.specs.CatalogueRows.{ElementRow, HousingRow}
 pub use Rattle.office_tables.specs.Flags.{flag}
+pub use Rattle.office_tables.specs.RowCells.{element_cells as element_row, housing_cells as housing_row, link_cells as link_row}
 pub use Rattle.office_tables.specs.Shared.{container_row}
 use Rattle.office_tables.specs.Shared.{settings_cells, office_cells}
 use Rattle.catalogue_core.specs.CatalogueRows as row
@@ -49,12 +50,7 @@ unit_row u = Int (pos u.id) ∷ Null ∷ Text u.source ∷ Text u.legacy ∷ Tex
 abbrev pub by_number : Unit → Unit → Ordering
 by_number a b = int_cmp (pos a.id) (pos b.id)
 
--- ---- elements, whose rows have a number of their own that tells nothing
-
-abbrev pub element_row : ℤ × ElementRow → Row
-element_row (n, e) = Int n ∷ Int (pos e.unit) ∷ Int (pos e.k) ∷ Text e.value ∷ []
-
--- by their unit, then by their number in the standard
+-- ---- elements, by their unit, then by their number in the standard
 abbrev pub by_element : ElementRow → ElementRow → Ordering
 by_element a b = ordering_then (int_cmp (pos a.unit) (pos b.unit)) (int_cmp (pos a.k) (pos b.k))
 
@@ -67,19 +63,11 @@ abbrev pub counted_from : {A : Type 0} → ℕ → List A → List (ℕ × A)
 counted_from n [] = []
 counted_from n (x ∷ xs) = (n, x) ∷ counted_from (n + 1) xs
 
--- ---- housing, whose rows have a number of their own that tells nothing
-
-abbrev pub housing_row : ℤ × HousingRow → Row
-housing_row (n, h) = Int n ∷ Int (pos h.unit) ∷ Int (pos h.ord) ∷ Int (pos h.container) ∷ []
-
--- by their unit, then by their place
+-- ---- housing, by their unit, then by their place
 abbrev pub by_housing : HousingRow → HousingRow → Ordering
 by_housing a b = ordering_then (int_cmp (pos a.unit) (pos b.unit)) (int_cmp (pos a.ord) (pos b.ord))
 
 -- ---- places
-
-abbrev pub link_row : Link → Row
-link_row l = Int (pos l.id) ∷ Null ∷ or_null Int (option_map pos l.parent) ∷ Int (pos l.ord) ∷ []
 
 abbrev pub by_id : Link → Link → Ordering
 by_id a b = int_cmp (pos a.id) (pos b.id)

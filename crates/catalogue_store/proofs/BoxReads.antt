@@ -9,7 +9,7 @@ use Rattle.isad_core.specs.declared.values.BoxKey.{BoxKey}
 use Rattle.isad_core.specs.Boxes.{is_same}
 use Rattle.catalogue_core.specs.Merging.{number_in, box_number}
 use Rattle.catalogue_rows.specs.Rows.{counted_from}
-use Rattle.catalogue_rows.proofs.BoxNumbers.{same_box}
+use Rattle.catalogue_core.proofs.Imported.{same_box}
 use Rattle.catalogue_rows.proofs.Untold.{one_less}
 use Rattle.office_tables.proofs.Rows.{had, map_has}
 

@@ -11,7 +11,8 @@ use Rattle.tree_core.proofs.EachLemmas.{nodes-each}
 use Rattle.catalogue_core.specs.Describing.{with_boxes, KnowsItsContainers, with_unit, with_values}
 use Rattle.catalogue_core.specs.Merging.{Catalogue}
 use Rattle.catalogue_core.specs.Units.{Unit, has_id}
-use Rattle.catalogue_rows.proofs.BoxNumbers.{all_apart, all_known, still_known}
+use Rattle.catalogue_core.proofs.Imported.{distinct_again}
+use Rattle.catalogue_rows.proofs.BoxNumbers.{all_known, still_known}
 use Rattle.catalogue_core.proofs.NodeLemmas.{nodes_join}
 use Rattle.catalogue_rows.proofs.Statuses.{all_map}
 
@@ -47,8 +48,8 @@ known_added c parent u knows =
     let cs = c.containers in
     let bs = u.values.boxes in
     record {
-      apart = all_apart cs bs knows.apart;
-      known = all_added (IsKnown (with_boxes cs bs)) has_id parent u c.forest (all_known cs bs knows.apart)
+      apart = distinct_again (cs ++ bs);
+      known = all_added (IsKnown (with_boxes cs bs)) has_id parent u c.forest (all_known cs bs)
           (all_weaker (IsKnown cs) (IsKnown (with_boxes cs bs)) (known_still cs bs knows.apart) (nodes c.forest) knows.known);
     }
 
@@ -59,10 +60,10 @@ known_valued c unit values knows =
     let all = with_boxes cs bs in
     let valued = λ (u : Unit). if has_id unit u then record u { values = values } else u in
     record {
-      apart = all_apart cs bs knows.apart;
+      apart = distinct_again (cs ++ bs);
       known = subst (AllByRecursion (IsKnown all)) (sym (nodes-each valued c.forest))
           (all_map valued (IsKnown all) (IsKnown cs) (λ u h. elim (has_id unit u) as (λ b. IsKnown all (cond b (record u { values = values }) u)) [
-            | true ↦ all_known cs bs knows.apart
+            | true ↦ all_known cs bs
             | false ↦ known_still cs bs knows.apart u h
           ]) (nodes c.forest) knows.known);
     }

@@ -11,8 +11,7 @@ use Rattle.office_tables.specs.Step.{IsCut, Looks}
 use Rattle.office_tables.specs.declared.fault.StoreFault.{StoreFault}
 use Rattle.office_tables.proofs.Calls.{cut_after}
 use Rattle.office_tables.specs.declared.fault.StoreFault.TheVariants.{Memory}
-use Rattle.office_tables.proofs.StepEnds.{tells_cut}
-use Rattle.office_tables.proofs.CallEnds.{tells_not}
+use Rattle.office_tables.proofs.CallEnds.{tells_cut, tells_not}
 
 module _ {Model : Type 0} (shows : Database → ⊤ → Model → Type 0) where
   -- the same is still shown, and was shown before

@@ -13,9 +13,11 @@ use Rattle.std.specs.Str.{bytes_eq}
 use Rattle.isad_core.specs.Texts.{Bytes}
 use Rattle.isad_core.specs.declared.values.BoxKey.{BoxKey}
 use Rattle.isad_core.specs.Boxes.{distinct, is_same}
-use Rattle.isad_core.proofs.BoxLemmas.{distinct_more, same_sym}
+use Rattle.isad_core.proofs.BoxLemmas.{distinct_more}
 use Rattle.atom_csv.proofs.BoxLemmas.{same_compared}
 use Rattle.catalogue_core.specs.Merging.{number_in}
+use Rattle.catalogue_core.proofs.DistinctFront.{found_any, known_distinct}
+use Rattle.catalogue_core.proofs.Imported.{same_box}
 use Rattle.finding_aids.specs.Numbers.{AreNumbered, Texts, compared, number_at}
 use Rattle.finding_aids.proofs.PlantLemmas.{length-push}
 
@@ -45,53 +47,13 @@ number_found numbers b name location kind n l k =
     ∙ (ap (λ (text : Bytes). get_by (compared b.name text kind) numbers) l
     ∙ ap (λ (text : Bytes). get_by (compared b.name b.location text) numbers) k)
 
--- ---- one container is another
-
-same_is : (a b : BoxKey) → is_same a b ≡ true → a ≡ b
-same_is a b h =
-    let name = and_parts (bytes_eq a.name b.name) (bytes_eq a.location b.location && bytes_eq a.kind b.kind) h in
-    let rest = and_parts (bytes_eq a.location b.location) (bytes_eq a.kind b.kind) name.1 in
-    ap (λ (text : Bytes). record { name = text; location = a.location; kind = a.kind }) ((bytes_eq-Decides a.name b.name).0 name.0)
-    ∙ (ap (λ (text : Bytes). record { name = b.name; location = text; kind = a.kind }) ((bytes_eq-Decides a.location b.location).0 rest.0)
-    ∙ ap (λ (text : Bytes). record { name = b.name; location = b.location; kind = text }) ((bytes_eq-Decides a.kind b.kind).0 rest.1))
-
 -- ---- numbers among containers
-
-found_any : (cs : List BoxKey) (b : BoxKey) → is_some (number_in cs b) ≡ list_any (is_same b) cs
-found_any [] b = refl
-found_any (c ∷ cs) b =
-    elim (cases_Bool (is_same c b)) [
-      | inl same ↦ let other : is_same b c ≡ true = sym (same_sym c b) ∙ same in rw (same, other) refl
-      | inr differs ↦ let other : is_same b c ≡ false = sym (same_sym c b) ∙ differs in rw (differs, other) (later (number_in cs b) ∙ found_any cs b)
-    ]
-  where
-    later : (o : Option ℕ) → is_some (option_map suc o) ≡ is_some o
-    later None = refl
-    later (Some n) = refl
-
-any_others : (ds : List BoxKey) (b c : BoxKey) → is_same b c ≡ false → list_any (is_same b) (filter (λ later. not (is_same c later)) ds) ≡ list_any (is_same b) ds
-any_others [] b c h = refl
-any_others (d ∷ ds) b c h =
-    elim (cases_Bool (is_same c d)) [
-      | inl same ↦
-          let apart : is_same b d ≡ false = ap (is_same b) (sym (same_is c d same)) ∙ h in
-          rw (same, apart) (any_others ds b c h)
-      | inr differs ↦ rw differs (ap (λ (any : Bool). is_same b d || any) (any_others ds b c h))
-    ]
-
-any_distinct : (bs : List BoxKey) (b : BoxKey) → list_any (is_same b) (distinct bs) ≡ list_any (is_same b) bs
-any_distinct [] b = refl
-any_distinct (c ∷ bs) b =
-    elim (cases_Bool (is_same b c)) [
-      | inl same ↦ rw same refl
-      | inr differs ↦ rw differs (any_others (distinct bs) b c differs ∙ any_distinct bs b)
-    ]
 
 -- the containers that were told, with one more
 distinct_next : (seen : List BoxKey) (b : BoxKey) → distinct (seen ++ b ∷ []) ≡ distinct seen ++ (if is_some (number_in (distinct seen) b) then [] else b ∷ [])
 distinct_next seen b =
     distinct_more seen b
-    ∙ ap (λ (any : Bool). distinct seen ++ (if any then [] else b ∷ [])) (sym (found_any (distinct seen) b ∙ any_distinct seen b))
+    ∙ ap (λ (any : Bool). distinct seen ++ (if any then [] else b ∷ [])) (sym (found_any (distinct seen) b ∙ known_distinct seen b))
 
 -- the last container is found where no other is
 abbrev or_last : Option ℕ → Option ℕ → Option ℕ
@@ -148,7 +110,7 @@ numbered_new seen b old new number h missing next sets grows =
     here : (q : BoxKey) (same : Bool) → is_same b q ≡ same → number ≡ length (distinct seen) + 1 → is_some (number_in (distinct seen) b) ≡ false
         → (if same then Some number else number_at old q) ≡ or_last (number_in (distinct seen) q) (if same then Some (length (distinct seen) + 1) else None)
     here q true e is unknown =
-        ap Some is ∙ sym (ap (λ (o : Option ℕ). or_last o (Some (length (distinct seen) + 1))) (ap (number_in (distinct seen)) (sym (same_is b q e)) ∙ none_from (number_in (distinct seen) b) unknown))
+        ap Some is ∙ sym (ap (λ (o : Option ℕ). or_last o (Some (length (distinct seen) + 1))) (ap (number_in (distinct seen)) (sym (same_box b q e)) ∙ none_from (number_in (distinct seen) b) unknown))
     here q false e is unknown = h.numbered q ∙ first (number_in (distinct seen) q)
 
 pub numbered_none : (numbers : BTreeMap Texts ℕ) → ((b : BoxKey) → number_at numbers b ≡ None) → btree_map_len numbers ≡ 0 → AreNumbered [] numbers

@@ -7,6 +7,10 @@ use Rattle.std.proofs.lemmas.List.Concat.{flat_map-cons}
 use Rattle.office_core.specs.Words.{numbers_to}
 use Rattle.office_core.specs.Laws.{numbers_from}
 use Rattle.catalogue_core.specs.Members.{StandsIn}
+pub use Rattle.tree_core.proofs.Lists.{any_agree as any_same, any_none as none_of_in, none_any as none_in}
+pub use Rattle.tree_core.proofs.Lists.{In-append as in_append, In-append_left as append_in_left, In-append_right as append_in_right}
+pub use Rattle.tree_core.proofs.Lists.{In-map as map_in}
+pub use Rattle.tree_core.proofs.Members.{In-filter as in_filter, filter-In as filter_in}
 
 module _ {X : Type 0} where
   pub all_in : (P : X → Type 0) (xs : List X) (x : X) → AllByRecursion P xs → StandsIn x xs → P x
@@ -45,62 +49,10 @@ module _ {X : Type 0} where
         | inr l ↦ or_right (p y) (list_any p ys) (any_of_in p ys x l e)
       ]
 
-  pub none_in : (p : X → Bool) (xs : List X) (x : X) → list_any p xs ≡ false → StandsIn x xs → p x ≡ false
-  none_in p [] x h k = absurd k
-  none_in p (y ∷ ys) x h k =
-      let both = or_parts (p y) (list_any p ys) h in
-      elim k [ inl e ↦ ap p e ∙ both.0 | inr l ↦ none_in p ys x both.1 l ]
-
-  pub none_of_in : (p : X → Bool) (xs : List X) → ((x : X) → StandsIn x xs → p x ≡ false) → list_any p xs ≡ false
-  none_of_in p [] f = refl
-  none_of_in p (y ∷ ys) f = or_from (p y) (list_any p ys) (f y (inl refl)) (none_of_in p ys (λ x k. f x (inr k)))
-
-  pub any_same : (p q : X → Bool) (xs : List X) → ((x : X) → p x ≡ q x) → list_any p xs ≡ list_any q xs
-  any_same p q [] h = refl
-  any_same p q (x ∷ xs) h = ap (λ b. b || list_any p xs) (h x) ∙ ap (λ b. q x || b) (any_same p q xs h)
-
-  -- filters and sums of lists
-
-  pub in_filter : (p : X → Bool) (xs : List X) (x : X) → StandsIn x (filter p xs) → StandsIn x xs × (p x ≡ true)
-  in_filter p [] x k = absurd k
-  in_filter p (y ∷ ys) x k = at (p y) refl (in_filter p ys x) k
-    where
-      at : (b : Bool) → p y ≡ b → (StandsIn x (filter p ys) → StandsIn x ys × (p x ≡ true)) → StandsIn x (cond b (y ∷ filter p ys) (filter p ys)) → StandsIn x (y ∷ ys) × (p x ≡ true)
-      at true e f k = elim k [ inl s ↦ (inl s, ap p s ∙ e) | inr l ↦ let r = f l in (inr r.0, r.1) ]
-      at false e f k = let r = f k in (inr r.0, r.1)
-
-  pub filter_in : (p : X → Bool) (xs : List X) (x : X) → StandsIn x xs → p x ≡ true → StandsIn x (filter p xs)
-  filter_in p [] x k e = absurd k
-  filter_in p (y ∷ ys) x k e = at (p y) refl (λ l. filter_in p ys x l e) k
-    where
-      at : (b : Bool) → p y ≡ b → (StandsIn x ys → StandsIn x (filter p ys)) → StandsIn x (y ∷ ys) → StandsIn x (cond b (y ∷ filter p ys) (filter p ys))
-      at true q f k = elim k [ inl s ↦ inl s | inr l ↦ inr (f l) ]
-      at false q f k = elim k [ inl s ↦ absurd (false≢true (sym q ∙ (ap p (sym s) ∙ e))) | inr l ↦ f l ]
-
-  pub in_append : (xs ys : List X) (x : X) → StandsIn x (xs ++ ys) → StandsIn x xs ⊎ StandsIn x ys
-  in_append [] ys x k = inr k
-  in_append (z ∷ zs) ys x k =
-      elim k [
-        | inl e ↦ inl (inl e)
-        | inr l ↦ elim (in_append zs ys x l) [ inl m ↦ inl (inr m) | inr m ↦ inr m ]
-      ]
-
-  pub append_in_left : (xs ys : List X) (x : X) → StandsIn x xs → StandsIn x (xs ++ ys)
-  append_in_left [] ys x k = absurd k
-  append_in_left (z ∷ zs) ys x k = elim k [ inl e ↦ inl e | inr l ↦ inr (append_in_left zs ys x l) ]
-
-  pub append_in_right : (xs ys : List X) (x : X) → StandsIn x ys → StandsIn x (xs ++ ys)
-  append_in_right [] ys x k = k
-  append_in_right (z ∷ zs) ys x k = inr (append_in_right zs ys x k)
-
 module _ {X Y : Type 0} where
   pub in_map : (f : X → Y) (xs : List X) (y : Y) → StandsIn y (map f xs) → (x : X) × StandsIn x xs × (y ≡ f x)
   in_map f [] y k = absurd k
   in_map f (x ∷ xs) y k = elim k [ inl e ↦ (x, inl refl, e) | inr l ↦ let r = in_map f xs y l in (r.0, inr r.1, r.2) ]
-
-  pub map_in : (f : X → Y) (xs : List X) (x : X) → StandsIn x xs → StandsIn (f x) (map f xs)
-  map_in f [] x k = absurd k
-  map_in f (y ∷ ys) x k = elim k [ inl e ↦ inl (ap f e) | inr l ↦ inr (map_in f ys x l) ]
 
   pub in_filter_map : (f : X → Option Y) (xs : List X) (y : Y) → StandsIn y (filter_map f xs) → (x : X) × StandsIn x xs × (f x ≡ Some y)
   in_filter_map f [] y k = absurd k

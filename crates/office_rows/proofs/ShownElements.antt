@@ -24,7 +24,8 @@ use Rattle.isad_core.specs.Words.{are_numbered_from}
 use Rattle.catalogue_core.specs.CatalogueCauses.{unit_numbers, is_good_element, is_good_housing, are_good_container_rows, is_same_element, is_same_container, is_same_place, is_housed_alike}
 use Rattle.office_rows.specs.Judged.{IsSoundCatalogue}
 use Rattle.office_core.proofs.Words.{same_number, other_number}
-use Rattle.office_rows.proofs.UnitRows.{HasRows, all_rows, number_there, number_back, after_less, elements_own, housings_own, box_itself}
+use Rattle.catalogue_core.proofs.ImportedAgain.{box_itself}
+use Rattle.office_rows.proofs.UnitRows.{HasRows, all_rows, number_there, number_back, after_less, elements_own, housings_own}
 use Rattle.office_rows.proofs.RowsByNumber.{each_in, in_each, all_in, in_all, in_map, numbers_apart}
 use Rattle.office_rows.proofs.Apart.{in_flat_map, pairs_apart, all_different}
 

@@ -29,6 +29,7 @@ use Rattle.office_rows.proofs.Nested.{spans_say}
 use Rattle.office_rows.proofs.Linked.{links_say}
 use Rattle.office_core.proofs.Words.{same_number, other_number}
 use Rattle.catalogue_core.proofs.Imported.{same_box}
+use Rattle.catalogue_core.proofs.ImportedAgain.{box_itself}
 use Rattle.office_rows.proofs.ReadBack.{filter_parts}
 
 -- ---- units with numbers of their own
@@ -151,16 +152,6 @@ texts_back u k (Some text ∷ texts) =
     ∙ ap (λ l. Some text ∷ l) (skips row (element_rows_from u (suc k) texts) k refl (suc k) (length texts) (omega arith) ∙ texts_back u (suc k) texts)
 
 -- ---- the containers of a unit
-
-pub box_itself : (b : BoxKey) → is_same_box b b ≡ true
-box_itself b = both (bytes_eq b.name b.name) (bytes_eq b.location b.location && bytes_eq b.kind b.kind) (same_text b.name) (both (bytes_eq b.location b.location) (bytes_eq b.kind b.kind) (same_text b.location) (same_text b.kind))
-  where
-    same_text : (a : Bytes) → bytes_eq a a ≡ true
-    same_text a = grind (arith, bytes_eq-Decides a a)
-
-    both : (x y : Bool) → x ≡ true → y ≡ true → (x && y) ≡ true
-    both true y e f = f
-    both false y e f = absurd (false≢true e)
 
 pub number_there : (boxes : List BoxKey) (b : BoxKey) → list_any (is_same_box b) boxes ≡ true → (n : ℕ) × (number_in boxes b ≡ Some (suc n)) × (slice_get boxes n ≡ Some b)
 number_there [] b h = absurd (false≢true h)

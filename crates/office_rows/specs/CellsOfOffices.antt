@@ -1,68 +1,23 @@
 -- The trees that show an office: each table has the rows of the office's state, told in cells, and no others. The order
 -- in which they stand tells nothing, nor does the number of its own that a row without an INTEGER PRIMARY KEY has.
-use Rattle.std.specs.Prelude.{◌≡◌, ℤ, pos, List, [], ◌∷◌, None, map, option_map, IsPermutation}
-use Rattle.sqlite.specs.declared.types.Value.TheVariants.{Null, Int, Text}
+use Rattle.std.specs.Prelude.{◌≡◌, List, [], ◌∷◌, None, map, IsPermutation}
 use Rattle.sqlite.specs.Order.{Row}
 use Rattle.sqlite.specs.Tree.{Trees}
-use Rattle.sqlite.specs.Values.{or_null}
-use Rattle.tree_core.specs.declared.rows.Link.{Link}
-use Rattle.tree_core.specs.declared.rows.Span.{Span}
 use Rattle.tree_core.specs.Versions.{Version}
-use Rattle.desk_core.specs.DeskRows.{Desk, ReaderRow, SeatRow, OrderRow, HoldingRow, RunRow, RunLineRow}
-use Rattle.catalogue_core.specs.CatalogueRows.{CatalogueRows, OfficeRow, UnitRow, ElementRow, ContainerRow, HousingRow, PlaceRows, LinkRows, SpanRows, box_from}
+use Rattle.desk_core.specs.DeskRows.{Desk}
+use Rattle.catalogue_core.specs.CatalogueRows.{CatalogueRows, PlaceRows, LinkRows, SpanRows}
 use Rattle.office_core.specs.State.{State}
 use Rattle.office_core.specs.SoundOffice.{IsSoundOffice}
 use Rattle.office_tables.specs.Schema as tables
-use Rattle.office_tables.specs.Flags.{flag}
 use Rattle.office_tables.specs.Numbered.{HasNumbered}
 use Rattle.office_tables.specs.Permits.{permit_cells}
-use Rattle.office_tables.specs.Shared.{container_row, office_cells}
+pub use Rattle.office_tables.specs.RowCells.{unit_cells, element_cells, container_cells, housing_cells, link_cells, span_cells}
+pub use Rattle.office_tables.specs.RowCells.{reader_cells, seat_cells, order_cells, holding_cells, run_cells, run_line_cells}
+use Rattle.office_tables.specs.Shared.{office_cells}
 use Rattle.office_rows.specs.Causes.{first_held, MeetsKeys}
 use Rattle.office_rows.specs.CellCauses.{rows_in, unread, cell_cause}
 use Rattle.office_rows.specs.Judged.{IsCatalogueOf}
 use Rattle.office_rows.specs.Reading.{OfficeRows, tables as tables_of, state_of}
-
--- ---- the cells of a row: its rowid and then its columns. The column that is the INTEGER PRIMARY KEY is kept as NULL.
-
-abbrev pub unit_cells : UnitRow → Row
-unit_cells row =
-    Int (pos row.id) ∷ Null ∷ Text row.source ∷ Text row.legacy ∷ Text row.level ∷ Int (flag row.draft)
-    ∷ or_null Int row.until ∷ []
-
-abbrev pub element_cells : ℤ × ElementRow → Row
-element_cells (n, row) = Int n ∷ Int (pos row.unit) ∷ Int (pos row.k) ∷ Text row.value ∷ []
-
-abbrev pub container_cells : ContainerRow → Row
-container_cells row = container_row (row.id, box_from row)
-
-abbrev pub housing_cells : ℤ × HousingRow → Row
-housing_cells (n, row) = Int n ∷ Int (pos row.unit) ∷ Int (pos row.ord) ∷ Int (pos row.container) ∷ []
-
-abbrev pub link_cells : Link → Row
-link_cells row = Int (pos row.id) ∷ Null ∷ or_null Int (option_map pos row.parent) ∷ Int (pos row.ord) ∷ []
-
-abbrev pub span_cells : Span → Row
-span_cells row = Int (pos row.id) ∷ Null ∷ Int (pos row.lft) ∷ Int (pos row.rgt) ∷ []
-
-abbrev pub reader_cells : ReaderRow → Row
-reader_cells row = Int (pos row.ticket) ∷ Null ∷ Text row.name ∷ Int row.until ∷ []
-
-abbrev pub seat_cells : SeatRow → Row
-seat_cells row = Int (pos row.seat) ∷ Null ∷ Int (pos row.ticket) ∷ []
-
-abbrev pub order_cells : OrderRow → Row
-order_cells row =
-    Int (pos row.id) ∷ Null ∷ Int (pos row.ticket) ∷ Int (pos row.container) ∷ Int row.day ∷ Int (pos row.state) ∷ []
-
-abbrev pub holding_cells : HoldingRow → Row
-holding_cells row = Int (pos row.container) ∷ Null ∷ Int (pos row.place) ∷ or_null Int (option_map pos row.held_by) ∷ []
-
-abbrev pub run_cells : RunRow → Row
-run_cells row = Int (pos row.id) ∷ Null ∷ Int row.day ∷ []
-
-abbrev pub run_line_cells : ℤ × RunLineRow → Row
-run_line_cells (n, row) =
-    Int n ∷ Int (pos row.run) ∷ Int (pos row.container) ∷ Int (pos row.order_no) ∷ Int (pos row.ticket) ∷ []
 
 -- ---- the trees that show an office
 

@@ -1,17 +1,24 @@
--- How a call ends on tables that show a model.
-use Rattle.std.proofs.Common.{◌≡◌, ℕ, List, Ok, Err, Result, sym, ap, subst}
-use Rattle.std.specs.Prelude.{IsErr, IsErrAnd, IfErr, OnErr}
+-- How a call of one step or several ends, by how its steps ended.
+use Rattle.std.proofs.Common.{◌≡◌, ℕ, List, Ok, Err, Result, sym, ap, subst, IfErr, OnErr, OnOk, refl}
+use Rattle.std.specs.Prelude.{IsErr, IsErrAnd}
 use Rattle.sqlite_trees.specs.declared.store.Store as store
 use Rattle.sqlite.specs.Effect.{Database}
 use Rattle.sqlite.specs.Held.{Held, state}
 use Rattle.sqlite.specs.State.{State, HasCleanDisk}
 use Rattle.office_tables.specs.Calls.{Makes, Tells}
-use Rattle.office_tables.specs.Faults.{IsUnlimited, HasCause, Excused}
-use Rattle.office_tables.specs.Step.{Continues, IsCut}
+use Rattle.office_tables.specs.Faults.{IsUnlimited, HasCause, Excused, BlamesDisk}
+use Rattle.office_tables.specs.Step.{Continues, IsCut, Goes, Looks}
 use Rattle.office_tables.specs.declared.fault.StoreFault.{StoreFault}
 use Rattle.office_tables.specs.declared.fault.StoreFault.TheVariants as fault
 use Rattle.office_tables.proofs.Causes.{still_unlimited}
-use Rattle.office_tables.proofs.LaterCauses.{last_cause}
+use Rattle.office_tables.proofs.LaterCauses.{last_cause, next_cause}
+use Rattle.office_tables.specs.Changing.{Leaves}
+use Rattle.office_tables.specs.Creation.{LeavesMaking}
+use Rattle.office_tables.proofs.Calls.{early, continues_then, cut_after, cut_then, on_err_then, on_ok_then, goes_then}
+use Rattle.office_tables.proofs.WriteCauses.{disk_then, last_disk}
+use Rattle.office_tables.specs.Asking.{Reads}
+
+-- ---- a fault that is handed on, on tables that show a model
 
 -- a fault that is handed on is the same fault
 pub same_fault : {X : Type 0} (r : Result X StoreFault) (e : StoreFault) → IsErr r → IsErrAnd r (λ f. f ≡ e) → r ≡ Err e
@@ -46,3 +53,83 @@ module _ {S X Stays Model : Type 0} (g : store.Ghosts S) (shows : Database → S
   makes_not made touched e is cut why =
       subst (λ (r : Result X StoreFault). Makes g shows kept before after r may made touched) (sym is)
       (record { shows_made = λ clean s m shown may. tt; only = λ clean. tt; goes = tt; cut = cut; faults = λ s m shown may kept clean free. why s m shown may kept clean free })
+
+-- ---- a call of several steps that writes
+
+-- all of them succeeded
+pub left_well : {X : Type 0} (a b : State) → Goes a b → {x : X} → Leaves a b (Ok x)
+left_well a b went = record { crash = went.on.crash; goes = went; cut = tt; disk = λ clean. tt }
+
+-- the rows are not ours
+pub left_known : {X : Type 0} (a b : State) → Goes a b → Leaves {X = X} a b (Err fault.Schema)
+left_known a b went = record { crash = went.on.crash; goes = tt; cut = cut_after a b went.on; disk = λ clean. tt }
+
+-- the last of them failed
+pub left_fault : {X Y : Type 0} (a b c : State) → Goes a b → (r : Result X StoreFault) (e : StoreFault) → r ≡ Err e → Leaves {X = Y} b c (Err e) → Leaves a c r
+left_fault {X} a b c went r e is last =
+    let cut = cut_then a b c went.on last.cut in
+    subst (Leaves {X = X} a c) (sym is) (record { crash = cut.crash; goes = tt; cut = cut; disk = λ clean. disk_then a b c went.on (early b c _ last.crash clean) e (last.disk clean) })
+
+-- ---- a call that makes tables
+
+-- it ends with a fault
+pub making_not : {X : Type 0} (a b : State) (r : Result X StoreFault) (e : StoreFault) → r ≡ Err e → IsCut a b → (HasCleanDisk b → BlamesDisk a b e) → (HasCleanDisk b → IsUnlimited a → HasCause a b e) → LeavesMaking a b r
+making_not {X} a b r e is cut blames why = subst (LeavesMaking {X = X} a b) (sym is) (record { goes = tt; cut = cut; disk = blames; faults = why })
+
+-- after steps that succeeded
+pub making_then : {X : Type 0} (a b c : State) → Continues a b → (r : Result X StoreFault) (e : StoreFault) → r ≡ Err e → IsCut b c → (HasCleanDisk c → BlamesDisk b c e) → (HasCleanDisk c → IsUnlimited b → HasCause b c e) → LeavesMaking a c r
+making_then a b c on r e is cut blames why =
+    making_not a c r e is (cut_then a b c on cut) (λ clean. disk_then a b c on (early b c _ cut.crash clean) e (blames clean))
+    (λ clean free. next_cause a b c on cut clean e (λ _. why clean (still_unlimited a b on free)))
+
+-- its last step, whose result is the call's
+pub making_last : {X : Type 0} (a b c : State) → Continues a b → (r : Result X StoreFault) → OnOk r (Continues b c) → OnErr r (IsCut b c) → (HasCleanDisk c → IfErr r (BlamesDisk b c)) → (HasCleanDisk b → Excused b c r) → LeavesMaking a c r
+making_last a b c on r goes cut blames why = record {
+  goes = on_ok_then r (Continues b c) (Continues a c) (continues_then a b c on) goes;
+  cut = on_err_then r (IsCut b c) (IsCut a c) (cut_then a b c on) cut;
+  disk = λ clean. last_disk a b c on r cut clean (blames clean);
+  faults = excused_then a b c on r cut why;
+}
+
+-- ---- a call that reads
+
+-- all its steps read, whatever it makes of what they told
+pub read_only : {X : Type 0} (a b : State) (r : Result X StoreFault) → Looks a b → Reads a b r
+read_only a b (Ok x) looked = record { crash = looked.goes.on.crash; looks = looked; cut = tt }
+read_only a b (Err e) looked = record { crash = looked.goes.on.crash; looks = tt; cut = cut_after a b looked.goes.on }
+
+-- it ends with a fault
+pub read_not : {X : Type 0} (a b : State) (r : Result X StoreFault) (e : StoreFault) → r ≡ Err e → IsCut a b → Reads a b r
+read_not a b r e is cut = subst (Reads a b) (sym is) (record { crash = cut.crash; looks = tt; cut = cut })
+
+-- ---- a call that writes
+
+-- its last step leaves the transaction so, after others that went well
+pub leaves_last : {X : Type 0} (a b c : State) (r : Result X StoreFault) → Goes a b → Leaves b c r → Leaves a c r
+leaves_last a b c (Ok x) went last = left_well a c (goes_then a b c went last.goes)
+leaves_last a b c (Err e) went last = left_fault a b c went (Err e) e refl last
+
+-- ---- a call on tables that show a model, of which a later step fails
+
+module _ {S X Stays Model : Type 0} (g : store.Ghosts S) (shows : Database → Stays → Model → Type 0) (kept may : Model → Type 0) (before mid after : Held S) (r : Result X StoreFault) where
+  abbrev a : State
+  a = state g before
+
+  abbrev b : State
+  b = state g mid
+
+  abbrev c : State
+  c = state g after
+
+  -- why it fails
+  abbrev Why : StoreFault → Type 0
+  Why e = (s : Stays) (m : Model) → shows a.now s m → may m → kept m → HasCleanDisk b → HasCleanDisk c → IsUnlimited b → HasCause b c e
+
+  then_caused : (e : StoreFault) → Continues a b → IsCut b c → Why e → (s : Stays) (m : Model) → shows a.now s m → may m → kept m → HasCleanDisk c → IsUnlimited a → HasCause a c e
+  then_caused e on cut why s m shown allowed within clean free = next_cause a b c on cut clean e (λ cleaner. why s m shown allowed within cleaner clean (still_unlimited a b on free))
+
+  pub tells_cut : (answer : Stays → Model → X → Type 0) (e : StoreFault) → r ≡ Err e → Looks a b → IsCut b c → Why e → Tells g shows kept before after r may answer
+  tells_cut answer e is looked cut why = tells_not g shows kept may before after r answer e is (cut_then a b c looked.goes.on cut) (then_caused e looked.goes.on cut why)
+
+  pub makes_cut : (made : Model → Model) (touched : List ℕ) (e : StoreFault) → r ≡ Err e → Continues a b → IsCut b c → Why e → Makes g shows kept before after r may made touched
+  makes_cut made touched e is on cut why = makes_not g shows kept may before after r made touched e is (cut_then a b c on cut) (then_caused e on cut why)

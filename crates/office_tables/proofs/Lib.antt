@@ -35,6 +35,4 @@ pub mod ByNumber
 pub mod Fresh
 pub mod numbered
 pub mod CallEnds
-pub mod StepEnds
-pub mod WriteEnds
 pub mod statements

@@ -19,3 +19,4 @@ pub mod Calls
 pub mod Numbered
 pub mod Permits
 pub mod Shared
+pub mod RowCells

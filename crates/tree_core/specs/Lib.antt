@@ -11,3 +11,4 @@ pub mod SpanFaults
 pub mod LinkFaults
 pub mod Steps
 pub mod Versions
+pub mod Members

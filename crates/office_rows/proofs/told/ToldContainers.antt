@@ -13,7 +13,7 @@ use Rattle.catalogue_core.specs.CatalogueRows.{ContainerRow, container_row, box_
 use Rattle.isad_core.specs.Words.{are_numbered_from}
 use Rattle.catalogue_core.specs.CatalogueCauses.{is_same_container}
 use Rattle.catalogue_core.proofs.Imported.{same_box}
-use Rattle.office_rows.proofs.UnitRows.{box_itself}
+use Rattle.catalogue_core.proofs.ImportedAgain.{box_itself}
 use Rattle.office_rows.proofs.RowsByNumber.{each_in}
 
 abbrev are_counted : ℕ → List ContainerRow → Bool
@@ -93,7 +93,3 @@ pub is_there : (boxes : List BoxKey) (b : BoxKey) → In b boxes → list_any (i
 is_there [] b i = absurd i
 is_there (c ∷ boxes) b (inl e) = or_left (is_same_box b c) (list_any (is_same_box b) boxes) (ap (is_same_box b) (sym e) ∙ box_itself b)
 is_there (c ∷ boxes) b (inr i) = or_right (is_same_box b c) (list_any (is_same_box b) boxes) (is_there boxes b i)
-
-pub numbered_in : (boxes : List BoxKey) (n : ℕ) (b : BoxKey) → numbered boxes n ≡ Some b → In b boxes
-numbered_in boxes zero b e = cc
-numbered_in boxes (suc i) b e = in_get boxes i b e

@@ -26,7 +26,8 @@ use Rattle.office_rows.specs.Reading.{OfficeRows, box_at, boxes_from, boxes_said
 use Rattle.catalogue_core.specs.CatalogueCauses.{is_same_place, is_housed_alike}
 use Rattle.office_rows.proofs.RowsByNumber.{in_map, in_filter, flat_map_same, flat_map_reordered, grouped, found_by, one_kept, in_numbers, numbers_length, numbers_apart, own_apart}
 use Rattle.office_rows.proofs.told.ToldUnits.{said_id, said_boxes}
-use Rattle.office_rows.proofs.told.ToldContainers.{back_to_number, one_numbered, is_there, numbered_in, stay_distinct, numbers_tell}
+use Rattle.office_rows.proofs.NumberedRows.{numbered_in}
+use Rattle.office_rows.proofs.told.ToldContainers.{back_to_number, one_numbered, is_there, stay_distinct, numbers_tell}
 
 abbrev at_place : ℕ → List HousingRow → Option HousingRow
 at_place m rows = find (λ (row : HousingRow). nat_eq row.ord m) rows

@@ -6,8 +6,7 @@ use Rattle.office_tables.specs.Schema as tables
 use Rattle.office_tables.specs.Schema.{desk_tables}
 use Rattle.office_tables.specs.Step.{InTransaction, Continues, Goes, PutsRow}
 use Rattle.office_tables.proofs.Calls.{early, continues_then, on_ok_both, on_ok_then}
-use Rattle.office_tables.proofs.CallEnds.{same_fault}
-use Rattle.office_tables.proofs.WriteEnds.{making_last, making_not, making_then}
+use Rattle.office_tables.proofs.CallEnds.{same_fault, making_last, making_not, making_then}
 use Rattle.catalogue_rows.specs.Rows.{office_row}
 use Rattle.catalogue_rows.specs.Shows.{Shows}
 use Rattle.catalogue_store.proofs.Beginning.{shows_beginning, desk_kept}

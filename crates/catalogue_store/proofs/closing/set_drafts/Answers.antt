@@ -5,12 +5,11 @@ use Rattle.catalogue_core.specs.Merging.{Catalogue}
 use Rattle.catalogue_core.specs.Statuses.{with_status}
 use Rattle.office_tables.specs.Schema as tables
 use Rattle.office_tables.proofs.Calls.{early, goes_nowhere, goes_then, office_of}
-use Rattle.office_tables.proofs.CallEnds.{same_fault}
+use Rattle.office_tables.proofs.CallEnds.{same_fault, left_fault, left_known, left_well}
 use Rattle.office_tables.proofs.Causes.{cause_then, still_unlimited}
 use Rattle.office_tables.proofs.Touching.{nothing_touched, touched_again}
 use Rattle.catalogue_rows.specs.Shows.{Shows}
 use Rattle.catalogue_rows.proofs.Statuses.{draft_step, status_of_none}
-use Rattle.office_tables.proofs.WriteEnds.{left_fault, left_known, left_well}
 use Rattle.catalogue_store.proofs.closing.set_drafts.Goals as goal
 
 pub loop-unit-init : goal.loop-unit-init

@@ -11,10 +11,9 @@ use Rattle.office_tables.specs.Step.{Goes, HasRows, IsCut, OnlyTouches}
 use Rattle.catalogue_rows.specs.Added.{unit_of}
 use Rattle.catalogue_rows.specs.Rows.{ElementRow, HousingRow, office_row}
 use Rattle.catalogue_rows.specs.Shows.{ShowsNumbered, catalogue_trees}
-use Rattle.office_tables.proofs.CallEnds.{excused_then, makes_not, same_fault}
+use Rattle.office_tables.proofs.CallEnds.{excused_then, makes_not, same_fault, makes_cut}
 use Rattle.office_tables.proofs.Calls.{cut_then, early, goes_then, office_of, on_err_then, on_ok_then, still_office}
 use Rattle.office_tables.proofs.Outcomes.{on_ok_by}
-use Rattle.office_tables.proofs.StepEnds.{makes_cut}
 use Rattle.office_tables.proofs.Touching.{touched_then, touched_wider}
 use Rattle.catalogue_rows.proofs.NewUnits.{no_unit, shows_added}
 use Rattle.catalogue_rows.proofs.Untold.{none_yet, unit_added}

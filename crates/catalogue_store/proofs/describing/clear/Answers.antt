@@ -7,7 +7,7 @@ use Rattle.office_tables.specs.Numbered.{HoldsNumbered}
 use Rattle.office_tables.specs.Step.{Goes, OnlyTouches}
 use Rattle.office_tables.proofs.Calls.{early, on_ok_both, on_ok_then}
 use Rattle.office_tables.proofs.Outcomes.{on_ok_by}
-use Rattle.office_tables.proofs.StepEnds.{leaves_last}
+use Rattle.office_tables.proofs.CallEnds.{leaves_last}
 use Rattle.office_tables.proofs.Touching.{touched_then}
 use Rattle.catalogue_store.proofs.Telling.{same_elements, same_housed}
 use Rattle.catalogue_store.proofs.describing.clear.Goals as goal

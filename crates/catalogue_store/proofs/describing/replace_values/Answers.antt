@@ -10,10 +10,9 @@ use Rattle.office_tables.specs.Step.{Goes, IsCut, OnlyTouches}
 use Rattle.catalogue_rows.specs.Adding.{IsDescribed}
 use Rattle.catalogue_rows.specs.Rows.{ElementRow, HousingRow}
 use Rattle.catalogue_rows.specs.Shows.{Shows, described_trees}
-use Rattle.office_tables.proofs.CallEnds.{excused_then, makes_not, same_fault}
+use Rattle.office_tables.proofs.CallEnds.{excused_then, makes_not, same_fault, makes_cut}
 use Rattle.office_tables.proofs.Calls.{cut_then, early, goes_then, office_of, on_err_then, on_ok_both, on_ok_then, still_office}
 use Rattle.office_tables.proofs.Outcomes.{on_ok_by}
-use Rattle.office_tables.proofs.StepEnds.{makes_cut}
 use Rattle.office_tables.proofs.Touching.{touched_then, touched_wider}
 use Rattle.catalogue_rows.proofs.Untold.{none_left, unit_valued}
 use Rattle.catalogue_store.proofs.Telling.{elements_shown, housed_shown, same_elements, same_housed}

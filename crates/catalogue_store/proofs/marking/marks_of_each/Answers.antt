@@ -10,9 +10,8 @@ use Rattle.office_tables.specs.declared.fault.StoreFault.TheVariants as fault
 use Rattle.catalogue_rows.specs.Shows.{Shows}
 use Rattle.catalogue_store.specs.Attaching.{AreMarksOfEach}
 use Rattle.catalogue_store.specs.declared.marking.Attached.{Attached}
-use Rattle.office_tables.proofs.CallEnds.{same_fault, tells_not}
+use Rattle.office_tables.proofs.CallEnds.{same_fault, tells_not, tells_cut}
 use Rattle.office_tables.proofs.Calls.{cut_after, early, looks_nowhere, looks_then, office_of}
-use Rattle.office_tables.proofs.StepEnds.{tells_cut}
 use Rattle.catalogue_store.proofs.MarkForests.{each_more}
 use Rattle.catalogue_store.proofs.marking.marks_of_each.Goals as goal
 

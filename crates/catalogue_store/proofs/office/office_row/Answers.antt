@@ -12,9 +12,8 @@ use Rattle.catalogue_rows.specs.Rows.{counted_from}
 use Rattle.catalogue_rows.specs.Settings.{AreLegibleSettings}
 use Rattle.catalogue_rows.specs.Shows.{ShowsSettings}
 use Rattle.catalogue_store.specs.Offices.{told_office}
-use Rattle.office_tables.proofs.CallEnds.{same_fault, tells_not}
+use Rattle.office_tables.proofs.CallEnds.{same_fault, tells_not, tells_cut}
 use Rattle.office_tables.proofs.Calls.{cut_after, early, office_of, still_office, goes_then, looks_then}
-use Rattle.office_tables.proofs.StepEnds.{tells_cut}
 use Rattle.catalogue_rows.proofs.Offices.{last_of, length-counted, same_number, not_refused}
 use Rattle.catalogue_store.proofs.office.office_row.Goals as goal
 

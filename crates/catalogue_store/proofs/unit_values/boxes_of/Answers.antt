@@ -6,11 +6,10 @@ use Rattle.isad_core.specs.declared.values.BoxKey.{BoxKey}
 use Rattle.catalogue_core.specs.Merging.{box_number}
 use Rattle.catalogue_rows.specs.Shows.{ShowsContainers}
 use Rattle.office_tables.specs.Schema as tables
-use Rattle.office_tables.proofs.CallEnds.{same_fault}
+use Rattle.office_tables.proofs.CallEnds.{same_fault, read_not, read_only}
 use Rattle.office_tables.proofs.Calls.{early, cut_then, looks_then}
 use Rattle.office_tables.specs.Faults.{IsUnlimited}
 use Rattle.office_tables.proofs.Causes.{cause_then, still_unlimited}
-use Rattle.office_tables.proofs.StepEnds.{read_not, read_only}
 use Rattle.catalogue_store.proofs.ValueCauses.{box_at}
 use Rattle.catalogue_store.proofs.unit_values.boxes_of.Goals as goal
 

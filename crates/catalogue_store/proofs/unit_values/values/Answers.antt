@@ -12,9 +12,8 @@ use Rattle.catalogue_rows.specs.Shows.{ShowsContainers}
 use Rattle.catalogue_rows.specs.Values.{ShowsValues, TellsTexts}
 use Rattle.catalogue_store.specs.Valuing.{values_of}
 use Rattle.catalogue_store.specs.declared.unit_values.UnitValues.{UnitValues}
-use Rattle.office_tables.proofs.CallEnds.{same_fault, tells_not}
+use Rattle.office_tables.proofs.CallEnds.{same_fault, tells_not, tells_cut}
 use Rattle.office_tables.proofs.Calls.{early, looks_then}
-use Rattle.office_tables.proofs.StepEnds.{tells_cut}
 use Rattle.catalogue_rows.proofs.FoundUnits.{none_found, one_found}
 use Rattle.catalogue_store.proofs.MarkCauses.{legible_units}
 use Rattle.catalogue_store.proofs.UnitTold.{texts_told, containers_told, boxes_known}
