@@ -10,6 +10,8 @@ mod files;
 #[cfg(test)]
 mod forests;
 #[cfg(test)]
+mod judgments;
+#[cfg(test)]
 mod previews;
 #[cfg(test)]
 mod sessions;

@@ -1,0 +1,19 @@
+-- How often keys stand in a list.
+use Rattle.std.specs.Prelude.{ℕ, suc, Bool, false, ◌||◌, cond, List, [], ◌∷◌, nat_le, nat_lt}
+use Rattle.std.specs.declared.cmp.Ordering.{Ordering}
+use Rattle.std.specs.List.{list_any, count_by}
+use Rattle.std.specs.Ordering.{is_eq}
+
+-- how often a key stands there
+abbrev pub standing : {K : Type 0} → (K → K → Ordering) → K → List K → ℕ
+standing cmp key keys = count_by (λ other. is_eq (cmp key other)) keys
+
+-- whether a key stands there more than so many times
+abbrev pub stands_over : {K : Type 0} → (K → K → Ordering) → ℕ → List K → Bool
+stands_over cmp most keys = list_any (λ key. nat_lt most (standing cmp key keys)) keys
+
+-- The same, told key by key where equal ones stand side by side: so many of the last one stood just before.
+abbrev pub run_over : {K : Type 0} → (K → K → Ordering) → ℕ → K → ℕ → List K → Bool
+run_over cmp most last before [] = false
+run_over cmp most last before (key ∷ keys) =
+    cond (is_eq (cmp last key)) (nat_le most before || run_over cmp most last (suc before) keys) (nat_le most 0 || run_over cmp most key 1 keys)
