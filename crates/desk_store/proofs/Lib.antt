@@ -1,7 +1,6 @@
 pub mod Creations
 pub mod SeatRows
 pub mod NumbersOf
-pub mod JudgedReaders
 pub mod Frames
 pub mod CardRows
 pub mod ReaderRows

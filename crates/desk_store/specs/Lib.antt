@@ -10,4 +10,3 @@ pub mod Permits
 pub mod Opening
 pub mod Stacks
 pub mod Picking
-pub mod Doubts

@@ -1,12 +1,12 @@
 -- The readers are judged in the order of their tickets.
-use Rattle.std.proofs.Common.{length-append, inl, inr, ◌≡◌, ℕ, suc, pos, negsuc, ◌+◌, List, [], ◌∷◌, ◌++◌, length, map, Bool, true, false, not, ◌&&◌, ◌||◌, nat_eq, nat_le, Option, Some, None, is_none, filter_map, refl, sym, ap, ap₂, subst, ◌∙◌, arith, codes}
+use Rattle.std.proofs.Common.{length-append, inl, inr, ◌≡◌, ℕ, suc, pos, negsuc, ◌+◌, List, [], ◌∷◌, ◌++◌, length, map, Bool, true, false, cond, not, ◌&&◌, ◌||◌, nat_eq, nat_le, Option, Some, None, is_none, filter_map, refl, sym, ap, ap₂, subst, ◌∙◌, arith, codes}
 use Rattle.std.proofs.Math.Nat.{le_refl}
 use Rattle.std.specs.List.{list_all, list_any, cons_option}
 use Rattle.std.specs.Option.{option_map_or}
 use Rattle.std.specs.List.Sorted.{IsSorted, IsPermutation}
 use Rattle.std.proofs.lemmas.List.{length-map}
 use Rattle.std.proofs.lemmas.List.Sorted.{list_any-IsPermutation, length_permutation}
-use Rattle.std.proofs.lemmas.Bool.{cases_Bool, both_ways}
+use Rattle.std.proofs.lemmas.Bool.{cases_Bool, both_ways, or_parts}
 use Rattle.sqlite.specs.declared.types.Value.{Value}
 use Rattle.sqlite.specs.declared.types.Value.TheVariants.{Null, Int, Real, Text, Blob}
 use Rattle.sqlite.specs.declared.error.Error.{Error}
@@ -37,18 +37,15 @@ use Rattle.office_tables.proofs.CellTexts.{from_first}
 use Rattle.office_tables.proofs.Rows.{kept_all}
 use Rattle.office_tables.proofs.Queries.{asking}
 use Rattle.office_tables.proofs.statements.SelectOf.{select_rows}
-use Rattle.desk_store.specs.Doubts.{is_reader_with, is_reader_answer, are_reader_answers, are_registered_well, readers_in, readers_are_doubtful}
+use Rattle.desk_checks.proofs.TableReads.{same_rows}
+use Rattle.desk_checks.specs.Readers.{is_reader_with, is_reader_answer, are_reader_answers, are_registered_well, readers_in, readers_are_doubtful, number_registered}
 use Rattle.office_tables.proofs.ByNumber.{by, by_key, read_by_number, any_read, any_ordered, length_read, length_ordered}
-
-same_rows : {A : Type 0} (xs : List A) → xs ≡ map (λ x. x) xs
-same_rows [] = refl
-same_rows (x ∷ xs) = ap (λ l. x ∷ l) (same_rows xs)
 
 all_as_any : {A : Type 0} (p : A → Bool) (xs : List A) → list_all p xs ≡ not (list_any (λ x. not (p x)) xs)
 all_as_any p [] = refl
 all_as_any p (x ∷ xs) = elim (p x) as (λ b. (b && list_all p xs) ≡ not (not b || list_any (λ x. not (p x)) xs)) [ true ↦ all_as_any p xs | false ↦ refl ]
 
-is_number : (v : Value) (n : ℕ) → number_in v ≡ Some n → v ≡ Int (pos n)
+pub is_number : (v : Value) (n : ℕ) → number_in v ≡ Some n → v ≡ Int (pos n)
 is_number Null n h = absurd cc
 is_number (Int (pos m)) n h = let same : m ≡ n = cc in ap (λ k. Int (pos k)) same
 is_number (Int (negsuc m)) n h = absurd cc
@@ -196,3 +193,22 @@ readers_judged db ys rows count good same sorted shown counted is = elim (cases_
 
     all_told : good ≡ (not (has_unread read_reader ys) && (are_numbered_from ticket_of 1 (filter_map read_reader ys) && list_all is_good_reader (filter_map read_reader ys)))
     all_told = is ∙ ap (are_reader_answers 1) shown ∙ answers_read 1 ys
+
+-- as many are counted as there are, where all of them can be read
+counted_all : (db : Trees) (ys rows : List Row) (count : ℕ) → IsPermutation (db 0) ys → rows ≡ map shown_reader ys → count ≡ length rows → has_unread read_reader (db 0) ≡ false → count ≡ length (readers_in db)
+counted_all db ys rows count same shown counted none =
+    counted ∙ ap length shown ∙ length-map ys shown_reader ∙ length_permutation (db 0) ys same ∙ sym (length_read read_reader (db 0) none) ∙ sym (length_ordered ticket_of (by ticket_of) (filter_map read_reader (db 0)))
+
+module _ (db : Trees) (ys rows : List Row) (count : ℕ) (good : Bool) (same : IsPermutation (db 0) ys) (sorted : IsSorted (by_key read_reader ticket_of keyed) ys) (shown : rows ≡ map shown_reader ys)
+    (counted : count ≡ length rows) (is : good ≡ are_reader_answers 1 rows) where
+  judged : not (good && nat_le count 1000000) ≡ readers_are_doubtful db
+  judged = readers_judged db ys rows count good same sorted shown counted is
+
+  pub registered_so_many : (good && nat_le count 1000000) ≡ true → Some count ≡ number_registered db
+  registered_so_many fine =
+      let sound : readers_are_doubtful db ≡ false = sym judged ∙ ap not fine in
+      let none = (or_parts (has_unread read_reader (db 0)) (not (are_registered_well (readers_in db))) sound).0 in
+      ap Some (counted_all db ys rows count same shown counted none) ∙ sym (ap (λ b. cond b None (Some (length (readers_in db)))) sound)
+
+  pub registered_badly : (good && nat_le count 1000000) ≡ false → None ≡ number_registered db
+  registered_badly bad = sym (ap (λ b. cond b None (Some (length (readers_in db)))) (sym judged ∙ ap not bad))

@@ -13,33 +13,16 @@ ghost use Rattle.office_tables.specs.Asking.{Reads};
 ghost use Rattle.office_tables.specs.Cells.{number_in as number_said, whole_in, text_in};
 ghost use Rattle.office_tables.specs.Faults.{Excused};
 ghost use Rattle.office_tables.specs.Step.{InOffice};
-ghost use Rattle.desk_store.specs.Doubts.{is_reader_answer, readers_are_doubtful as are_doubtful};
+ghost use Rattle.desk_checks.specs.Readers.{is_reader_answer, number_registered};
 
-use crate::readers::MOST_TICKETS;
+use crate::cells::{cell, number_in};
 use isad_core::is_blank;
 use office_tables::{Gathering, StoreFault, gather};
 use sqlite::types::ValueRef;
 use sqlite::{Alter, Connection, Row};
 
-/// The cell in a column, and null past the last.
-fn cell(row: &Row, at: usize) -> ValueRef<'_>
-    ensures { owned result ≡ column row.now at }
-{
-    match row.get_ref(at) {
-        Ok(value) => value,
-        Err(_) => ValueRef::Null,
-    }
-}
-
-/// A number, from 0 on.
-fn number_in(value: ValueRef<'_>) -> Option<u64>
-    ensures { result ≡ number_said (owned value.entry) }
-{
-    match value {
-        ValueRef::Int(n) if n >= 0 => Some(n as u64),
-        _ => None,
-    }
-}
+/// How many tickets an office gives.
+const MOST_TICKETS: u64 = 1_000_000;
 
 /// Whether it is a day of the calendar.
 fn is_day(value: ValueRef<'_>) -> bool
@@ -98,7 +81,7 @@ struct Readers {
 
 impl Gathering for Readers {
     ghost use Rattle.std.specs.Prelude.{◌≡◌, length};
-    ghost use Rattle.desk_store.specs.Doubts.{are_reader_answers};
+    ghost use Rattle.desk_checks.specs.Readers.{are_reader_answers};
 
     ghost holds = { λ rows all. (all.count ≡ length rows) × (all.are_good ≡ are_reader_answers 1 rows) };
 
@@ -114,12 +97,13 @@ impl Gathering for Readers {
     }
 }
 
-/// Whether the rows of the readers are such as no desk has. The table is read whole, row by row.
-pub fn readers_are_doubtful<S: Alter>(conn: &mut Connection<S>) -> Result<bool, StoreFault>
+/// How many readers there are, unless their rows are such as no desk has. The table is read whole,
+/// row by row.
+pub(crate) fn registered<S: Alter>(conn: &mut Connection<S>) -> Result<Option<u64>, StoreFault>
     requires inside { InOffice (state S.Store conn.old) }
     ensures reads { Reads (state S.Store conn.old) (state S.Store conn.new) result }
     ensures tells { HasCleanDisk (state S.Store conn.new)
-        → IfOk result (λ doubtful. doubtful ≡ are_doubtful (state S.Store conn.old).now.trees) }
+        → IfOk result (λ count. count ≡ number_registered (state S.Store conn.old).now.trees) }
     ensures faults { Excused (state S.Store conn.old) (state S.Store conn.new) result }
 {
     let all = gather(
@@ -130,5 +114,10 @@ pub fn readers_are_doubtful<S: Alter>(conn: &mut Connection<S>) -> Result<bool, 
             are_good: true,
         },
     )?;
-    Ok(!(all.are_good && all.count <= MOST_TICKETS as u64))
+    let are_sound = all.are_good && all.count <= MOST_TICKETS;
+    if are_sound {
+        Ok(Some(all.count))
+    } else {
+        Ok(None)
+    }
 }

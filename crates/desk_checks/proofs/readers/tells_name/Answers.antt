@@ -4,7 +4,7 @@ use Rattle.sqlite.specs.Value.{owned}
 use Rattle.desk_core.specs.Names.{is_name}
 use Rattle.office_tables.specs.Cells.{text_in}
 use Rattle.office_tables.proofs.CellTexts.{says_text, says_nothing}
-use Rattle.desk_store.proofs.doubts.tells_name.Goals as goal
+use Rattle.desk_checks.proofs.readers.tells_name.Goals as goal
 
 pub returns-in-Ok : goal.returns-in-Ok
 returns-in-Ok c =

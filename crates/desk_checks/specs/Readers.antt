@@ -1,5 +1,5 @@
 -- Whether rows of doubtful origin can be a desk's, whatever their cells are.
-use Rattle.std.specs.Prelude.{ℕ, suc, Bool, true, false, not, ◌&&◌, ◌||◌, List, [], ◌∷◌, Some, filter_map, length, nat_eq, nat_le, nat_lt}
+use Rattle.std.specs.Prelude.{ℕ, suc, Bool, true, false, not, cond, Option, None, ◌&&◌, ◌||◌, List, [], ◌∷◌, Some, filter_map, length, nat_eq, nat_le, nat_lt}
 use Rattle.std.specs.List.{list_all}
 use Rattle.std.specs.Option.{option_map_or}
 use Rattle.sqlite.specs.Order.{Row, column}
@@ -25,6 +25,10 @@ are_registered_well readers =
 -- some row of a reader cannot be read, or they are such as no desk has
 abbrev pub readers_are_doubtful : Trees → Bool
 readers_are_doubtful db = has_unread read_reader (db tables.reader.tree) || not (are_registered_well (readers_in db))
+
+-- how many there are, unless they are doubtful
+abbrev pub number_registered : Trees → Option ℕ
+number_registered db = cond (readers_are_doubtful db) None (Some (length (readers_in db)))
 
 -- ---- as they are read: the ticket, the last day and the name
 

@@ -1,0 +1,29 @@
+-- Calls that read, one after the other.
+use Rattle.std.proofs.Common.{◌≡◌, Result, Ok, Err, ap}
+use Rattle.sqlite.specs.State.{State, HasCleanDisk}
+use Rattle.office_tables.specs.Asking.{Reads}
+use Rattle.office_tables.specs.Faults.{Excused}
+use Rattle.office_tables.specs.Step.{Looks, IsCut}
+use Rattle.office_tables.specs.declared.fault.StoreFault.{StoreFault}
+use Rattle.office_tables.proofs.CallEnds.{excused_then}
+use Rattle.office_tables.proofs.Calls.{early, cut_then, looks_then}
+
+-- the tables are as they were
+pub same_trees : (a b : State) → Looks a b → HasCleanDisk b → b.now.trees ≡ a.now.trees
+same_trees a b one clean = ap (λ d. d.trees) (one.same clean)
+
+pub before : (a b : State) → Looks a b → HasCleanDisk b → HasCleanDisk a
+before a b one clean = early a b _ one.goes.on.crash clean
+
+pub reads_well : {X : Type 0} (a b : State) (x : X) → Looks a b → Reads a b (Ok x)
+reads_well a b x one = record { crash = one.goes.on.crash; looks = one; cut = tt }
+
+pub reads_not : {X : Type 0} (a b : State) (e : StoreFault) → IsCut a b → Reads {X = X} a b (Err e)
+reads_not a b e cut = record { crash = cut.crash; looks = tt; cut = cut }
+
+pub reads_then : {X : Type 0} (a b c : State) (r : Result X StoreFault) → Looks a b → Reads b c r → Reads a c r
+reads_then a b c (Ok x) one two = reads_well a c x (looks_then a b c one two.looks)
+reads_then a b c (Err e) one two = reads_not a c e (cut_then a b c one.goes.on two.cut)
+
+pub excused_after : {X : Type 0} (a b c : State) (r : Result X StoreFault) → Looks a b → Reads b c r → Excused b c r → Excused a c r
+excused_after a b c r one two why = excused_then a b c one.goes.on r two.cut (λ _. why)

@@ -1,0 +1,4 @@
+pub mod Readers
+pub mod Readings
+pub mod Checks
+pub mod Judging
