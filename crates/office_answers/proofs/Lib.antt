@@ -1,0 +1,3 @@
+pub mod Lists
+pub mod DayTexts
+pub mod ReplyWhole
