@@ -1,6 +1,9 @@
+pub mod Answerings
 pub mod Crashes
 pub mod DeskSteps
 pub mod Doings
 pub mod Frames
 pub mod RowsOfLists
 pub mod EmptySeats
+pub mod StacksShown
+pub mod QueuesShown
