@@ -1,3 +1,4 @@
-pub mod Lists
 pub mod DayTexts
+pub mod Lists
+pub mod QueueTold
 pub mod ReplyWhole

@@ -2,7 +2,9 @@
 //! a command as JSON.
 #![tactic(auto)]
 
+mod queues;
 mod replies;
 mod values;
 
+pub use queues::queue;
 pub use replies::json_of;
