@@ -4,3 +4,8 @@ pub mod Doings
 pub mod Frames
 pub mod RowsOfLists
 pub mod EmptySeats
+pub mod CommandSteps
+pub mod OrderRows
+pub mod StacksShown
+pub mod HoldingRows
+pub mod QueuesShown
