@@ -4,3 +4,9 @@ pub mod Doings
 pub mod Frames
 pub mod RowsOfLists
 pub mod EmptySeats
+pub mod CommandSteps
+pub mod SeatsShown
+pub mod HeldShown
+pub mod CardsShown
+pub mod PermitsShown
+pub mod OrdersShown
