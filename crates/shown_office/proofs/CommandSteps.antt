@@ -8,7 +8,7 @@ use Rattle.catalogue_rows.specs.Shows.{catalogue_trees}
 use Rattle.desk_core.specs.DeskRows.{Desk}
 use Rattle.desk_core.specs.declared.refusal.Refusal.{Refusal}
 use Rattle.desk_store.specs.Shows.{ShowsDesk}
-use Rattle.office_core.specs.Rules.{Reply, after, refusal, step, told}
+use Rattle.office_core.specs.Rules.{Reply, after, refusal, told}
 use Rattle.office_core.specs.SoundOffice.{AreTexts, NamesTexts}
 use Rattle.office_core.specs.State.{State}
 use Rattle.office_core.specs.declared.command.Command.{Command}

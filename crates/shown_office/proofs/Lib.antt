@@ -9,3 +9,8 @@ pub mod OrderRows
 pub mod StacksShown
 pub mod HoldingRows
 pub mod QueuesShown
+pub mod SeatsShown
+pub mod HeldShown
+pub mod CardsShown
+pub mod PermitsShown
+pub mod OrdersShown

@@ -1,3 +1,4 @@
 pub mod Shown
 pub mod Doing
 pub mod Allowed
+pub mod Sitters
