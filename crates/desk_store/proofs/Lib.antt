@@ -31,3 +31,4 @@ pub mod PickingLists
 pub mod PickingCalls
 pub mod BroughtRows
 pub mod BroughtCalls
+pub mod MadeInTurn
