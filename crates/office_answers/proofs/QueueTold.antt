@@ -7,6 +7,7 @@ use Rattle.std.proofs.lemmas.Simd.{map-map}
 use Rattle.isad_core.specs.declared.values.BoxKey.{BoxKey}
 use Rattle.tree_core.specs.Versions.{Version}
 use Rattle.desk_core.specs.DeskRows.{OrderRow}
+use Rattle.desk_core.specs.declared.refusal.Refusal.TheVariants.{UnknownContainer}
 use Rattle.desk_core.specs.declared.reader.Place.{Place}
 use Rattle.desk_core.specs.declared.reader.Place.TheVariants.{Shelf, Desk, Out}
 use Rattle.desk_store.specs.Orders.{queue_of}
@@ -14,7 +15,8 @@ use Rattle.desk_store.specs.Stacks.{IsQueued, box_with}
 use Rattle.desk_store.specs.declared.orders.WaitingOrder.{WaitingOrder}
 use Rattle.desk_store.specs.declared.queues.ContainerQueue.{ContainerQueue}
 use Rattle.office_core.specs.Json.{count, fields, list, or_null}
-use Rattle.office_core.specs.Queries.{place_name, queue_json, waiting_json}
+use Rattle.office_core.specs.Queries.{answer, known_json, place_name, queue_json, waiting_json}
+use Rattle.office_core.specs.declared.query.Query.TheVariants as query
 use Rattle.office_core.specs.SoundOffice.{IsSoundOffice}
 use Rattle.office_core.specs.State.{State, order_out}
 use Rattle.office_core.specs.Words.{numbered}
@@ -38,7 +40,6 @@ queue_whole c q = at q.place
     at (Out o) = rw waiting refl
 
 module _ (version : Version) (s : State) (sound : IsSoundOffice s) (c : ℕ) where
-
   waiting_told : map waiting_data (queue_of c (tables version s).desk) ≡ filter_map (waiting_json s) (s.queue c)
   waiting_told =
       map-map waiting_data (λ (o : OrderRow). (let w : WaitingOrder = record { order = o.id; ticket = o.ticket } in w)) (filter (waits_in c) (order_rows s))
@@ -65,3 +66,7 @@ module _ (version : Version) (s : State) (sound : IsSoundOffice s) (c : ℕ) whe
           ∷ (codes "waiting", list l)
           ∷ [])))
           waiting_told
+
+  pub queue_answer : (found : Option ContainerQueue) → IsQueued c (stacks_of version s) (box_with c (stacks_of version s)) found
+      → known_json UnknownContainer (option_map (queue_data c) found) ≡ answer s (query.Queue c)
+  queue_answer found is = ap (known_json UnknownContainer) (queue_told found is)

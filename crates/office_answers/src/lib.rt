@@ -2,9 +2,17 @@
 //! a command as JSON.
 #![tactic(auto)]
 
+mod cards;
+mod loans;
+mod permitted;
 mod queues;
 mod replies;
+mod slips;
 mod values;
 
+pub use cards::reader_orders;
+pub use loans::issued_now;
+pub use permitted::reader_permits;
 pub use queues::queue;
 pub use replies::json_of;
+pub use slips::run_slip;

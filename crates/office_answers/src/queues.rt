@@ -55,11 +55,7 @@ fn name_of(place: Place) -> &'static str
 }
 
 /// What is told of a container.
-fn queue_value(
-    alloc: Global,
-    container: u64,
-    queue: &ContainerQueue,
-) -> Result<Value, AllocError>
+fn queue_value(alloc: Global, container: u64, queue: &ContainerQueue) -> Result<Value, AllocError>
     ensures { IfOk result (λ v. view v ≡ queue_data container queue.now) }
 {
     let waiting = values_of(alloc, queue.waiting.as_slice())?;
@@ -70,11 +66,7 @@ fn queue_value(
 }
 
 /// The same as bytes.
-fn queue_text(
-    alloc: Global,
-    container: u64,
-    queue: &ContainerQueue,
-) -> Result<List<u8>, AllocError>
+fn queue_text(alloc: Global, container: u64, queue: &ContainerQueue) -> Result<List<u8>, AllocError>
     ensures { IfOk result (λ text. text ≡ compact_text (queue_data container queue.now)) }
 {
     let value = queue_value(alloc, container, queue)?;

@@ -49,3 +49,12 @@ pub(crate) fn text_of(alloc: Global, value: &Value) -> Result<List<u8>, AllocErr
     let text = value.to_string(alloc)?;
     Ok(List(text.into_bytes()))
 }
+
+/// The bytes of a list of such things, of which none has a number with a fraction.
+pub(crate) fn list_text<T: Told>(alloc: Global, things: &[T]) -> Result<List<u8>, AllocError>
+    requires whole { has_float (list (map T.told things.now)) ≡ false }
+    ensures { IfOk result (λ text. text ≡ compact_text (list (map T.told things.now))) }
+{
+    let value = values_of(alloc, things)?;
+    text_of(alloc, &value)
+}
