@@ -62,7 +62,13 @@ fn queue_value(alloc: Global, container: u64, queue: &ContainerQueue) -> Result<
     let out = out_value(queue.place);
     let place = name_of(queue.place);
     let name = queue.name.as_str();
-    json!(in alloc; {"container": container, "name": name, "out": out, "place": place, "waiting": waiting})
+    json!(in alloc; {
+        "container": container,
+        "name": name,
+        "out": out,
+        "place": place,
+        "waiting": waiting
+    })
 }
 
 /// The same as bytes.

@@ -3,6 +3,7 @@
 ghost use Rattle.std.specs.Prelude.{◌≡◌, [], ◌∷◌, codes, map, IfOk};
 ghost use Rattle.serde_json.specs.View.{view};
 ghost use Rattle.office_core.specs.Json.{count, date, done_json, fields, list, refusal_json, reply_json, reply_text};
+ghost use Rattle.office_core.specs.declared.done.Done.TheVariants as done;
 
 use crate::values::{Told, day_value, text_of, values_of};
 use isad_core::{Day, List};
@@ -56,6 +57,35 @@ fn opened(alloc: Global, day: Day) -> Result<Value, AllocError>
     json!(in alloc; {"day": day})
 }
 
+/// What is told of a file that was taken in.
+fn imported(
+    alloc: Global,
+    changed: u64,
+    new: u64,
+    remarks: &[Remark],
+    same: u64,
+    translations: u64,
+) -> Result<Value, AllocError>
+    ensures { IfOk result (λ v. view v ≡ done_json (done.Import changed new remarks.now same translations)) }
+{
+    let remarks = values_of(alloc, remarks)?;
+    json!(in alloc; {
+        "changed": changed,
+        "new": new,
+        "remarks": remarks,
+        "same": same,
+        "translations": translations
+    })
+}
+
+/// What is told of a permit.
+fn permitted(alloc: Global, ticket: u64, unit: u64, until: Day) -> Result<Value, AllocError>
+    ensures { IfOk result (λ v. view v ≡ done_json (done.Permit ticket unit until)) }
+{
+    let until = day_value(alloc, until)?;
+    json!(in alloc; {"ticket": ticket, "unit": unit, "until": until})
+}
+
 /// What is told of a command that was done.
 fn done_value(alloc: Global, done: &Done) -> Result<Value, AllocError>
     ensures { IfOk result (λ v. view v ≡ done_json done.now) }
@@ -68,10 +98,14 @@ fn done_value(alloc: Global, done: &Done) -> Result<Value, AllocError>
             remarks,
             same,
             translations,
-        } => {
-            let remarks = values_of(alloc, remarks.as_slice())?;
-            json!(in alloc; {"changed": *changed, "new": *new, "remarks": remarks, "same": *same, "translations": *translations})
-        }
+        } => imported(
+            alloc,
+            *changed,
+            *new,
+            remarks.as_slice(),
+            *same,
+            *translations,
+        ),
         Done::SetStatus { units } => numbered(alloc, "units", *units),
         Done::SetClosure { unit } => numbered(alloc, "unit", *unit),
         Done::Move { unit } => numbered(alloc, "unit", *unit),
@@ -90,10 +124,7 @@ fn done_value(alloc: Global, done: &Done) -> Result<Value, AllocError>
             ticket,
             unit,
             until,
-        } => {
-            let until = day_value(alloc, *until)?;
-            json!(in alloc; {"ticket": *ticket, "unit": *unit, "until": until})
-        }
+        } => permitted(alloc, *ticket, *unit, *until),
         Done::Revoke { unit } => numbered(alloc, "unit", *unit),
     }
 }
