@@ -30,3 +30,4 @@ pub mod PickingLists
 pub mod PickingCalls
 pub mod BroughtRows
 pub mod BroughtCalls
+pub mod MadeInTurn

@@ -1,6 +1,6 @@
 //! Queues of containers.
 
-ghost use Rattle.std.specs.Prelude.{◌≡◌, nat_eq, List as Rows, map, filter, slice_get, IfOk, IsOk, ⊤};
+ghost use Rattle.std.specs.Prelude.{◌≡◌, nat_eq, List as Rows, map, filter, slice_get, IfOk, IfSome, IsOk, ⊤};
 ghost use Rattle.sqlite.specs.Held.{state};
 ghost use Rattle.sqlite.specs.State.{HasCleanDisk};
 ghost use Rattle.isad_core.specs.Limits.{IsNumber};
@@ -130,6 +130,7 @@ pub fn queue<S: Alter>(
     requires inside { InOffice (state S.Store conn.old) }
     ensures tells { Tells S.Store ShowsStacks IsLegibleStacks conn.old conn.new result (λ _. ⊤)
         (λ _ stacks found. IsQueued container stacks (box_with container stacks) found) }
+    ensures small { IfOk result (λ found. IfSome found (λ _. IsNumber container)) }
 {
     let Some(known) = box_of(alloc, conn, container)? else {
         return Ok(None);

@@ -1,6 +1,17 @@
+pub mod Answerings
 pub mod Crashes
 pub mod DeskSteps
 pub mod Doings
 pub mod Frames
 pub mod RowsOfLists
 pub mod EmptySeats
+pub mod StacksShown
+pub mod QueuesShown
+pub mod CommandSteps
+pub mod OrderRows
+pub mod HoldingRows
+pub mod SeatsShown
+pub mod HeldShown
+pub mod CardsShown
+pub mod PermitsShown
+pub mod OrdersShown

@@ -1,2 +1,5 @@
 pub mod Shown
 pub mod Doing
+pub mod Answering
+pub mod Allowed
+pub mod Sitters

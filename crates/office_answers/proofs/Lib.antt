@@ -1,0 +1,9 @@
+pub mod DayTexts
+pub mod Lists
+pub mod QueueTold
+pub mod ReplyWhole
+pub mod IssuedTold
+pub mod PermitsTold
+pub mod CardTold
+pub mod SlipTold
+pub mod RunTold

@@ -1,0 +1,60 @@
+//! Values in JSON, and their bytes.
+
+ghost use Rattle.std.specs.Prelude.{◌≡◌, false, map, IfOk};
+ghost use Rattle.serde_json.specs.View.{view};
+ghost use Rattle.serde_json.specs.Written.{compact_text, has_float};
+ghost use Rattle.office_core.specs.Json.{date, list};
+
+use isad_core::{Day, List};
+use serde_json::{Value, json};
+use std::alloc::{AllocError, Global};
+
+/// A thing that is told in JSON.
+pub(crate) trait Told {
+    ghost use Rattle.serde_json.specs.Data.{Data};
+
+    /// The value that stands for it.
+    ghost told: { Self → Data };
+
+    /// That value.
+    fn value(&self, alloc: Global) -> Result<Value, AllocError>
+        ensures { IfOk result (λ v. view v ≡ told self.now) };
+}
+
+/// A list of such things.
+pub(crate) fn values_of<T: Told>(alloc: Global, things: &[T]) -> Result<Value, AllocError>
+    ensures { IfOk result (λ v. view v ≡ list (map T.told things.now)) }
+{
+    let mut values = Vec::new(alloc);
+    for thing in things {
+        values.push(thing.value(alloc)?)?;
+    }
+    Ok(Value::Array(values))
+}
+
+/// The date of a day.
+pub(crate) fn day_value(alloc: Global, day: Day) -> Result<Value, AllocError>
+    ensures { IfOk result (λ v. view v ≡ date day) }
+{
+    let date = day.text();
+    let text = str::from_utf8(&date).unwrap();
+    json!(in alloc; text)
+}
+
+/// The bytes of a value that has no number with a fraction.
+pub(crate) fn text_of(alloc: Global, value: &Value) -> Result<List<u8>, AllocError>
+    requires whole { has_float (view value.now) ≡ false }
+    ensures { IfOk result (λ text. text ≡ compact_text (view value.now)) }
+{
+    let text = value.to_string(alloc)?;
+    Ok(List(text.into_bytes()))
+}
+
+/// The bytes of a list of such things, of which none has a number with a fraction.
+pub(crate) fn list_text<T: Told>(alloc: Global, things: &[T]) -> Result<List<u8>, AllocError>
+    requires whole { has_float (list (map T.told things.now)) ≡ false }
+    ensures { IfOk result (λ text. text ≡ compact_text (list (map T.told things.now))) }
+{
+    let value = values_of(alloc, things)?;
+    text_of(alloc, &value)
+}
