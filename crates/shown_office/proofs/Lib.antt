@@ -1,6 +1,15 @@
+pub mod Changed
+pub mod CleanMarks
 pub mod Crashes
 pub mod DeskSteps
 pub mod Doings
-pub mod Frames
-pub mod RowsOfLists
 pub mod EmptySeats
+pub mod Frames
+pub mod Gates
+pub mod Judged
+pub mod NamedContainers
+pub mod OpenByRows
+pub mod Passing
+pub mod PermitFrames
+pub mod RowsOfLists
+pub mod Tellings

@@ -1,2 +1,5 @@
 pub mod Shown
 pub mod Doing
+pub mod Judging
+pub mod Openness
+pub mod Gate
