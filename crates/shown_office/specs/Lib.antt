@@ -3,3 +3,6 @@ pub mod Doing
 pub mod Answering
 pub mod Allowed
 pub mod Sitters
+pub mod Judging
+pub mod Openness
+pub mod Gate
