@@ -2,3 +2,6 @@ pub mod Registered
 pub mod StillOut
 pub mod DayOpened
 pub mod Renewed
+pub mod Seated
+pub mod Ordered
+pub mod Permitted

@@ -4,7 +4,9 @@
 mod opening;
 mod registering;
 mod renewing;
+mod seats;
 
 pub use opening::open;
 pub use registering::register;
 pub use renewing::renew_ticket;
+pub use seats::{leave_seat, take_seat};

@@ -1,0 +1,20 @@
+-- Permits that are granted and taken back.
+use Rattle.std.specs.Prelude.{◌≡◌, ℕ, ℤ, int_lt, cond, nat_eq, find, List, Option, Some, None, option_map}
+use Rattle.desk_store.specs.declared.granting.Permit.{Permit}
+use Rattle.office_core.specs.Rules.{refusal}
+use Rattle.office_core.specs.State.{State, granted_until}
+use Rattle.office_core.specs.declared.command.Command.TheVariants as command
+
+-- the last day of the permit for a unit, where there is one
+abbrev pub until_for : ℕ → List Permit → Option ℤ
+until_for unit permits = option_map (λ (permit : Permit). permit.until) (find (λ (permit : Permit). nat_eq permit.unit unit) permits)
+
+-- the later of two days, where there are two
+abbrev pub later_of : Option ℤ → ℤ → ℤ
+later_of None day = day
+later_of (Some held) day = cond (int_lt held day) day held
+
+-- nothing keeps the ticket from a permit for the unit to the day that is asked, and this is the day that then stands
+pub record MayPermit (s : State) (ticket unit : ℕ) (asked until : ℤ) : Type 0 where
+  pub allowed : refusal s (command.Permit ticket unit asked) ≡ None
+  pub stands : until ≡ granted_until unit asked (s.permits ticket)

@@ -1,0 +1,129 @@
+//! Readers sit down, and leave.
+
+ghost use Rattle.std.specs.Prelude.{◌≡◌, ◌<◌, ◌^◌, ⊤, IfOk, IfSome, IsPermutation, map, option_map};
+ghost use Rattle.std.specs.List.Sorted.{IsNonDecreasing};
+ghost use Rattle.sqlite.specs.Held.{state};
+ghost use Rattle.isad_core.specs.Limits.{IsNumber};
+ghost use Rattle.desk_store.specs.declared.cards.ReaderCard.{ReaderCard as Card};
+ghost use Rattle.desk_store.specs.declared.seating.TakenSeat.{TakenSeat as Taken};
+ghost use Rattle.office_core.specs.declared.command.Command.TheVariants as command;
+ghost use Rattle.office_tables.specs.Step.{InTransaction};
+ghost use Rattle.shown_office.specs.Allowed.{limits_of};
+ghost use Rattle.shown_office.specs.Doing.{Does};
+ghost use Rattle.shown_office.specs.Sitters.{sitter};
+ghost use Rattle.desk_commands.specs.Seating.{MayLeave, MaySit};
+
+use catalogue_store::Places;
+use desk_core::{Limits, Reader, may_leave, may_sit};
+use desk_store::{ReaderCard, TakenSeat, reader, seats, set_seat};
+use isad_core::Day;
+use office_core::{Done, Refusal};
+use office_tables::StoreFault;
+use sqlite::{Alter, Connection};
+use std::alloc::{AllocError, Global};
+
+/// The reader of a card, where there is one.
+pub(crate) fn reader_of(card: &Option<ReaderCard>) -> Option<Reader>
+    ensures { result ≡ option_map (λ (c : Card). c.reader) card.now }
+{
+    card.as_ref().map(|card| card.reader)
+}
+
+/// Frees the seat of a ticket, which may leave.
+fn free_seat<P: Places, S: Alter>(
+    conn: &mut Connection<S>,
+    ticket: u64,
+    seat: u32,
+) -> Result<Result<Done, Refusal>, StoreFault>
+    requires inside { InTransaction P.version (state S.Store conn.old) }
+    ensures { Does P.shows P.version (λ s. MayLeave s ticket seat) (command.LeaveSeat ticket)
+        (state S.Store conn.old) (state S.Store conn.new) result }
+{
+    set_seat(conn, seat, None)?;
+    Ok(Ok(Done::LeaveSeat { seat }))
+}
+
+/// A ticket leaves its seat, where no container is out with it.
+pub fn leave_seat<P: Places, S: Alter>(
+    alloc: Global,
+    conn: &mut Connection<S>,
+    today: Day,
+    ticket: u64,
+) -> Result<Result<Done, Refusal>, StoreFault>
+    requires inside { InTransaction P.version (state S.Store conn.old) }
+    ensures { Does P.shows P.version (λ _. ⊤) (command.LeaveSeat ticket) (state S.Store conn.old)
+        (state S.Store conn.new) result }
+{
+    let card = reader(alloc, conn, ticket, today)?;
+    match may_leave(reader_of(&card).as_ref()) {
+        Ok(seat) => free_seat::<P, S>(conn, ticket, seat),
+        Err(why) => Ok(Err(why)),
+    }
+}
+
+/// The numbers of the seats that are taken, ascending.
+fn numbers_of(alloc: Global, taken: &[TakenSeat]) -> Result<Vec<u32>, AllocError>
+    ensures same { IfOk result (λ numbers. IsPermutation (map (λ (t : Taken). t.seat) taken.now) numbers.items) }
+    ensures rise { IfOk result (λ numbers. IsNonDecreasing numbers.items) }
+{
+    let mut numbers = taken
+        .iter()
+        .map(|taken| taken.seat)
+        .collect::<Vec<u32>>(alloc)?;
+    numbers.sort_unstable();
+    Ok(numbers)
+}
+
+/// Gives a ticket a seat that is free.
+fn take<P: Places, S: Alter>(
+    conn: &mut Connection<S>,
+    ticket: u64,
+    seat: u32,
+) -> Result<Result<Done, Refusal>, StoreFault>
+    requires inside { InTransaction P.version (state S.Store conn.old) }
+    requires small { IsNumber ticket }
+    ensures { Does P.shows P.version (λ s. MaySit s ticket seat) (command.TakeSeat ticket)
+        (state S.Store conn.old) (state S.Store conn.new) result }
+{
+    set_seat(conn, seat, Some(ticket))?;
+    Ok(Ok(Done::TakeSeat { seat }))
+}
+
+/// Gives a reader the least seat that is free, where he may sit down.
+fn sit_down<P: Places, S: Alter>(
+    alloc: Global,
+    conn: &mut Connection<S>,
+    today: Day,
+    limits: &Limits,
+    ticket: u64,
+    who: Option<Reader>,
+) -> Result<Result<Done, Refusal>, StoreFault>
+    requires inside { InTransaction P.version (state S.Store conn.old) }
+    requires small { IfSome who (λ _. IsNumber ticket) }
+    ensures { Does P.shows P.version
+        (λ s. (today ≡ s.day) × (limits.now ≡ limits_of s) × (who ≡ sitter s ticket)) (command.TakeSeat ticket)
+        (state S.Store conn.old) (state S.Store conn.new) result }
+{
+    let taken = seats(alloc, conn)?;
+    let numbers = numbers_of(alloc, &taken)?;
+    match may_sit(who.as_ref(), today, &numbers, limits) {
+        Ok(seat) => take::<P, S>(conn, ticket, seat),
+        Err(why) => Ok(Err(why)),
+    }
+}
+
+/// A ticket takes the least seat that is free.
+pub fn take_seat<P: Places, S: Alter>(
+    alloc: Global,
+    conn: &mut Connection<S>,
+    today: Day,
+    limits: &Limits,
+    ticket: u64,
+) -> Result<Result<Done, Refusal>, StoreFault>
+    requires inside { InTransaction P.version (state S.Store conn.old) }
+    ensures { Does P.shows P.version (λ s. (today ≡ s.day) × (limits.now ≡ limits_of s))
+        (command.TakeSeat ticket) (state S.Store conn.old) (state S.Store conn.new) result }
+{
+    let card = reader(alloc, conn, ticket, today)?;
+    sit_down::<P, S>(alloc, conn, today, limits, ticket, reader_of(&card))
+}
