@@ -2,3 +2,8 @@ pub mod Registered
 pub mod StillOut
 pub mod DayOpened
 pub mod Renewed
+pub mod Cancelled
+pub mod Returned
+pub mod MovedAll
+pub mod Reshelved
+pub mod QueueTold
