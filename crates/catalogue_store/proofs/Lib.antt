@@ -15,3 +15,4 @@ pub mod MarkCauses
 pub mod ValueCauses
 pub mod WorkedLemmas
 pub mod UnitTold
+pub mod UnitsThere

@@ -13,7 +13,7 @@ mod office;
 mod places;
 mod unit_values;
 
-pub use catalogue::{create, known};
+pub use catalogue::{create, is_unit, known};
 pub use catalogue_rows::{NewUnit, OfficeRow};
 pub use closing::{set_closure, set_status};
 pub use describing::{add_unit, replace_values};

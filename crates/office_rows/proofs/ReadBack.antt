@@ -178,17 +178,21 @@ permits_all permits (suc n) t =
 stands_there : (n t : ℕ) → 1 ≤ t → t ≤ n → stands t (numbers_to n) ≡ true
 stands_there n t l h = elim (cases_Bool (stands t (numbers_to n))) [ inl e ↦ e | inr e ↦ absurd (false≢true (sym (none_to (nat_eq t) n t e l h) ∙ same_number t)) ]
 
-ticket_permits : (s : State) (t : ℕ) (b : Bool) → is_some (numbered s.readers t) ≡ b → AreGoodPermits s → cond (stands t (numbers_to (length s.readers))) (s.permits t) [] ≡ s.permits t
-ticket_permits s t true e g = ap (λ b. cond b (s.permits t) []) (stands_there (length s.readers) t (numbered_from_one s.readers t e) (numbered_within s.readers t e))
-ticket_permits s t false e g = none_either (stands t (numbers_to (length s.readers))) (g.known t e)
+ticket_permits : (s : State) (t : ℕ) (b : Bool) → is_some (numbered s.readers t) ≡ b → (is_some (numbered s.readers t) ≡ false → s.permits t ≡ []) → cond (stands t (numbers_to (length s.readers))) (s.permits t) [] ≡ s.permits t
+ticket_permits s t true e none = ap (λ b. cond b (s.permits t) []) (stands_there (length s.readers) t (numbered_from_one s.readers t e) (numbered_within s.readers t e))
+ticket_permits s t false e none = none_either (stands t (numbers_to (length s.readers))) (none e)
   where
     none_either : (b : Bool) → s.permits t ≡ [] → cond b (s.permits t) [] ≡ s.permits t
     none_either true n = refl
     none_either false n = sym n
 
-pub permits_back : (s : State) → AreGoodPermits s → permits_said (permit_rows s) ≡ s.permits
+-- where only readers have permits
+pub permits_known : (s : State) → ((t : ℕ) → is_some (numbered s.readers t) ≡ false → s.permits t ≡ []) → permits_said (permit_rows s) ≡ s.permits
 unfolding permits_of
-permits_back s g = fun_ext (λ t. permits_all s.permits (length s.readers) t ∙ ticket_permits s t (is_some (numbered s.readers t)) refl g)
+permits_known s none = fun_ext (λ t. permits_all s.permits (length s.readers) t ∙ ticket_permits s t (is_some (numbered s.readers t)) refl (none t))
+
+pub permits_back : (s : State) → AreGoodPermits s → permits_said (permit_rows s) ≡ s.permits
+permits_back s g = permits_known s g.known
 
 -- ---- all of it but the forest
 

@@ -30,7 +30,7 @@ not_true : (b : Bool) → not b ≡ true → b ≡ false
 not_true true h = absurd (cc)
 not_true false h = refl
 
-untouched : (touched : List ℕ) (old new : Database) → OnlyTouches touched old new → (trees : List ℕ) → are_apart touched trees ≡ true
+pub untouched : (touched : List ℕ) (old new : Database) → OnlyTouches touched old new → (trees : List ℕ) → are_apart touched trees ≡ true
     → AllByRecursion (λ tree. new.trees tree ≡ old.trees tree) trees
 untouched touched old new only [] h = tt
 untouched touched old new only (tree ∷ trees) h =

@@ -1,8 +1,8 @@
+pub mod Changed
+pub mod CleanMarks
 pub mod Crashes
 pub mod DeskSteps
 pub mod Doings
-pub mod Frames
-pub mod RowsOfLists
 pub mod EmptySeats
 pub mod CommandSteps
 pub mod OrderRows
@@ -14,3 +14,12 @@ pub mod HeldShown
 pub mod CardsShown
 pub mod PermitsShown
 pub mod OrdersShown
+pub mod Frames
+pub mod Gates
+pub mod Judged
+pub mod NamedContainers
+pub mod OpenByRows
+pub mod Passing
+pub mod PermitFrames
+pub mod RowsOfLists
+pub mod Tellings

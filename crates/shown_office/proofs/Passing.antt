@@ -1,0 +1,83 @@
+-- A change that the gate has the last word on.
+use Rattle.std.proofs.Common.{◌≡◌, ℕ, ℤ, Bool, Option, Some, None, Result, Ok, Err, OnOk, OnErr, refl, sym, ap, subst, ◌∙◌, []}
+use Rattle.std.specs.Prelude.{◌∷◌, ⊤, IfOk, IsOk}
+use Rattle.sqlite.specs.Effect.{Database}
+use Rattle.sqlite.specs.Held.{Held, state}
+use Rattle.sqlite.specs.State as store
+use Rattle.sqlite.specs.State.{HasCleanDisk}
+use Rattle.sqlite.specs.Tree.{Trees}
+use Rattle.sqlite_trees.specs.declared.store.Store as kept_in
+use Rattle.tree_core.specs.Forest.{Forest}
+use Rattle.tree_core.specs.Versions.{Version}
+use Rattle.desk_core.specs.Refusals.{first_that_holds}
+use Rattle.desk_core.specs.declared.refusal.Refusal.{Refusal}
+use Rattle.office_core.specs.Rules.{Reply, after, decided, gate, refusal, step, told}
+use Rattle.office_core.specs.SoundOffice.{IsSoundOffice}
+use Rattle.office_core.specs.State.{State}
+use Rattle.office_core.specs.declared.command.Command.{Command}
+use Rattle.office_core.specs.declared.done.Done.{Done}
+use Rattle.office_tables.specs.Calls.{Tells}
+use Rattle.office_tables.specs.Step.{Goes, IsCut, Looks}
+use Rattle.office_tables.specs.declared.fault.StoreFault.{StoreFault}
+use Rattle.office_tables.proofs.CallEnds.{excused_then}
+use Rattle.office_tables.proofs.Calls.{cut_then, early, goes_then, on_err_then, on_ok_then}
+use Rattle.shown_office.specs.Doing.{Does, DoesStep}
+use Rattle.shown_office.specs.Gate.{gated, unless_refused}
+use Rattle.shown_office.specs.Judging.{CanBeJudged, ShowsWhole}
+use Rattle.shown_office.specs.Shown.{ShowsState}
+use Rattle.shown_office.proofs.Tellings.{looked_crash}
+
+-- the step of a command whose other checks do not hold
+gated_step : (places : Trees → Forest ℕ → Type 0) (version : Version) (s : State) (asked : Command) (db : Database) → refusal s asked ≡ first_that_holds (gate (after s asked) ∷ []) → (reply : Reply) → reply ≡ gated (after s asked) (told s asked)
+    → ShowsState places version db (after s asked) → DoesStep places version s asked reply db
+gated_step places version s asked db last reply is shown = at (gate (after s asked)) refl
+  where
+    at : (why : Option Refusal) → gate (after s asked) ≡ why → DoesStep places version s asked reply db
+    at None e =
+        let one : step s asked ≡ (after s asked, Ok (told s asked)) = ap (λ why. decided why s (after s asked) (told s asked)) (last ∙ ap (λ why. first_that_holds (why ∷ [])) e) in
+        let so : reply ≡ Ok (told s asked) = is ∙ ap (λ why. unless_refused why (told s asked)) e in
+        record { told = so ∙ sym (ap (λ (p : State × Reply). p.1) one); shows = λ ok. subst (ShowsState places version db) (sym (ap (λ (p : State × Reply). p.0) one)) shown }
+    at (Some why) e =
+        let one : step s asked ≡ (s, Err why) = ap (λ why. decided why s (after s asked) (told s asked)) (last ∙ ap (λ why. first_that_holds (why ∷ [])) e) in
+        let so : reply ≡ Err why = is ∙ ap (λ why. unless_refused why (told s asked)) e in
+        record { told = so ∙ sym (ap (λ (p : State × Reply). p.1) one); shows = λ ok. absurd (let bad : IsOk (let r : Reply = Err why in r) = subst IsOk so ok in cc) }
+
+if_ok_with : {X E : Type 0} (r : Result X E) (L : Type 0) (P Q : X → Type 0) → ((x : X) → L → P x → Q x) → OnOk r L → IfOk r P → IfOk r Q
+if_ok_with (Ok x) L P Q f l h = f x l h
+if_ok_with (Err e) L P Q f l h = tt
+
+-- what is known of a change, before it and by its call
+pub record IsChange (places : Trees → Forest ℕ → Type 0) (version : Version) (known : State → Type 0) (asked : Command) (today : ℤ) (done : Done) (old new : store.State) : Type 0 where
+  pub shows : HasCleanDisk new → (s : State) → IsSoundOffice s → known s → ShowsState places version old.now s → ShowsState places version new.now (after s asked)
+  pub judged : (s : State) → IsSoundOffice s → known s → CanBeJudged (after s asked)
+  pub day : (s : State) → known s → today ≡ (after s asked).day
+  pub last : (s : State) → known s → refusal s asked ≡ first_that_holds (gate (after s asked) ∷ [])
+  pub tells : HasCleanDisk new → (s : State) → known s → ShowsState places version old.now s → done ≡ told s asked
+
+module _ {S : Type 0} (g : kept_in.Ghosts S) (places : Trees → Forest ℕ → Type 0) (version : Version) (known : State → Type 0) (asked : Command) (today : ℤ) (done : Done) (before : store.State) (mid after_it : Held S) (r : Result Reply StoreFault) where
+  abbrev b : store.State
+  b = state g mid
+
+  abbrev c : store.State
+  c = state g after_it
+
+  pub passed : IsChange places version known asked today done before b → Goes before b
+      → Tells g (ShowsWhole places version) CanBeJudged mid after_it r (λ _. ⊤) (λ _ s reply. CanBeJudged s → today ≡ s.day → reply ≡ gated s done)
+      → Does places version known asked before c r
+  passed change goes tells =
+      let still = λ (clean : HasCleanDisk c). early b c _ (looked_crash r b c tells.looks tells.cut) clean in
+      record {
+        steps = λ clean s sound so it.
+            let at_b = still clean in
+            let shown = change.shows at_b s sound so it in
+            let judged = change.judged s sound so in
+            let answers = tells.answers clean tt (after s asked) shown in
+            if_ok_with r (Looks b c) (λ reply. CanBeJudged (after s asked) → today ≡ (after s asked).day → reply ≡ gated (after s asked) done) (λ reply. DoesStep places version s asked reply c.now)
+            (λ reply looked is. gated_step places version s asked c.now (change.last s so) reply
+            (is judged (change.day s so) ∙ ap (gated (after s asked)) (change.tells at_b s so it))
+            (subst (λ (db : Database). ShowsState places version db (after s asked)) (sym (looked.same clean)) shown))
+            tells.looks answers;
+        goes = on_ok_then r (Looks b c) (Goes before c) (λ looked. goes_then before b c goes looked.goes) tells.looks;
+        cut = on_err_then r (IsCut b c) (IsCut before c) (λ cut. cut_then before b c goes.on cut) tells.cut;
+        faults = λ s sound so it. excused_then before b c goes.on r tells.cut (λ at_b. tells.faults tt (after s asked) (change.shows at_b s sound so it) tt (change.judged s sound so));
+      }
