@@ -5,3 +5,8 @@ pub mod Renewed
 pub mod Seated
 pub mod Ordered
 pub mod Permitted
+pub mod Cancelled
+pub mod Returned
+pub mod MovedAll
+pub mod Reshelved
+pub mod QueueTold

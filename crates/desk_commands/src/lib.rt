@@ -1,12 +1,19 @@
 //! The commands of the reading room over an office's tables, each within a transaction.
 #![tactic(auto)]
 
+mod cancelling;
+mod moving;
 mod opening;
 mod registering;
 mod renewing;
 mod seats;
+mod reshelving;
+mod returning;
 
+pub use cancelling::cancel;
 pub use opening::open;
 pub use registering::register;
 pub use renewing::renew_ticket;
 pub use seats::{leave_seat, take_seat};
+pub use reshelving::reshelve;
+pub use returning::return_container;

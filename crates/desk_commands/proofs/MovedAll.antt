@@ -1,0 +1,81 @@
+-- Containers that go to one place, one after the other, in the rows of the desk.
+use Rattle.std.proofs.Common.{◌≡◌, ℕ, ◌<◌, ◌≤◌, get_or, Bool, true, false, cond, ◌||◌, nat_eq, List, [], ◌∷◌, ◌++◌, length, take, zero, suc, refl, sym, ap, ◌∙◌, arith}
+use Rattle.std.specs.List.{AllByRecursion}
+use Rattle.std.proofs.Math.Path.{fun_ext}
+use Rattle.isad_core.specs.Limits.{IsNumber}
+use Rattle.desk_core.specs.DeskRows.{Desk, HoldingRow}
+use Rattle.desk_core.specs.LegibleDesks.{IsLegible}
+use Rattle.desk_core.specs.declared.reader.Place.{Place}
+use Rattle.desk_store.specs.Holdings.{placed_at, with_place}
+use Rattle.office_core.specs.State.{Order, State}
+use Rattle.office_core.specs.Laws.{standing}
+use Rattle.office_core.specs.Words.{numbers_to, put, stands}
+use Rattle.office_rows.specs.DeskShown.{order_row, order_rows, rows_from, state_number}
+use Rattle.office_rows.proofs.DeskLookups.{flipped}
+use Rattle.shown_office.proofs.HoldingRows.{placed_to, rows_of}
+use Rattle.desk_store.proofs.MadeInTurn.{legible_place}
+use Rattle.desk_commands.specs.Moving.{all_placed, with_all_placed}
+
+-- ---- one container more
+
+pub one_more_placed : (p : Place) (cs : List ℕ) (c : ℕ) (rows : List HoldingRow) → all_placed p (cs ++ c ∷ []) rows ≡ placed_at c p (all_placed p cs rows)
+one_more_placed p [] c rows = refl
+one_more_placed p (k ∷ cs) c rows = one_more_placed p cs c (placed_at k p rows)
+
+pub legible_all : (p : Place) (cs : List ℕ) (d : Desk) → AllByRecursion IsNumber cs → IsLegible d → IsLegible (with_all_placed p cs d)
+legible_all p [] d small it = it
+legible_all p (c ∷ cs) d small it = legible_all p cs (with_place c p d) small.1 (legible_place c p d small.0 it)
+
+pub all_taken : (P : ℕ → Type 0) (k : ℕ) (cs : List ℕ) → AllByRecursion P cs → AllByRecursion P (take k cs)
+all_taken P zero cs h = tt
+all_taken P (suc k) [] h = tt
+all_taken P (suc k) (c ∷ cs) h = (h.0, all_taken P k cs h.1)
+
+pub each_of : (P : ℕ → Type 0) (cs : List ℕ) (k d : ℕ) → AllByRecursion P cs → k < length cs → P (get_or cs k d)
+each_of P [] k d h less = absurd (omega (arith, less))
+each_of P (c ∷ cs) zero d h less = h.0
+each_of P (c ∷ cs) (suc k) d h less = each_of P cs k d h.1 (omega (arith, less))
+
+-- ---- the rows of a state in which they stand there
+
+put_all : (ℕ → Place) → List ℕ → Place → ℕ → Place
+put_all place [] p = place
+put_all place (c ∷ cs) p = put_all (put place c p) cs p
+
+either_way : (here there : Bool) (p q : Place) → cond here p (cond there p q) ≡ cond (there || here) p q
+either_way true true p q = refl
+either_way true false p q = refl
+either_way false true p q = refl
+either_way false false p q = refl
+
+put_each : (place : ℕ → Place) (cs : List ℕ) (p : Place) (c : ℕ) → put_all place cs p c ≡ cond (stands c cs) p (place c)
+unfolding put_all
+put_each place [] p c = refl
+put_each place (k ∷ cs) p c =
+    put_each (put place k p) cs p c
+    ∙ either_way (stands c cs) (nat_eq k c) p (place c)
+    ∙ ap (λ b. cond (b || stands c cs) p (place c)) (flipped k c)
+
+-- the numbers of containers that there are
+abbrev pub AreWithin : ℕ → List ℕ → Type 0
+AreWithin n cs = AllByRecursion (λ c. (1 ≤ c) × (c ≤ n)) cs
+
+put_all_rows : (place : ℕ → Place) (p : Place) (n : ℕ) (cs : List ℕ) → AreWithin n cs → rows_of (put_all place cs p) (numbers_to n) ≡ all_placed p cs (rows_of place (numbers_to n))
+unfolding put_all
+put_all_rows place p n [] h = refl
+put_all_rows place p n (c ∷ cs) h = put_all_rows (put place c p) p n cs h.1 ∙ ap (all_placed p cs) (placed_to place p c n h.0.0 h.0.1)
+
+pub all_moved : (place : ℕ → Place) (p : Place) (n : ℕ) (cs : List ℕ) → AreWithin n cs
+    → rows_of (λ c. cond (stands c cs) p (place c)) (numbers_to n) ≡ all_placed p cs (rows_of place (numbers_to n))
+all_moved place p n cs h = ap (λ (at : ℕ → Place). rows_of at (numbers_to n)) (sym (fun_ext (put_each place cs p))) ∙ put_all_rows place p n cs h
+
+-- ---- the orders stay as they are
+
+pub rows_stay : (s t : State) → ((o : ℕ) → standing t o ≡ standing s o) → t.orders ≡ s.orders → order_rows t ≡ order_rows s
+rows_stay s t same orders = ap (rows_from (order_row t) 1) orders ∙ from 1 s.orders
+  where
+    from : (n : ℕ) (orders : List Order) → rows_from (order_row t) n orders ≡ rows_from (order_row s) n orders
+    from n [] = refl
+    from n (x ∷ xs) =
+        ap (λ k. record { id = n; ticket = x.ticket; container = x.container; day = x.day; state = state_number k } ∷ rows_from (order_row t) (suc n) xs) (same n)
+        ∙ ap (λ rows. order_row s n x ∷ rows) (from (suc n) xs)

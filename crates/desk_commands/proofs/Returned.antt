@@ -1,0 +1,83 @@
+-- A container that comes back, in the rows of the desk.
+use Rattle.std.proofs.Common.{◌≡◌, ℕ, ◌<◌, ◌≤◌, ◌^◌, true, false, List, [], ◌∷◌, length, Option, Some, None, Ok, Err, refl, sym, ap, subst, ◌∙◌, arith}
+use Rattle.std.specs.Prelude.{is_some, unwrap_or}
+use Rattle.sqlite.specs.Effect.{Database}
+use Rattle.sqlite.specs.Tree.{Trees}
+use Rattle.isad_core.specs.Limits.{IsNumber}
+use Rattle.tree_core.specs.Forest.{Forest}
+use Rattle.tree_core.specs.Versions.{Version}
+use Rattle.desk_core.specs.DeskRows.{HoldingRow, OrderRow, with_state}
+use Rattle.desk_core.specs.declared.reader.Place.{Place}
+use Rattle.desk_core.specs.declared.reader.Place.TheVariants.{Shelf, Desk, Out}
+use Rattle.desk_core.specs.declared.refusal.Refusal.TheVariants.{NotIssued, UnknownContainer}
+use Rattle.desk_store.specs.Shows.{ShowsDesk}
+use Rattle.desk_store.specs.declared.orders.OrderState.TheVariants as states
+use Rattle.office_core.specs.Laws.{Standing}
+use Rattle.office_core.specs.Rules.{refusal, returned}
+use Rattle.office_core.specs.SoundDesk.{is_out_for}
+use Rattle.office_core.specs.SoundOffice.{IsSoundOffice}
+use Rattle.office_core.specs.State.{Done, Order, State, container_of, is_container, is_out, order_out}
+use Rattle.office_core.specs.Words.{numbered, stands}
+use Rattle.office_core.specs.declared.command.Command.{Command}
+use Rattle.office_core.specs.declared.command.Command.TheVariants as command
+use Rattle.office_core.specs.declared.done.Done.TheVariants as done
+use Rattle.office_core.proofs.Filed.{is_returned, only_returns}
+use Rattle.office_core.proofs.OrderLaws.{stands_past}
+use Rattle.office_core.proofs.Places.{out_known, out_order}
+use Rattle.office_core.proofs.Words.{numbered_within}
+use Rattle.office_rows.specs.DeskShown.{holding_rows, order_rows, state_number}
+use Rattle.office_rows.specs.Reading.{tables}
+use Rattle.office_rows.proofs.TableLaws.{rows_moved}
+use Rattle.office_tables.specs.Schema as schema
+use Rattle.office_tables.specs.Step.{OnlyTouches}
+use Rattle.shown_office.specs.Doing.{DoesStep}
+use Rattle.shown_office.specs.Shown.{ShowsState}
+use Rattle.shown_office.proofs.CommandSteps.{accepts, refuses}
+use Rattle.shown_office.proofs.HoldingRows.{place_after}
+use Rattle.desk_commands.specs.Moving.{handed_over}
+
+-- the order that a container is out with is one of those that were placed
+pub small_order : (s : State) → IsSoundOffice s → (c o : ℕ) → s.place c ≡ Out o → IsNumber o
+small_order s sound c o out =
+    let it = out_order s c o sound.sound.desk.filed (ap order_out out) in
+    let within = numbered_within s.orders o (ap is_some it.1) in
+    let few = sound.sound.desk.orders.few in
+    omega (arith, within, few)
+
+module _ (places : Trees → Forest ℕ → Type 0) (version : Version) (s : State) (c : ℕ) where
+  abbrev asked : Command
+  asked = command.Return c
+
+  pub unknown_container : (db : Database) → is_container s c ≡ false → DoesStep places version s asked (Err UnknownContainer) db
+  unknown_container db unknown = let why : refusal s asked ≡ Some UnknownContainer = rw unknown refl in refuses places version s asked db UnknownContainer why
+
+  pub not_issued : (db : Database) → is_container s c ≡ true → is_out s c ≡ false → DoesStep places version s asked (Err NotIssued) db
+  not_issued db known in_house = let why : refusal s asked ≡ Some NotIssued = rw (known, in_house) refl in refuses places version s asked db NotIssued why
+
+  module _ (o : ℕ) (out : s.place c ≡ Out o) where
+    rows_after : IsSoundOffice s → order_rows (returned s c (Out o)) ≡ with_state o 3 (order_rows s)
+    rows_after sound =
+        let t = returned s c (Out o) in
+        rows_moved s t o (only_returns s c o out) refl
+        ∙ ap (λ (x : Option Standing). with_state o (state_number x) (order_rows s))
+        (stands_past (container_of t o) (λ k. stands o (t.queue k)) (λ k. is_out_for o (t.place k)) (t.past o) c Done (is_returned s c o out sound.sound.desk.filed))
+
+    pub returns_to_desk : IsSoundOffice s → ((old new : Trees) (f : Forest ℕ) → new schema.link.tree ≡ old schema.link.tree → places old f → places new f)
+        → (before now : Database) → ShowsState places version before s → now.schema ≡ before.schema → OnlyTouches (schema.orders.tree ∷ schema.holding.tree ∷ []) before now
+        → ShowsDesk now.trees (handed_over c Desk o states.Done (tables version s).desk) → DoesStep places version s asked (Ok (done.Return o)) now
+    returns_to_desk sound same before now it schema_is only shown =
+        let known : is_container s c ≡ true = out_known s c o sound.sound.desk.filed sound.sound.desk.orders (ap order_out out) in
+        let is_away : is_out s c ≡ true = ap (λ p. is_some (order_out p)) out in
+        let why : refusal s asked ≡ None = rw (known, is_away) refl in
+        accepts places version s asked same before now (schema.orders.tree ∷ schema.holding.tree ∷ []) refl why tt it schema_is only
+        (returned s c (Out o)) (ap (returned s c) out) refl refl
+        (handed_over c Desk o states.Done (tables version s).desk) shown
+        (ap (λ (rows : List OrderRow). record (tables version (returned s c (Out o))).desk { orders = rows }) (rows_after sound)
+        ∙ ap (λ (rows : List HoldingRow). record (tables version s).desk { orders = with_state o 3 (order_rows s); holdings = rows }) (place_after s c Desk known))
+        (done.Return o) (ap (λ p. done.Return (unwrap_or (order_out p) 0)) out)
+
+-- in every other place it is not out
+pub in_house : (p : Place) → ((o : ℕ) → p ≡ Out o → ⊥) → is_some (order_out p) ≡ false
+in_house Shelf other = refl
+in_house Desk other = refl
+in_house (Out o) other = absurd (other o refl)
