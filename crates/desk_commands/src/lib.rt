@@ -6,14 +6,14 @@ mod moving;
 mod opening;
 mod registering;
 mod renewing;
-mod seats;
 mod reshelving;
 mod returning;
+mod seats;
 
 pub use cancelling::cancel;
 pub use opening::open;
 pub use registering::register;
 pub use renewing::renew_ticket;
-pub use seats::{leave_seat, take_seat};
 pub use reshelving::reshelve;
 pub use returning::return_container;
+pub use seats::{leave_seat, take_seat};
