@@ -10,21 +10,15 @@ change-requires g c = ours clear_housings_text 1 clear_housings_command (state g
 
 pub returns-clause-rows : goal.returns-clause-rows
 returns-clause-rows g c clean xs at_first =
-    let old = state g.S.Store c.args.conn.now in
-    let new = state g.S.Store c.change.new.conn in
-    let at = c.requires.inside (early old new _ c.change.ensures.leaves.crash clean) in
-    clear_housings_leaves old new c.args.unit at.0 at.1 xs at_first c.change.result (rw c.number.ensures at (c.change.ensures.ran clean))
+    let at = c.requires.inside (early _ _ _ c.change.ensures.leaves.crash clean) in
+    clear_housings_leaves _ _ c.args.unit at.0 at.1 xs at_first c.change.result (rw c.number.ensures at (c.change.ensures.ran clean))
 
 pub returns-clause-only : goal.returns-clause-only
 returns-clause-only g c clean =
-    let old = state g.S.Store c.args.conn.now in
-    let new = state g.S.Store c.change.new.conn in
-    let at = c.requires.inside (early old new _ c.change.ensures.leaves.crash clean) in
-    clear_housings_only old new c.args.unit at.0 at.1 c.change.result (rw c.number.ensures at (c.change.ensures.ran clean))
+    let at = c.requires.inside (early _ _ _ c.change.ensures.leaves.crash clean) in
+    clear_housings_only _ _ c.args.unit at.0 at.1 c.change.result (rw c.number.ensures at (c.change.ensures.ran clean))
 
 pub returns-clause-faults : goal.returns-clause-faults
 returns-clause-faults g c clean free =
-    let old = state g.S.Store c.args.conn.now in
-    let new = state g.S.Store c.change.new.conn in
-    let at = c.requires.inside (early old new _ c.change.ensures.leaves.crash clean) in
-    clear_housings_faults old new c.args.unit at.0 at.1 free c.change.ensures.live c.change.result (rw c.number.ensures at (c.change.ensures.ran clean))
+    let at = c.requires.inside (early _ _ _ c.change.ensures.leaves.crash clean) in
+    clear_housings_faults _ _ c.args.unit at.0 at.1 free c.change.ensures.live c.change.result (rw c.number.ensures at (c.change.ensures.ran clean))

@@ -9,14 +9,10 @@ find-requires g c = asks find_container_text 1 find_container_command (state g.S
 
 pub returns-clause-rows : goal.returns-clause-rows
 returns-clause-rows g c clean xs stored =
-    let old = state g.S.Store c.args.conn.now in
-    let new = state g.S.Store c.find.new.conn in
-    let at = c.requires.inside (early old new _ c.find.ensures.reads.crash clean) in
-    find_container_finds old new at.0 at.1 xs stored c.args.n (λ found. found.items) c.find.result (rw c.number.ensures at (c.find.ensures.found clean))
+    let at = c.requires.inside (early _ _ _ c.find.ensures.reads.crash clean) in
+    find_container_finds _ _ at.0 at.1 xs stored c.args.n (λ found. found.items) c.find.result (rw c.number.ensures at (c.find.ensures.found clean))
 
 pub returns-clause-faults : goal.returns-clause-faults
 returns-clause-faults g c xs stored legible clean free =
-    let old = state g.S.Store c.args.conn.now in
-    let new = state g.S.Store c.find.new.conn in
-    let at = c.requires.inside (early old new _ c.find.ensures.reads.crash clean) in
-    find_container_faults old new at.0 at.1 xs stored c.args.n (λ found. found.items) c.find.result legible free (rw c.number.ensures at (c.find.ensures.missed clean))
+    let at = c.requires.inside (early _ _ _ c.find.ensures.reads.crash clean) in
+    find_container_faults _ _ at.0 at.1 xs stored c.args.n (λ found. found.items) c.find.result legible free (rw c.number.ensures at (c.find.ensures.missed clean))

@@ -9,14 +9,10 @@ find-requires g c = asks housings_text 1 housings_command (state g.S.Store c.arg
 
 pub returns-clause-rows : goal.returns-clause-rows
 returns-clause-rows g c clean xs stored =
-    let old = state g.S.Store c.args.conn.now in
-    let new = state g.S.Store c.find.new.conn in
-    let at = c.requires.inside (early old new _ c.find.ensures.reads.crash clean) in
-    of_unit_finds old new at.0 at.1 xs stored c.args.unit (λ found. found.items) c.find.result (rw c.number.ensures at (c.find.ensures.found clean))
+    let at = c.requires.inside (early _ _ _ c.find.ensures.reads.crash clean) in
+    of_unit_finds _ _ at.0 at.1 xs stored c.args.unit (λ found. found.items) c.find.result (rw c.number.ensures at (c.find.ensures.found clean))
 
 pub returns-clause-faults : goal.returns-clause-faults
 returns-clause-faults g c xs stored clean free =
-    let old = state g.S.Store c.args.conn.now in
-    let new = state g.S.Store c.find.new.conn in
-    let at = c.requires.inside (early old new _ c.find.ensures.reads.crash clean) in
-    of_unit_faults old new at.0 at.1 xs stored c.args.unit (λ found. found.items) c.find.result free (rw c.number.ensures at (c.find.ensures.missed clean))
+    let at = c.requires.inside (early _ _ _ c.find.ensures.reads.crash clean) in
+    of_unit_faults _ _ at.0 at.1 xs stored c.args.unit (λ found. found.items) c.find.result free (rw c.number.ensures at (c.find.ensures.missed clean))

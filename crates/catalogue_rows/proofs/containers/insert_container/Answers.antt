@@ -10,14 +10,10 @@ change-requires g c = ours insert_container_text 4 insert_container_command (sta
 
 pub returns-clause-puts : goal.returns-clause-puts
 returns-clause-puts g c clean =
-    let old = state g.S.Store c.args.conn.now in
-    let new = state g.S.Store c.change.new.conn in
-    let at = c.requires.inside (early old new _ c.change.ensures.leaves.crash clean) in
-    insert_container_puts old new c.args.n c.args.key.now at.0 at.1 c.change.result (rw (c.number.ensures, c.words.ensures, c.words-2.ensures, c.words-3.ensures) at (c.change.ensures.ran clean))
+    let at = c.requires.inside (early _ _ _ c.change.ensures.leaves.crash clean) in
+    insert_container_puts _ _ c.args.n c.args.key.now at.0 at.1 c.change.result (rw (c.number.ensures, c.words.ensures, c.words-2.ensures, c.words-3.ensures) at (c.change.ensures.ran clean))
 
 pub returns-clause-faults : goal.returns-clause-faults
 returns-clause-faults g c xs stored none other clean free =
-    let old = state g.S.Store c.args.conn.now in
-    let new = state g.S.Store c.change.new.conn in
-    let at = c.requires.inside (early old new _ c.change.ensures.leaves.crash clean) in
-    insert_container_faults old new c.args.n c.args.key.now at.0 at.1 xs stored none other free c.change.ensures.live c.change.result (rw (c.number.ensures, c.words.ensures, c.words-2.ensures, c.words-3.ensures) at (c.change.ensures.ran clean))
+    let at = c.requires.inside (early _ _ _ c.change.ensures.leaves.crash clean) in
+    insert_container_faults _ _ c.args.n c.args.key.now at.0 at.1 xs stored none other free c.change.ensures.live c.change.result (rw (c.number.ensures, c.words.ensures, c.words-2.ensures, c.words-3.ensures) at (c.change.ensures.ran clean))

@@ -10,15 +10,11 @@ change-requires g c = ours insert_element_text 3 insert_element_command (state g
 
 pub returns-clause-puts : goal.returns-clause-puts
 returns-clause-puts g c clean =
-    let old = state g.S.Store c.args.conn.now in
-    let new = state g.S.Store c.change.new.conn in
-    let at = c.requires.inside (early old new _ c.change.ensures.leaves.crash clean) in
-    insert_element_puts old new c.args.unit c.args.k c.args.value.now at.0 at.1 c.change.result (rw (c.number.ensures, c.number-2.ensures, c.words.ensures) at (c.change.ensures.ran clean))
+    let at = c.requires.inside (early _ _ _ c.change.ensures.leaves.crash clean) in
+    insert_element_puts _ _ c.args.unit c.args.k c.args.value.now at.0 at.1 c.change.result (rw (c.number.ensures, c.number-2.ensures, c.words.ensures) at (c.change.ensures.ran clean))
 
 pub returns-clause-faults : goal.returns-clause-faults
 returns-clause-faults g c known xs texts none clean free =
-    let old = state g.S.Store c.args.conn.now in
-    let new = state g.S.Store c.change.new.conn in
-    let at = c.requires.inside (early old new _ c.change.ensures.leaves.crash clean) in
-    insert_element_faults old new c.args.unit c.args.k c.args.value.now at.0 at.1 known xs texts none free c.change.ensures.live c.change.result
+    let at = c.requires.inside (early _ _ _ c.change.ensures.leaves.crash clean) in
+    insert_element_faults _ _ c.args.unit c.args.k c.args.value.now at.0 at.1 known xs texts none free c.change.ensures.live c.change.result
     (rw (c.number.ensures, c.number-2.ensures, c.words.ensures) at (c.change.ensures.ran clean))

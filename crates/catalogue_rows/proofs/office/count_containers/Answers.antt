@@ -12,14 +12,10 @@ find-requires g c = asks count_containers_text 0 count_containers_command (state
 
 pub returns-clause-rows : goal.returns-clause-rows
 returns-clause-rows g c clean xs stored =
-    let old = state g.S.Store c.args.conn.now in
-    let new = state g.S.Store c.find.new.conn in
-    let at = c.requires.inside (early old new _ c.find.ensures.reads.crash clean) in
-    count_finds old new at.0 at.1 tables.container container_row xs stored count_containers_text (count_containers_means at.0) (λ found. found.items) c.find.result (c.find.ensures.found clean)
+    let at = c.requires.inside (early _ _ _ c.find.ensures.reads.crash clean) in
+    count_finds _ _ at.0 at.1 tables.container container_row xs stored count_containers_text (count_containers_means at.0) (λ found. found.items) c.find.result (c.find.ensures.found clean)
 
 pub returns-clause-faults : goal.returns-clause-faults
 returns-clause-faults g c xs stored clean free =
-    let old = state g.S.Store c.args.conn.now in
-    let new = state g.S.Store c.find.new.conn in
-    let at = c.requires.inside (early old new _ c.find.ensures.reads.crash clean) in
-    count_faults old new at.0 at.1 tables.container container_row xs stored count_containers_text (count_containers_means at.0) (λ found. found.items) c.find.result refl free (c.find.ensures.missed clean)
+    let at = c.requires.inside (early _ _ _ c.find.ensures.reads.crash clean) in
+    count_faults _ _ at.0 at.1 tables.container container_row xs stored count_containers_text (count_containers_means at.0) (λ found. found.items) c.find.result refl free (c.find.ensures.missed clean)

@@ -9,14 +9,10 @@ find-requires g c = asks office_is_text 0 office_is_command (state g.S.Store c.a
 
 pub returns-clause-rows : goal.returns-clause-rows
 returns-clause-rows g c clean version o stored =
-    let old = state g.S.Store c.args.conn.now in
-    let new = state g.S.Store c.find.new.conn in
-    let at = c.requires.inside (early old new _ c.find.ensures.reads.crash clean) in
-    office_is_finds old new at.0 at.1 version o stored (λ found. found.items) c.find.result (c.find.ensures.found clean)
+    let at = c.requires.inside (early _ _ _ c.find.ensures.reads.crash clean) in
+    office_is_finds _ _ at.0 at.1 version o stored (λ found. found.items) c.find.result (c.find.ensures.found clean)
 
 pub returns-clause-faults : goal.returns-clause-faults
 returns-clause-faults g c version o stored legible clean free =
-    let old = state g.S.Store c.args.conn.now in
-    let new = state g.S.Store c.find.new.conn in
-    let at = c.requires.inside (early old new _ c.find.ensures.reads.crash clean) in
-    office_is_faults old new at.0 at.1 version o stored (λ found. found.items) c.find.result legible free (c.find.ensures.missed clean)
+    let at = c.requires.inside (early _ _ _ c.find.ensures.reads.crash clean) in
+    office_is_faults _ _ at.0 at.1 version o stored (λ found. found.items) c.find.result legible free (c.find.ensures.missed clean)

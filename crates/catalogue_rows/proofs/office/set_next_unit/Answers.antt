@@ -10,21 +10,15 @@ change-requires g c = ours set_next_text 1 set_next_command (state g.S.Store c.a
 
 pub returns-clause-rows : goal.returns-clause-rows
 returns-clause-rows g c clean version o stored =
-    let old = state g.S.Store c.args.conn.now in
-    let new = state g.S.Store c.change.new.conn in
-    let at = c.requires.inside (early old new _ c.change.ensures.leaves.crash clean) in
-    set_next_leaves old new c.args.next at.0 at.1 version o stored c.change.result (rw c.number.ensures at (c.change.ensures.ran clean))
+    let at = c.requires.inside (early _ _ _ c.change.ensures.leaves.crash clean) in
+    set_next_leaves _ _ c.args.next at.0 at.1 version o stored c.change.result (rw c.number.ensures at (c.change.ensures.ran clean))
 
 pub returns-clause-only : goal.returns-clause-only
 returns-clause-only g c clean =
-    let old = state g.S.Store c.args.conn.now in
-    let new = state g.S.Store c.change.new.conn in
-    let at = c.requires.inside (early old new _ c.change.ensures.leaves.crash clean) in
-    set_next_only old new c.args.next at.0 at.1 c.change.result (rw c.number.ensures at (c.change.ensures.ran clean))
+    let at = c.requires.inside (early _ _ _ c.change.ensures.leaves.crash clean) in
+    set_next_only _ _ c.args.next at.0 at.1 c.change.result (rw c.number.ensures at (c.change.ensures.ran clean))
 
 pub returns-clause-faults : goal.returns-clause-faults
 returns-clause-faults g c version o stored clean free =
-    let old = state g.S.Store c.args.conn.now in
-    let new = state g.S.Store c.change.new.conn in
-    let at = c.requires.inside (early old new _ c.change.ensures.leaves.crash clean) in
-    set_next_faults old new c.args.next at.0 at.1 version o stored c.change.result (rw c.number.ensures at (c.change.ensures.ran clean)) free c.change.ensures.live
+    let at = c.requires.inside (early _ _ _ c.change.ensures.leaves.crash clean) in
+    set_next_faults _ _ c.args.next at.0 at.1 version o stored c.change.result (rw c.number.ensures at (c.change.ensures.ran clean)) free c.change.ensures.live

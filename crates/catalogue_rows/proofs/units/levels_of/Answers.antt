@@ -15,15 +15,11 @@ find-requires g c = asks level_text 1 level_command (state g.S.Store c.args.conn
 
 pub returns-clause-rows : goal.returns-clause-rows
 returns-clause-rows g c clean xs stored =
-    let old = state g.S.Store c.args.conn.now in
-    let new = state g.S.Store c.find.new.conn in
-    let at = c.requires.inside (early old new _ c.find.ensures.reads.crash clean) in
-    numbered_finds old new c.args.id at.0 at.1 level_text level_columns level_names (level_means at.0) xs stored (λ t. Text t ∷ []) (λ found. found.items) (λ (u : Unit). u.values.level) (λ _. refl) c.find.result (rw c.number.ensures at (c.find.ensures.found clean))
+    let at = c.requires.inside (early _ _ _ c.find.ensures.reads.crash clean) in
+    numbered_finds _ _ c.args.id at.0 at.1 level_text level_columns level_names (level_means at.0) xs stored (λ t. Text t ∷ []) (λ found. found.items) (λ (u : Unit). u.values.level) (λ _. refl) c.find.result (rw c.number.ensures at (c.find.ensures.found clean))
 
 pub returns-clause-faults : goal.returns-clause-faults
 returns-clause-faults g c xs stored legible clean free =
-    let old = state g.S.Store c.args.conn.now in
-    let new = state g.S.Store c.find.new.conn in
-    let at = c.requires.inside (early old new _ c.find.ensures.reads.crash clean) in
-    numbered_faults old new c.args.id at.0 at.1 level_text level_columns level_names (level_means at.0) xs stored (λ t. Text t ∷ []) (λ found. found.items) (λ (u : Unit). u.values.level) (λ _. refl) c.find.result
+    let at = c.requires.inside (early _ _ _ c.find.ensures.reads.crash clean) in
+    numbered_faults _ _ c.args.id at.0 at.1 level_text level_columns level_names (level_means at.0) xs stored (λ t. Text t ∷ []) (λ found. found.items) (λ (u : Unit). u.values.level) (λ _. refl) c.find.result
     IsUtf8 refl (all_weaker IsLegibleUnit (λ (u : Unit). IsUtf8 u.values.level) (λ u h. h.level) xs legible) free (rw c.number.ensures at (c.find.ensures.missed clean))

@@ -35,8 +35,6 @@ returns-clause-rows g c clean xs stored up =
 
 pub returns-clause-faults : goal.returns-clause-faults
 returns-clause-faults g c xs stored legible clean free =
-    let old = state g.S.Store c.args.conn.now in
-    let new = state g.S.Store c.find.new.conn in
-    let at = c.requires.inside (early old new _ c.find.ensures.reads.crash clean) in
-    numbered_faults old new c.args.id at.0 at.1 status_text status_columns status_names (status_means at.0) xs stored (λ (s : Status). Int (flag s.draft) ∷ or_null Int s.until ∷ []) (λ found. found.items) status (λ _. refl) c.find.result
+    let at = c.requires.inside (early _ _ _ c.find.ensures.reads.crash clean) in
+    numbered_faults _ _ c.args.id at.0 at.1 status_text status_columns status_names (status_means at.0) xs stored (λ (s : Status). Int (flag s.draft) ∷ or_null Int s.until ∷ []) (λ found. found.items) status (λ _. refl) c.find.result
     (λ (s : Status). IfSome s.until (SFits w32)) refl (all_weaker IsLegibleUnit (λ (u : Unit). IfSome u.until (SFits w32)) until_fits xs legible) free (rw c.number.ensures at (c.find.ensures.missed clean))

@@ -12,14 +12,10 @@ find-requires g c = asks from_text 2 from_command (state g.S.Store c.args.conn.n
 
 pub returns-clause-rows : goal.returns-clause-rows
 returns-clause-rows g c clean xs stored =
-    let old = state g.S.Store c.args.conn.now in
-    let new = state g.S.Store c.find.new.conn in
-    let at = c.requires.inside (early old new _ c.find.ensures.reads.crash clean) in
-    from_finds old new c.args.source.now c.args.legacy.now at.0 at.1 xs stored (λ found. found.items) c.find.result (rw (c.words.ensures, c.words-2.ensures) at (c.find.ensures.found clean))
+    let at = c.requires.inside (early _ _ _ c.find.ensures.reads.crash clean) in
+    from_finds _ _ c.args.source.now c.args.legacy.now at.0 at.1 xs stored (λ found. found.items) c.find.result (rw (c.words.ensures, c.words-2.ensures) at (c.find.ensures.found clean))
 
 pub returns-clause-faults : goal.returns-clause-faults
 returns-clause-faults g c xs stored clean free =
-    let old = state g.S.Store c.args.conn.now in
-    let new = state g.S.Store c.find.new.conn in
-    let at = c.requires.inside (early old new _ c.find.ensures.reads.crash clean) in
-    from_faults old new c.args.source.now c.args.legacy.now at.0 at.1 xs stored (λ found. found.items) c.find.result (λ _. ⊤) (all_of (λ (_ : Unit). ⊤) (λ _. tt) xs) free (rw (c.words.ensures, c.words-2.ensures) at (c.find.ensures.missed clean))
+    let at = c.requires.inside (early _ _ _ c.find.ensures.reads.crash clean) in
+    from_faults _ _ c.args.source.now c.args.legacy.now at.0 at.1 xs stored (λ found. found.items) c.find.result (λ _. ⊤) (all_of (λ (_ : Unit). ⊤) (λ _. tt) xs) free (rw (c.words.ensures, c.words-2.ensures) at (c.find.ensures.missed clean))
