@@ -11,3 +11,4 @@ pub mod Sessions
 pub mod Wholes
 pub mod WorkedHeads
 pub mod WorkedPieces
+pub mod Faults

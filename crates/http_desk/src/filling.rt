@@ -1,8 +1,8 @@
 //! Reads more bytes into a buffer.
-ghost use Rattle.std.specs.Prelude.{◌≡◌, ◌≢◌, ◌<◌, ◌≤◌, [], length, take, false, IfOk, IfErr, Err};
+ghost use Rattle.std.specs.Prelude.{◌≡◌, ◌≢◌, ◌<◌, ◌≤◌, ◌||◌, [], length, take, false, IfOk, IfErr};
 ghost use Rattle.std.specs.Io.KnownBytes.{Consumes, IsAtEnd};
 ghost use Rattle.http_desk.specs.Gathering.{Reads};
-ghost use Rattle.http_desk.specs.Quiet.{QuietRead, QuietFill};
+ghost use Rattle.http_desk.specs.Quiet.{QuietRead, QuietFill, once_failed, fill_failed};
 
 use std::io::{ErrorKind, Read};
 
@@ -36,7 +36,7 @@ fn read_once<R: Read>(
     ensures within { IfOk result (λ n. n ≤ length chunk.new) }
     ensures bytes { IfOk result (λ n. Consumes (R.remaining reader.old) (R.remaining reader.new) (take n chunk.new)) }
     ensures at_end { IfOk result (λ n. n ≡ 0 → IsAtEnd (R.remaining reader.new)) }
-    ensures failed { failed.new ≡ false → (failed.old ≡ false) × (result ≢ Err Filled.Failed) }
+    ensures failed { failed.new ≡ (once_failed result || failed.old) }
     ensures bound { interrupted.new ≡ false → (interrupted.old ≡ false) × QuietRead result turns.old turns.new }
     ensures err { IfErr result (λ f. Consumes (R.remaining reader.old) (R.remaining reader.new) []
         × (f ≢ Filled.More) × (f ≢ Filled.AtEnd)) }
@@ -70,7 +70,7 @@ pub fn fill<R: Read>(
     ensures same { result ≢ Filled.More → buffer.new.items ≡ buffer.old.items }
     ensures more { result ≡ Filled.More → length buffer.old.items < length buffer.new.items }
     ensures at_end { result ≡ Filled.AtEnd → IsAtEnd (R.remaining reader.new) }
-    ensures failed { failed.new ≡ false → (failed.old ≡ false) × (result ≢ Filled.Failed) }
+    ensures failed { failed.new ≡ (fill_failed result || failed.old) }
     ensures bound { interrupted.new ≡ false → (interrupted.old ≡ false) × QuietFill result turns.old turns.new }
 {
     if buffer.reserve(CHUNK).is_err() {

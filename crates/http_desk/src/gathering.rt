@@ -1,6 +1,6 @@
 //! Gathers a head, or a body, in a buffer.
-ghost use Rattle.std.specs.Prelude.{◌≡◌, ◌≢◌, ◌+◌, ◌≤◌, length, take, false};
-ghost use Rattle.http_desk.specs.Quiet.{QuietHead, QuietBody};
+ghost use Rattle.std.specs.Prelude.{◌≡◌, ◌+◌, ◌≤◌, ◌||◌, length, take, false};
+ghost use Rattle.http_desk.specs.Quiet.{QuietHead, QuietBody, head_failed, body_failed};
 ghost use Rattle.http_desk.specs.Gathering.{FindsHead, FindsBody, AtEndIfHead, AtEndIfBody, Reads};
 ghost use Rattle.http_messages.specs.Ending.{scan};
 
@@ -70,7 +70,7 @@ pub fn gather_head<R: Read>(
     ensures got { Reads (R.remaining reader.old) (R.remaining reader.new) buffer.old.items buffer.new.items }
     ensures found { FindsHead buffer.new.items result }
     ensures at_end { AtEndIfHead (R.remaining reader.new) result }
-    ensures failed { failed.new ≡ false → (failed.old ≡ false) × (result ≢ FoundHead.Failed) }
+    ensures failed { failed.new ≡ (head_failed result || failed.old) }
     ensures bound { interrupted.new ≡ false → (interrupted.old ≡ false)
         × QuietHead result (turns.old + length buffer.old.items) (turns.new + length buffer.new.items) }
 {
@@ -114,7 +114,7 @@ pub fn gather_body<R: Read>(
     ensures got { Reads (R.remaining reader.old) (R.remaining reader.new) buffer.old.items buffer.new.items }
     ensures found { FindsBody end buffer.new.items result }
     ensures at_end { AtEndIfBody (R.remaining reader.new) result }
-    ensures failed { failed.new ≡ false → (failed.old ≡ false) × (result ≢ FoundBody.Failed) }
+    ensures failed { failed.new ≡ (body_failed result || failed.old) }
     ensures bound { interrupted.new ≡ false → (interrupted.old ≡ false)
         × QuietBody end result (turns.old + length buffer.old.items) }
 {

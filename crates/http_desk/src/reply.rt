@@ -1,9 +1,10 @@
 //! Writes answers. Nothing here takes an allocator.
-ghost use Rattle.std.specs.Prelude.{◌≡◌, ◌≢◌, ◌+◌, ◌<◌, ◌^◌, length, false};
+ghost use Rattle.std.specs.Prelude.{◌≡◌, ◌≢◌, ◌+◌, ◌<◌, ◌^◌, ◌||◌, length, false};
 ghost use Rattle.http_messages.specs.Answers.{answer_text, continue_text};
 ghost use Rattle.http_messages.specs.Replies.{answer_in};
 ghost use Rattle.http_desk.specs.Sending.{Sends};
 ghost use Rattle.http_desk.specs.Parts.{parts_text};
+ghost use Rattle.http_desk.specs.Quiet.{send_failed};
 
 use crate::sending::{Sent, send};
 use http_messages::answered::{Answered, close_line, code_of, phrase, type_of, written_body};
@@ -30,7 +31,7 @@ fn send_parts<W: Write>(
     interrupted: &mut bool,
 ) -> Sent
     requires { length (parts_text parts) + 16 < 2 ^ 64 }
-    ensures failed { failed.new ≡ false → (failed.old ≡ false) × (result ≢ Sent.Failed) }
+    ensures failed { failed.new ≡ (send_failed result || failed.old) }
     ensures bound { interrupted.new ≡ false → (interrupted.old ≡ false) × (result ≢ Sent.Bound) }
     ensures sends { Sends (W.contents writer.old) (W.contents writer.new) (parts_text parts.entry) result }
 {
@@ -65,7 +66,7 @@ pub fn send_answer<W: Write>(
     failed: &mut bool,
     interrupted: &mut bool,
 ) -> Sent
-    ensures failed { failed.new ≡ false → (failed.old ≡ false) × (result ≢ Sent.Failed) }
+    ensures failed { failed.new ≡ (send_failed result || failed.old) }
     ensures bound { interrupted.new ≡ false → (interrupted.old ≡ false) × (result ≢ Sent.Bound) }
     ensures sends { Sends (W.contents writer.old) (W.contents writer.new)
         (answer_text bare closing (answer_in answer.now)) result }
@@ -89,7 +90,7 @@ pub fn send_answer<W: Write>(
 
 /// Writes that a body may come.
 pub fn send_continue<W: Write>(writer: &mut W, failed: &mut bool, interrupted: &mut bool) -> Sent
-    ensures failed { failed.new ≡ false → (failed.old ≡ false) × (result ≢ Sent.Failed) }
+    ensures failed { failed.new ≡ (send_failed result || failed.old) }
     ensures bound { interrupted.new ≡ false → (interrupted.old ≡ false) × (result ≢ Sent.Bound) }
     ensures sends { Sends (W.contents writer.old) (W.contents writer.new) continue_text result }
 {

@@ -1,6 +1,6 @@
 //! Writes whole answers. Nothing here takes an allocator.
-ghost use Rattle.std.specs.Prelude.{◌≡◌, ◌≢◌, ◌+◌, ◌<◌, ◌^◌, ℕ, List, [], ◌++◌, length, false};
-ghost use Rattle.http_desk.specs.Quiet.{QuietSend};
+ghost use Rattle.std.specs.Prelude.{◌≡◌, ◌≢◌, ◌+◌, ◌<◌, ◌||◌, ◌^◌, ℕ, List, [], ◌++◌, length, false};
+ghost use Rattle.http_desk.specs.Quiet.{QuietSend, send_failed};
 ghost use Rattle.std.specs.List.{flat_map};
 ghost use Rattle.std.specs.Io.KnownBytes.{Appends};
 ghost use Rattle.http_desk.specs.Session.{IsFront};
@@ -32,7 +32,7 @@ fn send_piece<W: Write>(
     ensures all { result ≡ Sent.All → Appends (W.contents writer.old) (W.contents writer.new) piece.now }
     ensures front { (written : List ℕ) × IsFront written piece.now
         × Appends (W.contents writer.old) (W.contents writer.new) written }
-    ensures failed { failed.new ≡ false → (failed.old ≡ false) × (result ≢ Sent.Failed) }
+    ensures failed { failed.new ≡ (send_failed result || failed.old) }
     ensures bound { interrupted.new ≡ false → (interrupted.old ≡ false)
         × QuietSend result turns.old turns.new (length piece.now) }
 {
@@ -63,7 +63,7 @@ fn send_piece<W: Write>(
 /// Flushes, in as many turns as are left.
 fn flush<W: Write>(writer: &mut W, turns: u64, failed: &mut bool, interrupted: &mut bool) -> Sent
     ensures nothing { Appends (W.contents writer.old) (W.contents writer.new) [] }
-    ensures failed { failed.new ≡ false → (failed.old ≡ false) × (result ≢ Sent.Failed) }
+    ensures failed { failed.new ≡ (send_failed result || failed.old) }
     ensures bound { interrupted.new ≡ false → (interrupted.old ≡ false) × (0 < turns → result ≢ Sent.Bound) }
 {
     for _turn in 0..turns {
@@ -103,7 +103,7 @@ pub fn send<W: Write>(
     requires { length (flat_map (λ p. p.now) pieces.now) + 16 < 2 ^ 64 }
     ensures all { result ≡ Sent.All
         → Appends (W.contents writer.old) (W.contents writer.new) (flat_map (λ p. p.now) pieces.now) }
-    ensures failed { failed.new ≡ false → (failed.old ≡ false) × (result ≢ Sent.Failed) }
+    ensures failed { failed.new ≡ (send_failed result || failed.old) }
     ensures bound { interrupted.new ≡ false → (interrupted.old ≡ false) × (result ≢ Sent.Bound) }
     ensures front { (written : List ℕ) × IsFront written (flat_map (λ p. p.now) pieces.now)
         × Appends (W.contents writer.old) (W.contents writer.new) written }

@@ -9,7 +9,7 @@ ghost use Rattle.http_desk.specs.Messages.{HasHead};
 ghost use Rattle.http_desk.specs.Sending.{Sends};
 ghost use Rattle.http_desk.specs.Session.{leave_if, most_answers};
 ghost use Rattle.http_desk.specs.Talking.{Turn, Through, Exchange, Talks, TalksWhole, AtEndIf, IsNoEnd, Refused, after_sending};
-ghost use Rattle.http_desk.specs.Quiet.{NoReadFault, NoWriteFault, NoBound};
+ghost use Rattle.http_desk.specs.Quiet.{TellsReadFault, TellsWriteFault, NoBound, send_failed};
 
 use crate::ended::{Calls, Ended, Next};
 use crate::gathering::{FoundBody, FoundHead, gather_body, gather_head};
@@ -43,8 +43,8 @@ fn after(sent: Sent, next: Next) -> Next
 
 /// Writes a fixed answer, and closes.
 fn refuse<W: Write>(writer: &mut W, bare: bool, status: Status, calls: &mut Calls) -> Next
-    ensures reads { NoReadFault calls.old calls.new result }
-    ensures writes { NoWriteFault calls.old calls.new result }
+    ensures reads { TellsReadFault calls.old calls.new result }
+    ensures writes { TellsWriteFault calls.old calls.new result }
     ensures turns { NoBound calls.old calls.new result }
     ensures sent { Refused (W.contents writer.old) (W.contents writer.new) bare status result }
 {
@@ -61,8 +61,8 @@ fn refuse<W: Write>(writer: &mut W, bare: bool, status: Status, calls: &mut Call
 
 /// Gives leave to send a body, where the head waits for it.
 fn give_leave<W: Write>(writer: &mut W, head: Head, calls: &mut Calls) -> Sent
-    ensures reads { calls.new.read_failed ≡ false → calls.old.read_failed ≡ false }
-    ensures writes { calls.new.write_failed ≡ false → (calls.old.write_failed ≡ false) × (result ≢ Sent.Failed) }
+    ensures reads { calls.new.read_failed ≡ calls.old.read_failed }
+    ensures writes { calls.new.write_failed ≡ (send_failed result || calls.old.write_failed) }
     ensures turns { calls.new.interrupted ≡ false → (calls.old.interrupted ≡ false) × (result ≢ Sent.Bound) }
     ensures sends { Sends (W.contents writer.old) (W.contents writer.new) (leave_if head.waits) result }
 {
@@ -129,8 +129,8 @@ fn act<W: Write, M: Machine>(
         Turn number s buffer.old.items result (leave_if head.waits ++ written) t buffer.new.items) }
     ensures intact { M.is_intact office.new → M.is_intact office.old }
     ensures no_end { IsNoEnd result }
-    ensures reads { NoReadFault calls.old calls.new result }
-    ensures writes { NoWriteFault calls.old calls.new result }
+    ensures reads { TellsReadFault calls.old calls.new result }
+    ensures writes { TellsWriteFault calls.old calls.new result }
     ensures turns { NoBound calls.old calls.new result }
 {
     let end = size + body_len(head);
@@ -181,8 +181,8 @@ fn receive<R: Read, W: Write, M: Machine>(
         (W.contents writer.old) (W.contents writer.new) office.old buffer.old.items result office.new buffer.new.items }
     ensures intact { M.is_intact office.new → M.is_intact office.old }
     ensures at_end { AtEndIf (R.remaining reader.new) result }
-    ensures reads { NoReadFault calls.old calls.new result }
-    ensures writes { NoWriteFault calls.old calls.new result }
+    ensures reads { TellsReadFault calls.old calls.new result }
+    ensures writes { TellsWriteFault calls.old calls.new result }
     ensures turns { NoBound calls.old calls.new result }
 {
     match give_leave(writer, head, calls) {
@@ -220,8 +220,8 @@ fn exchange<R: Read, W: Write, M: Machine>(
         (W.contents writer.old) (W.contents writer.new) office.old buffer.old.items result office.new buffer.new.items }
     ensures intact { M.is_intact office.new → M.is_intact office.old }
     ensures at_end { AtEndIf (R.remaining reader.new) result }
-    ensures reads { NoReadFault calls.old calls.new result }
-    ensures writes { NoWriteFault calls.old calls.new result }
+    ensures reads { TellsReadFault calls.old calls.new result }
+    ensures writes { TellsWriteFault calls.old calls.new result }
     ensures turns { NoBound calls.old calls.new result }
 {
     let mut turns = READS;
@@ -259,9 +259,9 @@ fn talk_with<R: Read, W: Write, M: Machine>(
         (W.contents writer.old) (W.contents writer.new) office.old result office.new }
     ensures intact { M.is_intact office.new → M.is_intact office.old }
     ensures at_end { AtEndIf (R.remaining reader.new) (Next.Ends result) }
-    // Each fault comes only where such a call has failed, and a bound only where one was interrupted.
-    ensures reads { calls.new.read_failed ≡ false → result ≢ Ended.ReadFault }
-    ensures writes { calls.new.write_failed ≡ false → result ≢ Ended.WriteFault }
+    // Each fault comes exactly where such a call has failed, and a bound only where one was interrupted.
+    ensures reads { TellsReadFault calls.old calls.new (Next.Ends result) }
+    ensures writes { TellsWriteFault calls.old calls.new (Next.Ends result) }
     ensures turns { calls.new.interrupted ≡ false → result ≢ Ended.Bound }
 {
     let mut buffer = Vec::new(means.alloc);
@@ -287,9 +287,9 @@ pub fn talk_watched<R: Read, W: Write, M: Machine>(
         (W.contents writer.old) (W.contents writer.new) office.old result office.new }
     ensures intact { M.is_intact office.new → M.is_intact office.old }
     ensures at_end { AtEndIf (R.remaining reader.new) (Next.Ends result) }
-    // Each fault comes only where such a call has failed, and a bound only where one was interrupted.
-    ensures reads { calls.new.read_failed ≡ false → result ≢ Ended.ReadFault }
-    ensures writes { calls.new.write_failed ≡ false → result ≢ Ended.WriteFault }
+    // Each fault comes exactly where such a call has failed, and a bound only where one was interrupted.
+    ensures reads { TellsReadFault calls.old calls.new (Next.Ends result) }
+    ensures writes { TellsWriteFault calls.old calls.new (Next.Ends result) }
     ensures turns { calls.new.interrupted ≡ false → result ≢ Ended.Bound }
 {
     match Means::new(alloc) {

@@ -2,20 +2,21 @@ use Rattle.std.proofs.Common.{◌≡◌, ◌<◌, ◌≤◌, ◌+◌, ◌++◌, 
 use Rattle.http_messages.specs.Ending.{scan}
 use Rattle.http_messages.specs.declared.ending.Scan.TheVariants.{Open}
 use Rattle.std.proofs.KnownBytes.{Consumes-nil}
-use Rattle.http_desk.specs.Quiet.{QuietFill}
+use Rattle.std.specs.Prelude.{◌||◌, Bool}
+use Rattle.http_desk.specs.Quiet.{QuietFill, fill_failed}
+use Rattle.http_desk.specs.declared.filling.Filled.{Filled}
 use Rattle.http_desk.proofs.Fills.{reads_trans}
 use Rattle.http_messages.specs.declared.ending.Place.TheVariants.{Lead}
 use Rattle.http_desk.specs.declared.filling.Filled.TheVariants.{More, AtEnd, Failed}
 use Rattle.http_messages.proofs.Scans.{scan_take_within, scan_take_limit, scan_take_open}
 use Rattle.http_desk.proofs.Places.{blank_or_cut, led_on}
-use Rattle.http_desk.specs.declared.gathering.FoundHead.TheVariants as heads
 use Rattle.http_desk.proofs.gathering.gather_head.Goals as goal
 
 more_not_end : AtEnd ≡ More → ⊥
 more_not_end e = cc
 
-cut_not_failed : heads.Cut ≡ heads.Failed → ⊥
-cut_not_failed e = cc
+fill_told : (f known : Filled) (old new : Bool) → f ≡ known → new ≡ (fill_failed f || old) → new ≡ (fill_failed known || old)
+fill_told f known old new e h = h ∙ ap (λ x. fill_failed x || old) e
 
 more_not_failed : Failed ≡ More → ⊥
 more_not_failed e = cc
@@ -35,7 +36,7 @@ loop-size-init g c = record {
   few = omega arith;
   short = omega arith;
   led = nothing_seen;
-  failed = λ q. q;
+  failed = refl;
   bound = λ q. (q, omega arith);
 }
 
@@ -47,7 +48,7 @@ returns-in-Whole-clause-found g c =
 pub loop-size-preserved : goal.loop-size-preserved
 loop-size-preserved g c = record {
   came = reads_trans _ _ _ _ _ _ c.loop-size.invariant.came c.fill.ensures.got;
-  failed = λ q. c.loop-size.invariant.failed (c.fill.ensures.failed q).0;
+  failed = fill_told c.fill.result More _ _ c.in-More.is c.fill.ensures.failed ∙ c.loop-size.invariant.failed;
   bound = λ q.
       let (before, one) = c.fill.ensures.bound q in
       let (first, kept) = c.loop-size.invariant.bound before in
@@ -89,7 +90,7 @@ returns-in_default g c =
       got = reads_trans _ _ _ _ _ _ c.loop-size.invariant.came c.fill.ensures.got;
       found = (below, c.in-Open.place, c.in_default.not-Lead, «open»);
       at_end = c.fill.ensures.at_end c.in-AtEnd.is;
-      failed = λ q. (c.loop-size.invariant.failed (c.fill.ensures.failed q).0, λ e. cut_not_failed e);
+      failed = fill_told c.fill.result AtEnd _ _ c.in-AtEnd.is c.fill.ensures.failed ∙ c.loop-size.invariant.failed;
       bound = λ q. let (before, one) = c.fill.ensures.bound q in ((c.loop-size.invariant.bound before).0, tt);
     }
 

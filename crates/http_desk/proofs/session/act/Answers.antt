@@ -5,6 +5,7 @@ use Rattle.http_desk.specs.Session.{leave_if}
 use Rattle.http_messages.specs.Replies.{answer_in}
 use Rattle.http_messages.specs.declared.status.Status.TheVariants.{Busy}
 use Rattle.http_desk.proofs.Turns.{refused, acted_closing, acted_open, may_fail_after}
+use Rattle.http_desk.proofs.Faults.{reads_told, writes_told}
 use Rattle.http_desk.proofs.session.act.Goals as goal
 
 pub returns-in-Err-clause-turn : goal.returns-in-Err-clause-turn
@@ -34,3 +35,15 @@ returns-clause-turn g c =
     c.requires.accepted (subst (λ k. size + k ≤ length items) (sym c.body_len.ensures) c.requires.whole) c.body_len.ensures c.remove_front.ensures
     (rw c.deref.ensures.value at c.is_bare-bare.ensures) (sym c.is_closing-closing.ensures ∙ c.if-closing.false) c.after-else-closing.ensures
     (rw c.if-closing.false at c.send_answer-sent.ensures.sends) answers
+
+pub returns-then-closing-clause-reads : goal.returns-then-closing-clause-reads
+returns-then-closing-clause-reads g c = reads_told c.send_answer-sent.result _ c.after.result _ _ refl c.after.ensures refl
+
+pub returns-then-closing-clause-writes : goal.returns-then-closing-clause-writes
+returns-then-closing-clause-writes g c = writes_told c.send_answer-sent.result _ c.after.result _ _ refl c.after.ensures c.send_answer-sent.ensures.failed
+
+pub returns-clause-reads : goal.returns-clause-reads
+returns-clause-reads g c = reads_told c.send_answer-sent.result _ c.after-else-closing.result _ _ refl c.after-else-closing.ensures refl
+
+pub returns-clause-writes : goal.returns-clause-writes
+returns-clause-writes g c = writes_told c.send_answer-sent.result _ c.after-else-closing.result _ _ refl c.after-else-closing.ensures c.send_answer-sent.ensures.failed

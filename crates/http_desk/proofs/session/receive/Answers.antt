@@ -7,30 +7,20 @@ use Rattle.http_desk.specs.Messages.{HasHead, Fails}
 use Rattle.http_desk.specs.Session.{leave_if}
 use Rattle.http_desk.specs.Talking.{Turn, Through, after_sending}
 use Rattle.http_messages.specs.declared.status.Status.TheVariants.{Busy}
-use Rattle.http_desk.specs.declared.ended.Ended.TheVariants.{Closed, Cut, ReadFault, WriteFault, Bound}
+use Rattle.http_desk.specs.declared.ended.Ended.TheVariants.{Closed, Cut, ReadFault, Bound}
 use Rattle.http_desk.proofs.Turns.{leave_broken, front_same, head_grown, head_more, stops_in_body, bound_here, may_fail_after, refused}
 use Rattle.http_desk.specs.declared.ended.Next.{Next}
 use Rattle.http_desk.specs.declared.ended.Next.TheVariants.{Ends}
 use Rattle.http_desk.specs.declared.sending.Sent.{Sent}
 use Rattle.http_desk.specs.declared.sending.Sent.TheVariants.{All as SendAll, Failed as SendFailed, Bound as SendBound}
+use Rattle.http_desk.proofs.Faults.{reads_told, writes_told}
 use Rattle.http_desk.proofs.session.receive.Goals as goal
-
-no_write_fault : (sent : Sent) (next : Next) → next ≡ after_sending sent (Ends Closed) → (sent ≢ SendFailed)
-    → next ≢ Ends WriteFault
-no_write_fault SendAll next e n f = cc
-no_write_fault SendFailed next e n f = n refl
-no_write_fault SendBound next e n f = cc
 
 no_bound : (sent : Sent) (next : Next) → next ≡ after_sending sent (Ends Closed) → (sent ≢ SendBound)
     → next ≢ Ends Bound
 no_bound SendAll next e n f = cc
 no_bound SendFailed next e n f = cc
 no_bound SendBound next e n f = n refl
-
-no_read_fault : (sent : Sent) (next : Next) → next ≡ after_sending sent (Ends Closed) → next ≢ Ends ReadFault
-no_read_fault SendAll next e f = cc
-no_read_fault SendFailed next e f = cc
-no_read_fault SendBound next e f = cc
 
 pub returns-in_default : goal.returns-in_default
 returns-in_default g c =
@@ -46,10 +36,8 @@ returns-in_default g c =
       turn = turn;
       intact = λ i. i;
       at_end = at_end;
-      reads = λ q. (c.give_leave.ensures.reads q, no_read_fault c.give_leave.result _ c.after.ensures);
-      writes = λ q.
-          let (before, here) = c.give_leave.ensures.writes q in
-          (before, no_write_fault c.give_leave.result _ c.after.ensures here);
+      reads = reads_told c.give_leave.result _ c.after.result _ _ refl c.after.ensures c.give_leave.ensures.reads;
+      writes = writes_told c.give_leave.result _ c.after.result _ _ refl c.after.ensures c.give_leave.ensures.writes;
       turns = λ q.
           let (before, here) = c.give_leave.ensures.turns q in
           (before, no_bound c.give_leave.result _ c.after.ensures here);
