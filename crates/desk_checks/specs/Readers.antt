@@ -1,4 +1,4 @@
--- Whether rows of doubtful origin can be a desk's, whatever their cells are.
+-- Whether the rows of the readers can be a desk's, whatever their cells are.
 use Rattle.std.specs.Prelude.{ℕ, suc, Bool, true, false, not, cond, Option, None, ◌&&◌, ◌||◌, List, [], ◌∷◌, Some, filter_map, length, nat_eq, nat_le, nat_lt}
 use Rattle.std.specs.List.{list_all}
 use Rattle.std.specs.Option.{option_map_or}

@@ -10,7 +10,8 @@ ghost use Rattle.office_tables.specs.Faults.{Excused};
 ghost use Rattle.office_tables.specs.Schema as tables;
 ghost use Rattle.office_tables.specs.Step.{InOffice};
 ghost use Rattle.desk_checks.specs.Checks.{around_in, desk_in};
-ghost use Rattle.desk_checks.specs.Judging.{AreOrdersOf, good_seats_in, good_permits_in, good_holdings_in, good_runs_in};
+ghost use Rattle.desk_checks.specs.Judging.{AreOrdersOf, good_seats_in, good_permits_in};
+ghost use Rattle.desk_checks.specs.Judging.{good_holdings_in, good_runs_in};
 ghost use Rattle.desk_checks.specs.Readers.{number_registered};
 ghost use Rattle.desk_judgments.specs.Rows.{Surrounds, order_row};
 

@@ -1,4 +1,4 @@
-//! Whether rows of doubtful origin can be a desk's, whatever their cells are.
+//! Whether the rows of the readers can be a desk's, whatever their cells are.
 
 ghost use Rattle.std.specs.Prelude.{◌≡◌, ◌&&◌, nat_le, nat_eq, not, false, IfOk};
 ghost use Rattle.std.specs.List.{list_all};

@@ -175,7 +175,7 @@ pub(crate) fn seats<S: Alter>(
     requires inside { InOffice (state S.Store conn.old) }
     ensures reads { Reads (state S.Store conn.old) (state S.Store conn.new) result }
     ensures tells { HasCleanDisk (state S.Store conn.new)
-        → IfOk result (λ all. IsTable in_any_order cells.read_seat tables.seat seat_row (state S.Store conn.old) all) }
+        → IfOk result (IsTable in_any_order cells.read_seat tables.seat seat_row (state S.Store conn.old)) }
     ensures faults { Excused (state S.Store conn.old) (state S.Store conn.new) result }
 {
     read_rows(alloc, conn, "SELECT seat, ticket FROM seat")
@@ -189,7 +189,7 @@ pub(crate) fn permits<S: Alter>(
     requires inside { InOffice (state S.Store conn.old) }
     ensures reads { Reads (state S.Store conn.old) (state S.Store conn.new) result }
     ensures tells { HasCleanDisk (state S.Store conn.new)
-        → IfOk result (λ all. IsTable in_any_order cells.read_permit tables.permit permit_row (state S.Store conn.old) all) }
+        → IfOk result (IsTable in_any_order cells.read_permit tables.permit permit_row (state S.Store conn.old)) }
     ensures faults { Excused (state S.Store conn.old) (state S.Store conn.new) result }
 {
     read_rows(alloc, conn, "SELECT ticket, unit, until FROM permit")
@@ -203,7 +203,7 @@ pub(crate) fn orders<S: Alter>(
     requires inside { InOffice (state S.Store conn.old) }
     ensures reads { Reads (state S.Store conn.old) (state S.Store conn.new) result }
     ensures tells { HasCleanDisk (state S.Store conn.new)
-        → IfOk result (λ all. IsTable by_rowid cells.read_order tables.orders order_row (state S.Store conn.old) all) }
+        → IfOk result (IsTable by_rowid cells.read_order tables.orders order_row (state S.Store conn.old)) }
     ensures faults { Excused (state S.Store conn.old) (state S.Store conn.new) result }
 {
     read_rows(
@@ -221,7 +221,7 @@ pub(crate) fn holdings<S: Alter>(
     requires inside { InOffice (state S.Store conn.old) }
     ensures reads { Reads (state S.Store conn.old) (state S.Store conn.new) result }
     ensures tells { HasCleanDisk (state S.Store conn.new)
-        → IfOk result (λ all. IsTable in_any_order cells.read_holding tables.holding holding_row (state S.Store conn.old) all) }
+        → IfOk result (IsTable in_any_order cells.read_holding tables.holding holding_row (state S.Store conn.old)) }
     ensures faults { Excused (state S.Store conn.old) (state S.Store conn.new) result }
 {
     read_rows(alloc, conn, "SELECT container, place, held_by FROM holding")
@@ -235,7 +235,7 @@ pub(crate) fn runs<S: Alter>(
     requires inside { InOffice (state S.Store conn.old) }
     ensures reads { Reads (state S.Store conn.old) (state S.Store conn.new) result }
     ensures tells { HasCleanDisk (state S.Store conn.new)
-        → IfOk result (λ all. IsTable by_rowid cells.read_run tables.run run_row (state S.Store conn.old) all) }
+        → IfOk result (IsTable by_rowid cells.read_run tables.run run_row (state S.Store conn.old)) }
     ensures faults { Excused (state S.Store conn.old) (state S.Store conn.new) result }
 {
     read_rows(alloc, conn, "SELECT id, day FROM run ORDER BY id")
@@ -249,7 +249,8 @@ pub(crate) fn run_lines<S: Alter>(
     requires inside { InOffice (state S.Store conn.old) }
     ensures reads { Reads (state S.Store conn.old) (state S.Store conn.new) result }
     ensures tells { HasCleanDisk (state S.Store conn.new)
-        → IfOk result (λ all. IsTable in_any_order cells.read_run_line tables.run_line run_line_row (state S.Store conn.old) all) }
+        → IfOk result (IsTable in_any_order cells.read_run_line tables.run_line run_line_row
+        (state S.Store conn.old)) }
     ensures faults { Excused (state S.Store conn.old) (state S.Store conn.new) result }
 {
     read_rows(
@@ -267,7 +268,7 @@ pub(crate) fn unit_numbers<S: Alter>(
     requires inside { InOffice (state S.Store conn.old) }
     ensures reads { Reads (state S.Store conn.old) (state S.Store conn.new) result }
     ensures tells { HasCleanDisk (state S.Store conn.new)
-        → IfOk result (λ all. IsTable in_any_order read_number tables.unit (λ n. n) (state S.Store conn.old) all) }
+        → IfOk result (IsTable in_any_order read_number tables.unit (λ n. n) (state S.Store conn.old)) }
     ensures faults { Excused (state S.Store conn.old) (state S.Store conn.new) result }
 {
     read_rows(alloc, conn, "SELECT id FROM unit")
@@ -281,7 +282,7 @@ pub(crate) fn container_numbers<S: Alter>(
     requires inside { InOffice (state S.Store conn.old) }
     ensures reads { Reads (state S.Store conn.old) (state S.Store conn.new) result }
     ensures tells { HasCleanDisk (state S.Store conn.new)
-        → IfOk result (λ all. IsTable in_any_order read_number tables.container (λ n. n) (state S.Store conn.old) all) }
+        → IfOk result (IsTable in_any_order read_number tables.container (λ n. n) (state S.Store conn.old)) }
     ensures faults { Excused (state S.Store conn.old) (state S.Store conn.new) result }
 {
     read_rows(alloc, conn, "SELECT id FROM container")

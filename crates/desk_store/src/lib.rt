@@ -24,7 +24,7 @@ mod waiting;
 pub use blank::is_blank;
 pub use brought::run;
 pub use cards::{LiveOrder, ReaderCard, reader};
-pub use desk_checks::load_check_desk;
+pub use desk_checks::{DeskDoubt, load_check_desk};
 pub use granting::{Permit, grant, permits, revoke};
 pub use holdings::{FirstOrder, Loan, set_place};
 pub use lending::issued;
