@@ -1,0 +1,65 @@
+-- A unit that is closed, or whose closure ends, by the rules and in the tables.
+use Rattle.std.proofs.Common.{◌≡◌, ℕ, ℤ, Bool, true, false, cond, [], ◌∷◌, Option, refl}
+use Rattle.std.specs.Prelude.{⊤}
+use Rattle.std.specs.List.{AllByRecursion}
+use Rattle.sqlite.specs.State as store
+use Rattle.sqlite.specs.State.{HasCleanDisk}
+use Rattle.sqlite.specs.Tree.{Trees}
+use Rattle.tree_core.specs.Forest.{Forest, each, nodes}
+use Rattle.tree_core.specs.Versions.{Version}
+use Rattle.catalogue_core.specs.Finding.{has_unit}
+use Rattle.catalogue_core.specs.GoodCatalogues.{IsSomeDay}
+use Rattle.catalogue_core.specs.LegibleCatalogues.{IsLegibleCatalogue}
+use Rattle.catalogue_core.specs.Merging.{Catalogue}
+use Rattle.catalogue_core.specs.Statuses.{with_closure}
+use Rattle.catalogue_core.specs.Units.{Unit, has_id}
+use Rattle.catalogue_core.proofs.DistinctLists.{all_so}
+use Rattle.catalogue_core.proofs.GoodChanges.{each_good}
+use Rattle.catalogue_core.proofs.ImportedAgain.{all_each}
+use Rattle.catalogue_core.proofs.KeptUnits.{closure_keeps}
+use Rattle.catalogue_core.proofs.LegibleMerges.{each_legible}
+use Rattle.catalogue_rows.specs.Shows.{Shows}
+use Rattle.catalogue_rows.specs.declared.office.OfficeRow.{OfficeRow}
+use Rattle.office_core.specs.Rules.{after}
+use Rattle.office_core.specs.SoundOffice.{IsSoundOffice}
+use Rattle.office_core.specs.State.{State}
+use Rattle.office_core.specs.declared.command.Command.TheVariants as command
+use Rattle.office_core.specs.declared.done.Done.TheVariants as done
+use Rattle.office_tables.specs.Schema as tables
+use Rattle.office_tables.specs.Step.{OnlyTouches}
+use Rattle.shown_office.specs.Judging.{CanBeJudged}
+use Rattle.shown_office.specs.Shown.{office_of}
+use Rattle.shown_office.proofs.Changed.{shown_with}
+use Rattle.shown_office.proofs.Judged.{judged_with}
+use Rattle.shown_office.proofs.Passing.{IsChange}
+
+module _ (u : ℕ) (until : Option ℤ) where
+  abbrev change : Unit → Unit
+  change unit = cond (has_id u unit) (record unit { until = until }) unit
+
+  closure_day : (b : Bool) (unit : Unit) → IsSomeDay until → IsSomeDay unit.until → (let new : Unit = cond b (record unit { until = until }) unit in IsSomeDay new.until)
+  closure_day true unit new old = new
+  closure_day false unit new old = old
+
+  legible_after : (s : State) → IsSoundOffice s → IsLegibleCatalogue (record s.catalogue { forest = each change s.catalogue.forest })
+  legible_after s sound = each_legible s.catalogue change (closure_keeps until u) sound.texts.catalogue
+
+  judged_after : (s : State) → IsSoundOffice s → IsSomeDay until → CanBeJudged (after s (command.SetClosure u until))
+  judged_after s sound day =
+      let P : Unit → Type 0 = λ (unit : Unit). IsSomeDay unit.until in
+      judged_with s sound (each change s.catalogue.forest) (each_good s.catalogue change (closure_keeps until u) sound.sound.units)
+      (all_each P change s.catalogue.forest (all_so P (λ (unit : Unit). P (change unit)) (λ unit old. closure_day (has_id u unit) unit day old) (nodes s.catalogue.forest) sound.sound.days.closures))
+      (legible_after s sound)
+
+  pub closes : (places : Trees → Forest ℕ → Type 0) (version : Version) (old new : store.State) (today : ℤ) → IsSomeDay until
+      → (HasCleanDisk new → (o : OfficeRow) (k : Catalogue) → Shows places version old.now o k → ⊤ → Shows places version new.now o (with_closure u until k)) → (HasCleanDisk new → OnlyTouches (tables.unit.tree ∷ []) old.now new.now)
+      → IsChange places version (λ s. (today ≡ s.day) × (has_unit s.catalogue.forest u ≡ true)) (command.SetClosure u until) today (done.SetClosure u) old new
+  closes places version old new today day makes only = record {
+    shows = λ clean s sound so it.
+        shown_with s (each change s.catalogue.forest) places version old.now new.now (tables.unit.tree ∷ []) refl (only clean) it (legible_after s sound)
+        (makes clean (office_of s) s.catalogue it.catalogue tt);
+    judged = λ s sound so. judged_after s sound day;
+    day = λ s so. so.0;
+    last = λ s so. (let there = so.1 in rw there refl);
+    tells = λ clean s so it. refl;
+  }

@@ -1,0 +1,97 @@
+-- Units that are taken away, by the rules and in the tables.
+use Rattle.std.proofs.Common.{◌≡◌, ℕ, ℤ, Bool, true, List, length, refl, sym, ap, subst, ◌∙◌, nat_eq}
+use Rattle.std.specs.Prelude.{filter, not}
+use Rattle.std.specs.List.{AllByRecursion, list_any}
+use Rattle.std.proofs.lemmas.List.{length-map}
+use Rattle.sqlite.specs.State as store
+use Rattle.sqlite.specs.State.{HasCleanDisk}
+use Rattle.sqlite.specs.Tree.{Trees}
+use Rattle.isad_core.specs.Days.{is_day_number}
+use Rattle.tree_core.specs.Bearing.{MayCut}
+use Rattle.tree_core.specs.Forest.{Forest, branch, cut, each}
+use Rattle.tree_core.specs.Versions.{Version}
+use Rattle.tree_core.proofs.EachLemmas.{branch-each}
+use Rattle.desk_core.specs.DeskRows.{Desk, PermitRow}
+use Rattle.desk_store.specs.Shows.{IsNumberOf, ShowsDesk}
+use Rattle.catalogue_core.specs.Finding.{has_unit}
+use Rattle.catalogue_core.specs.GoodCatalogues.{IsSomeDay}
+use Rattle.catalogue_core.specs.LegibleCatalogues.{HasLegibleTexts, IsLegibleCatalogue}
+use Rattle.catalogue_core.specs.Merging.{Catalogue}
+use Rattle.catalogue_core.specs.Units.{Unit, has_id}
+use Rattle.catalogue_core.proofs.EachAfter.{all_cut}
+use Rattle.catalogue_core.proofs.EachOf.{all_filtered}
+use Rattle.catalogue_core.proofs.GoodChanges.{cut_good}
+use Rattle.catalogue_rows.specs.Shows.{Shows}
+use Rattle.catalogue_rows.specs.declared.office.OfficeRow.{OfficeRow}
+use Rattle.catalogue_store.specs.Removing.{HasNoBranch, tables_of_units}
+use Rattle.office_core.specs.Rules.{removed}
+use Rattle.office_core.specs.SoundOffice.{IsSoundOffice}
+use Rattle.office_core.specs.State.{Permit, State}
+use Rattle.office_core.specs.declared.command.Command.TheVariants as command
+use Rattle.office_core.specs.declared.done.Done.TheVariants as done
+use Rattle.office_rows.specs.DeskShown.{permit_rows}
+use Rattle.office_rows.specs.Reading.{tables}
+use Rattle.office_rows.proofs.LegibleRows.{desk_legible}
+use Rattle.shown_office.specs.Judging.{CanBeJudged}
+use Rattle.shown_office.specs.Shown.{ShowsState, office_of}
+use Rattle.shown_office.proofs.Judged.{distinct_ids, judged_with}
+use Rattle.shown_office.proofs.Passing.{IsChange}
+use Rattle.shown_office.proofs.PermitFrames.{desk_with_permits}
+use Rattle.catalogue_commands.proofs.PermitsLeft.{permits_left}
+
+module _ (u : ℕ) where
+  abbrev gone : State → PermitRow → Bool
+  gone s row = not (list_any (nat_eq row.unit) (branch (nat_eq u) (each (λ (unit : Unit). unit.id) s.catalogue.forest)))
+
+  rows_are : (s : State) → IsSoundOffice s → has_unit s.catalogue.forest u ≡ true → permit_rows (removed s u) ≡ filter (gone s) (permit_rows s)
+  rows_are s sound there = permits_left s u (distinct_ids s.catalogue sound.sound.units) there sound.sound.permits
+
+  legible_after : (s : State) → IsSoundOffice s → IsLegibleCatalogue (record s.catalogue { forest = cut (has_id u) s.catalogue.forest })
+  legible_after s sound = record { units = all_cut HasLegibleTexts (has_id u) s.catalogue.forest sound.texts.catalogue.units; containers = sound.texts.catalogue.containers }
+
+  judged_after : (s : State) → IsSoundOffice s → has_unit s.catalogue.forest u ≡ true → CanBeJudged (removed s u)
+  judged_after s sound there =
+      let base = judged_with s sound (cut (has_id u) s.catalogue.forest) (cut_good s.catalogue (has_id u) sound.sound.units)
+      (all_cut (λ (unit : Unit). IsSomeDay unit.until) (has_id u) s.catalogue.forest sound.sound.days.closures) (legible_after s sound) in
+      record {
+        catalogue = base.catalogue;
+        containers = base.containers;
+        units = base.units;
+        desk = λ version.
+            let it = desk_legible version s sound in
+            record {
+              readers = it.readers;
+              seats = it.seats;
+              orders = it.orders;
+              holdings = it.holdings;
+              runs = it.runs;
+              permits = subst (AllByRecursion (λ (p : PermitRow). is_day_number p.until ≡ true)) (sym (rows_are s sound there))
+                  (all_filtered (λ (p : PermitRow). is_day_number p.until ≡ true) (gone s) (permit_rows s) it.permits);
+            };
+        permits = λ t none. ap (filter (λ (permit : Permit). has_unit (cut (has_id u) s.catalogue.forest) permit.unit)) (sound.sound.desk.permits.known t none);
+        orders = base.orders;
+      }
+
+  pub removes : (places : Trees → Forest ℕ → Type 0) (version : Version) (old new : store.State) (today : ℤ) (n : ℕ)
+      → (HasCleanDisk new → (o : OfficeRow) (k : Catalogue) → Shows places version old.now o k → MayCut has_id u k.forest → HasNoBranch places version u o k old.now new.now)
+      → (HasCleanDisk new → (f : Forest ℕ) → places old.now.trees f → n ≡ length (branch (nat_eq u) f))
+      → IsChange places version (λ s. (today ≡ s.day) × (has_unit s.catalogue.forest u ≡ true)) (command.Remove u) today (done.Remove n) old new
+  removes places version old new today n takes count = record {
+    shows = λ clean s sound so it.
+        let left = takes clean (office_of s) s.catalogue it.catalogue so.1 in
+        let d : Desk = (tables version s).desk in
+        let desk = desk_with_permits old.now new.now tables_of_units left.only d (filter (gone s) (permit_rows s)) refl (left.permits (permit_rows s) it.desk.permits)
+        (all_filtered (λ (p : PermitRow). IsNumberOf d.readers p.ticket) (gone s) (permit_rows s) it.desk.permit_tickets) it.desk in
+        record {
+          catalogue = left.shows;
+          desk = subst (λ (permits : List PermitRow). ShowsDesk new.now.trees (record d { permits = permits })) (sym (rows_are s sound so.1)) desk;
+          texts = record { country = it.texts.country; repo = it.texts.repo; catalogue = legible_after s sound; readers = it.texts.readers };
+        };
+    judged = λ s sound so. judged_after s sound so.1;
+    day = λ s so. so.0;
+    last = λ s so. (let there = so.1 in rw there refl);
+    tells = λ clean s so it.
+        let f = s.catalogue.forest in
+        ap done.Remove (count clean (each (λ (unit : Unit). unit.id) f) it.catalogue.shown
+        ∙ ap length (branch-each (nat_eq u) (λ (unit : Unit). unit.id) f) ∙ length-map (branch (has_id u) f) (λ (unit : Unit). unit.id));
+  }

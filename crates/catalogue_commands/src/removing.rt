@@ -1,0 +1,50 @@
+//! Units are taken away.
+
+ghost use Rattle.std.specs.Prelude.{◌≡◌, true};
+ghost use Rattle.sqlite.specs.Held.{state};
+ghost use Rattle.isad_core.specs.Limits.{IsNumber};
+ghost use Rattle.catalogue_core.specs.Finding.{has_unit};
+ghost use Rattle.office_core.specs.declared.command.Command.TheVariants as command;
+ghost use Rattle.office_tables.specs.Step.{InTransaction};
+ghost use Rattle.shown_office.specs.Doing.{Does};
+
+use catalogue_store::{Places, is_unit, remove_branch};
+use isad_core::Day;
+use office_core::{Done, Refusal};
+use office_tables::StoreFault;
+use shown_office::pass;
+use sqlite::{Alter, Connection};
+use std::alloc::Global;
+
+/// Takes a unit that is there away with all below it, unless that withholds what is out.
+fn remove_known<P: Places, S: Alter>(
+    alloc: Global,
+    conn: &mut Connection<S>,
+    today: Day,
+    unit: u64,
+) -> Result<Result<Done, Refusal>, StoreFault>
+    requires inside { InTransaction P.version (state S.Store conn.old) }
+    requires small { IsNumber unit }
+    ensures { Does P.shows P.version (λ s. (today ≡ s.day) × (has_unit s.catalogue.forest unit ≡ true))
+        (command.Remove unit) (state S.Store conn.old) (state S.Store conn.new) result }
+{
+    let units = remove_branch::<P, S>(alloc, conn, unit)?;
+    pass::<P, S>(alloc, conn, today, Done::Remove { units })
+}
+
+/// Takes a unit away with all below it, and with the permits for these units. The day of the office is known.
+pub fn remove_unit<P: Places, S: Alter>(
+    alloc: Global,
+    conn: &mut Connection<S>,
+    today: Day,
+    unit: u64,
+) -> Result<Result<Done, Refusal>, StoreFault>
+    requires inside { InTransaction P.version (state S.Store conn.old) }
+    ensures { Does P.shows P.version (λ s. today ≡ s.day) (command.Remove unit) (state S.Store conn.old)
+        (state S.Store conn.new) result }
+{
+    if !is_unit::<P, S>(alloc, conn, unit)? {
+        return Ok(Err(Refusal::UnknownUnit));
+    }
+    remove_known::<P, S>(alloc, conn, today, unit)
+}
