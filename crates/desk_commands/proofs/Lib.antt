@@ -5,3 +5,4 @@ pub mod Renewed
 pub mod Seated
 pub mod Ordered
 pub mod Permitted
+pub mod Revoked

@@ -1,3 +1,4 @@
 pub mod Seating
 pub mod Placing
 pub mod Permitting
+pub mod Revoking
