@@ -10,3 +10,4 @@ pub mod Returned
 pub mod MovedAll
 pub mod Reshelved
 pub mod QueueTold
+pub mod Revoked

@@ -2,3 +2,4 @@ pub mod Seating
 pub mod Placing
 pub mod Permitting
 pub mod Moving
+pub mod Revoking

@@ -1,0 +1,104 @@
+-- A permit that is taken back, in the rows of the desk.
+use Rattle.std.proofs.Common.{◌≡◌, ℕ, Bool, true, false, not, cond, List, [], ◌∷◌, filter, Some, inl, inr, refl, sym, ap, subst, ◌∙◌}
+use Rattle.std.specs.List.{AllByRecursion}
+use Rattle.std.proofs.lemmas.Bool.{cases_eq}
+use Rattle.sqlite.specs.Effect.{Database}
+use Rattle.sqlite.specs.Tree.{Trees}
+use Rattle.isad_core.specs.Days.{is_day_number}
+use Rattle.catalogue_core.specs.Finding.{has_unit}
+use Rattle.tree_core.specs.Forest.{Forest}
+use Rattle.tree_core.specs.Versions.{Version}
+use Rattle.desk_core.specs.DeskRows.{PermitRow}
+use Rattle.desk_core.specs.LegibleDesks.{IsLegible}
+use Rattle.desk_core.specs.Refusals.{first_that_holds}
+use Rattle.desk_core.specs.declared.refusal.Refusal.TheVariants.{NoPermit, UnknownTicket, UnknownUnit}
+use Rattle.desk_store.specs.Permits.{is_permit, revoked as without_it}
+use Rattle.desk_store.specs.Shows.{ShowsDesk}
+use Rattle.office_core.specs.Rules.{after, gate, refusal}
+use Rattle.office_core.specs.SoundOffice.{AreTexts, IsSoundOffice}
+use Rattle.office_core.specs.State.{State, has_permit, is_ticket, revoked}
+use Rattle.office_core.specs.Words.{put}
+use Rattle.office_core.specs.declared.command.Command.TheVariants as command
+use Rattle.office_core.proofs.Words.{put_here, put_there}
+use Rattle.office_rows.specs.DeskShown.{permit_rows}
+use Rattle.office_rows.specs.Reading.{tables}
+use Rattle.office_tables.specs.Schema as schema
+use Rattle.office_tables.specs.Step.{OnlyTouches}
+use Rattle.shown_office.specs.Judging.{CanBeJudged}
+use Rattle.shown_office.specs.Shown.{ShowsState}
+use Rattle.shown_office.proofs.DeskSteps.{desk_step}
+use Rattle.shown_office.proofs.Judged.{judged_now}
+use Rattle.shown_office.proofs.PermitsShown.{revoked_rows}
+use Rattle.desk_commands.specs.Revoking.{HasPermit}
+
+all_kept : {X : Type 0} (P : X → Type 0) (p : X → Bool) (xs : List X) → AllByRecursion P xs → AllByRecursion P (filter p xs)
+all_kept P p [] all = tt
+all_kept P p (x ∷ xs) all = at (p x) (all_kept P p xs all.1)
+  where
+    at : (b : Bool) → AllByRecursion P (filter p xs) → AllByRecursion P (cond b (x ∷ filter p xs) (filter p xs))
+    at true rest = (all.0, rest)
+    at false rest = rest
+
+-- ---- the checks
+
+pub no_ticket : (s : State) (t u : ℕ) → is_ticket s t ≡ false → refusal s (command.Revoke t u) ≡ Some UnknownTicket
+no_ticket s t u unknown = rw unknown refl
+
+pub no_unit : (s : State) (t u : ℕ) → is_ticket s t ≡ true → has_unit s.catalogue.forest u ≡ false → refusal s (command.Revoke t u) ≡ Some UnknownUnit
+no_unit s t u ticket unknown = rw (ticket, unknown) refl
+
+pub no_permit : (s : State) (t u : ℕ) → is_ticket s t ≡ true → has_unit s.catalogue.forest u ≡ true → has_permit s t u ≡ false → refusal s (command.Revoke t u) ≡ Some NoPermit
+no_permit s t u ticket unit none = rw (ticket, unit, none) refl
+
+-- only the gate is left to be asked
+pub gate_is_left : (s : State) (t u : ℕ) → HasPermit s t u → refusal s (command.Revoke t u) ≡ first_that_holds (gate (after s (command.Revoke t u)) ∷ [])
+gate_is_left s t u has = rw (has.ticket_there, has.unit_there, has.held) refl
+
+-- ---- the rows
+
+module _ (s : State) (sound : IsSoundOffice s) (t u : ℕ) where
+  abbrev next : State
+  next = after s (command.Revoke t u)
+
+  legible : (version : Version) → IsLegible (tables version next).desk
+  legible version =
+      let were = (judged_now s sound).desk version in
+      record {
+        readers = were.readers;
+        seats = were.seats;
+        orders = were.orders;
+        holdings = were.holdings;
+        runs = were.runs;
+        permits = subst (AllByRecursion (λ (p : PermitRow). is_day_number p.until ≡ true)) (sym (revoked_rows t u s))
+            (all_kept (λ (p : PermitRow). is_day_number p.until ≡ true) (λ row. not (is_permit t u row)) (permit_rows s) were.permits);
+      }
+
+  only_readers : (n : ℕ) → is_ticket s n ≡ false → put s.permits t (revoked u (s.permits t)) n ≡ []
+  only_readers n unknown = elim (cases_eq n t) [
+    | inl same ↦
+        let none : s.permits t ≡ [] = ap s.permits (sym same) ∙ sound.sound.desk.permits.known n unknown in
+        ap (put s.permits t (revoked u (s.permits t))) same ∙ put_here s.permits t (revoked u (s.permits t)) ∙ ap (revoked u) none
+    | inr other ↦ put_there s.permits t (revoked u (s.permits t)) n other ∙ sound.sound.desk.permits.known n unknown
+  ]
+
+  pub judged : CanBeJudged next
+  judged =
+      let were = judged_now s sound in
+      record {
+        catalogue = were.catalogue;
+        containers = were.containers;
+        units = were.units;
+        desk = legible;
+        permits = only_readers;
+        orders = were.orders;
+      }
+
+  texts : AreTexts s → AreTexts next
+  texts are = record { country = are.country; repo = are.repo; catalogue = are.catalogue; readers = are.readers }
+
+  pub shows : (places : Trees → Forest ℕ → Type 0) → ((old new : Trees) (f : Forest ℕ) → new schema.link.tree ≡ old schema.link.tree → places old f → places new f)
+      → (version : Version) (before now : Database) → ShowsState places version before s → now.schema ≡ before.schema → OnlyTouches (schema.permit.tree ∷ []) before now
+      → ShowsDesk now.trees (without_it t u (tables version s).desk) → ShowsState places version now next
+  shows places same version before now it schema_is only shown =
+      desk_step places same version s next before now (schema.permit.tree ∷ []) refl schema_is only it (without_it t u (tables version s).desk) shown
+      (ap (λ (rows : List PermitRow). record (tables version s).desk { permits = rows }) (revoked_rows t u s)) refl refl (texts it.texts)
