@@ -7,3 +7,4 @@ pub mod Returned
 pub mod MovedAll
 pub mod Reshelved
 pub mod QueueTold
+pub mod Issued

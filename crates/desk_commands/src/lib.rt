@@ -2,6 +2,7 @@
 #![tactic(auto)]
 
 mod cancelling;
+mod issuing;
 mod moving;
 mod opening;
 mod registering;
@@ -10,6 +11,7 @@ mod reshelving;
 mod returning;
 
 pub use cancelling::cancel;
+pub use issuing::issue;
 pub use opening::open;
 pub use registering::register;
 pub use renewing::renew_ticket;
