@@ -8,3 +8,4 @@ pub mod MovedAll
 pub mod Reshelved
 pub mod QueueTold
 pub mod Issued
+pub mod Picked
