@@ -11,3 +11,5 @@ pub mod MovedAll
 pub mod Reshelved
 pub mod QueueTold
 pub mod Revoked
+pub mod Issued
+pub mod Picked

@@ -3,3 +3,4 @@ pub mod Placing
 pub mod Permitting
 pub mod Moving
 pub mod Revoking
+pub mod Lending

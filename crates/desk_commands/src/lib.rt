@@ -2,6 +2,7 @@
 #![tactic(auto)]
 
 mod cancelling;
+mod issuing;
 mod moving;
 mod opening;
 mod ordering;
@@ -14,6 +15,7 @@ mod revoking;
 mod seats;
 
 pub use cancelling::cancel;
+pub use issuing::issue;
 pub use opening::open;
 pub use ordering::order;
 pub use permitting::permit;

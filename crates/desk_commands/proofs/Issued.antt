@@ -1,0 +1,226 @@
+-- A container that is given to a reader, in the rows of the desk; and when it may be.
+use Rattle.std.proofs.Common.{◌≡◌, ℕ, ◌<◌, ◌≤◌, ◌^◌, Bool, true, false, cond, ◌&&◌, ◌||◌, nat_eq, List, [], ◌∷◌, length, Option, Some, None, Ok, Err, inl, inr, refl, sym, ap, subst, ◌∙◌, arith}
+use Rattle.std.specs.Prelude.{ℤ, filter_map, int_lt, is_some, option_and_then, option_map, slice_get, unwrap_or}
+use Rattle.std.specs.List.{cons_option}
+use Rattle.std.proofs.lemmas.Bool.{and_parts, cases_Bool, eqb-true, false≢true}
+use Rattle.sqlite.specs.Effect.{Database}
+use Rattle.sqlite.specs.Tree.{Trees}
+use Rattle.isad_core.specs.Limits.{IsNumber}
+use Rattle.tree_core.specs.Forest.{Forest}
+use Rattle.tree_core.specs.Versions.{Version}
+use Rattle.desk_core.specs.Checks.{IssueFacts, issue_checks}
+use Rattle.desk_core.specs.Decisions.{issue_facts}
+use Rattle.desk_core.specs.Decisions as decided
+use Rattle.desk_core.specs.DeskRows.{HoldingRow, OrderRow, with_state}
+use Rattle.desk_core.specs.Refusals.{first_that_holds}
+use Rattle.desk_core.specs.declared.reader.Limits.{Limits}
+use Rattle.desk_core.specs.declared.reader.Place.{Place}
+use Rattle.desk_core.specs.declared.reader.Place.TheVariants.{Shelf, Desk, Out}
+use Rattle.desk_core.specs.declared.reader.Reader.{Reader as Sitter}
+use Rattle.desk_core.specs.declared.refusal.Refusal.{Refusal}
+use Rattle.desk_core.specs.declared.refusal.Refusal.TheVariants.{NotAtDesk, NotFirst, UnknownContainer}
+use Rattle.desk_store.specs.Readers.{card_of}
+use Rattle.desk_store.specs.Shows.{ShowsDesk}
+use Rattle.desk_store.specs.declared.cards.ReaderCard.{ReaderCard}
+use Rattle.desk_store.specs.declared.orders.OrderState.TheVariants as states
+use Rattle.desk_store.specs.declared.orders.WaitingOrder.{WaitingOrder}
+use Rattle.office_core.specs.Laws.{Standing}
+use Rattle.office_core.specs.Rules.{checks, issued, refusal}
+use Rattle.office_core.specs.SoundDesk.{is_out_for}
+use Rattle.office_core.specs.SoundOffice.{IsSoundOffice}
+use Rattle.office_core.specs.State.{Order, Reader, State, container_of, held, is_by, is_container, is_desk, is_expired, is_seat_of, is_seated, is_ticket, opens, seat_of}
+use Rattle.office_core.specs.Words.{first, numbered, some_and, stands}
+use Rattle.office_core.specs.declared.command.Command.{Command}
+use Rattle.office_core.specs.declared.command.Command.TheVariants as command
+use Rattle.office_core.specs.declared.done.Done.TheVariants as done
+use Rattle.office_core.proofs.Filed.{is_issued, only_issues, waiting, waits_within}
+use Rattle.office_core.proofs.OrderLaws.{stands_out}
+use Rattle.office_core.proofs.Steps.{held_so, passes}
+use Rattle.office_core.proofs.Words.{same_number}
+use Rattle.office_rows.specs.DeskShown.{holding_rows, order_rows, state_number}
+use Rattle.office_rows.specs.Reading.{tables}
+use Rattle.office_rows.proofs.TableLaws.{rows_moved}
+use Rattle.office_tables.specs.Schema as schema
+use Rattle.office_tables.specs.Step.{OnlyTouches}
+use Rattle.shown_office.specs.Allowed.{limits_of}
+use Rattle.shown_office.specs.Doing.{DoesStep}
+use Rattle.shown_office.specs.Shown.{ShowsState}
+use Rattle.shown_office.specs.Sitters.{sitter, sitter_of}
+use Rattle.shown_office.proofs.CardsShown.{sitter_shown}
+use Rattle.shown_office.proofs.CommandSteps.{accepts, refuses}
+use Rattle.shown_office.proofs.HoldingRows.{place_after}
+use Rattle.shown_office.proofs.SeatsShown.{some_placed}
+use Rattle.desk_commands.specs.Lending.{IsQueuedFor, asked_for, first_waiting}
+use Rattle.desk_commands.specs.Moving.{handed_over}
+use Rattle.desk_commands.proofs.QueueTold.{waiter}
+
+-- ---- who may have it
+
+-- where nobody waits, nobody gets it
+pub nobody_first : (place : Place) (opened : Bool) (t : ℕ) (who : Option Sitter) (day : ℤ) (limits : Limits)
+    → first_that_holds (issue_checks (issue_facts (Some (asked_for place None opened)) t who day limits)) ≡ None → ⊥
+nobody_first place opened t who day limits none =
+    let ok = passes (issue_checks (issue_facts (Some (asked_for place None opened)) t who day limits)) none in
+    false≢true (and_parts (is_some who) false (held_so (is_some who && false) NotFirst ok.1.1.0)).1
+
+abbrev facts_with : (expired seated : Bool) (held hands : ℕ) (known at_desk first available : Bool) → IssueFacts
+facts_with expired seated held hands known at_desk first available =
+    record { known = known; at_desk = at_desk; first = first; expired = expired; seated = seated; held = held; hands = hands; available = available }
+
+not_first : (expired seated : Bool) (held hands : ℕ) (at_desk available : Bool)
+    → first_that_holds (issue_checks (facts_with expired seated held hands true at_desk false available)) ≡ cond at_desk (Some NotFirst) (Some NotAtDesk)
+not_first expired seated held hands true available = refl
+not_first expired seated held hands false available = refl
+
+desk_alike : (p : Place) → decided.is_desk p ≡ is_desk p
+desk_alike Shelf = refl
+desk_alike Desk = refl
+desk_alike (Out o) = refl
+
+module _ (s : State) (c t : ℕ) where
+  -- the first order is the ticket's
+  heads : (k : Option ℕ) → decided.is_ticket t (option_map (λ (w : WaitingOrder). w.ticket) (option_and_then (λ o. option_map (λ (order : Order). (let w : WaitingOrder = record { order = o; ticket = order.ticket } in w)) (numbered s.orders o)) k)) ≡ some_and (is_by s t) k
+  heads None = refl
+  heads (Some o) = at (numbered s.orders o)
+    where
+      at : (order : Option Order) → decided.is_ticket t (option_map (λ (w : WaitingOrder). w.ticket) (option_map (λ (order : Order). (let w : WaitingOrder = record { order = o; ticket = order.ticket } in w)) order)) ≡ some_and (λ (order : Order). nat_eq order.ticket t) order
+      at None = refl
+      at (Some order) = refl
+
+  stranger : IsSoundOffice s → is_ticket s t ≡ false → (k : Option ℕ) → some_and (is_by s t) k ≡ false
+  stranger sound unknown None = refl
+  stranger sound unknown (Some o) = at (numbered s.orders o) refl
+    where
+      at : (order : Option Order) → numbered s.orders o ≡ order → some_and (λ (order : Order). nat_eq order.ticket t) order ≡ false
+      at None is = refl
+      at (Some order) is = elim (cases_Bool (nat_eq order.ticket t)) [
+        | inl same ↦ absurd (false≢true (sym unknown ∙ subst (λ n. is_ticket s n ≡ true) (eqb-true order.ticket t same) (sound.sound.desk.orders.each o order is).ticket))
+        | inr other ↦ other
+      ]
+
+  abbrev decides : Place → Option WaitingOrder → Bool → Option Reader → Option Refusal
+  decides place head opened who = first_that_holds (issue_checks (issue_facts (Some (asked_for place head opened)) t (option_map (sitter_of s t) who) s.day (limits_of s)))
+
+  abbrev ruled : Bool → Bool → Bool → Bool → Bool → Option Refusal
+  ruled known at_desk first expired seated = first_that_holds (issue_checks (facts_with expired seated (held s t) s.settings.hands known at_desk first (opens s t c)))
+
+  -- what the desk decides by is what the rules look at
+  pub agrees : IsSoundOffice s → (place : Place) (head : Option WaitingOrder) (opened : Bool) → place ≡ s.place c → head ≡ first_waiting s c → opened ≡ opens s t c → is_container s c ≡ true
+      → first_that_holds (issue_checks (issue_facts (Some (asked_for place head opened)) t (sitter s t) s.day (limits_of s))) ≡ refusal s (command.Issue c t)
+  agrees sound place head opened is_at is_first is_open known = at (numbered s.readers t) refl
+    where
+      at_desk : decided.is_desk place ≡ is_desk (s.place c)
+      at_desk = desk_alike place ∙ ap is_desk is_at
+
+      head_is : decided.is_ticket t (option_map (λ (w : WaitingOrder). w.ticket) head) ≡ some_and (is_by s t) (first (s.queue c))
+      head_is = ap (λ (h : Option WaitingOrder). decided.is_ticket t (option_map (λ (w : WaitingOrder). w.ticket) h)) is_first ∙ heads (first (s.queue c))
+
+      at : (who : Option Reader) → numbered s.readers t ≡ who → decides place head opened (numbered s.readers t) ≡ refusal s (command.Issue c t)
+      at None is =
+          let unknown : is_ticket s t ≡ false = ap is_some is in
+          ap (decides place head opened) is
+          ∙ not_first false false 0 s.settings.hands (decided.is_desk place) opened
+          ∙ ap (λ b. cond b (Some NotFirst) (Some NotAtDesk)) at_desk
+          ∙ sym (not_first (is_expired s t) (is_seated s t) (held s t) s.settings.hands (is_desk (s.place c)) (opens s t c))
+          ∙ ap (λ b. ruled b (is_desk (s.place c)) false (is_expired s t) (is_seated s t)) (sym known)
+          ∙ ap (λ b. ruled (is_container s c) (is_desk (s.place c)) b (is_expired s t) (is_seated s t)) (sym (stranger sound unknown (first (s.queue c))))
+      at (Some reader) is =
+          let expired : int_lt reader.until s.day ≡ is_expired s t = ap (some_and (λ (reader : Reader). int_lt reader.until s.day)) (sym is) in
+          ap (decides place head opened) is
+          ∙ ap (λ a. first_that_holds (issue_checks (facts_with (int_lt reader.until s.day) (is_some (seat_of s t)) (held s t) s.settings.hands true (decided.is_desk place) (decided.is_ticket t (option_map (λ (w : WaitingOrder). w.ticket) head)) a))) is_open
+          ∙ ap (λ b. ruled b (decided.is_desk place) (decided.is_ticket t (option_map (λ (w : WaitingOrder). w.ticket) head)) (int_lt reader.until s.day) (is_some (seat_of s t))) (sym known)
+          ∙ ap (λ b. ruled (is_container s c) b (decided.is_ticket t (option_map (λ (w : WaitingOrder). w.ticket) head)) (int_lt reader.until s.day) (is_some (seat_of s t))) at_desk
+          ∙ ap (λ b. ruled (is_container s c) (is_desk (s.place c)) b (int_lt reader.until s.day) (is_some (seat_of s t))) head_is
+          ∙ ap (λ b. ruled (is_container s c) (is_desk (s.place c)) (some_and (is_by s t) (first (s.queue c))) b (is_some (seat_of s t))) expired
+          ∙ ap (λ b. ruled (is_container s c) (is_desk (s.place c)) (some_and (is_by s t) (first (s.queue c))) (is_expired s t) b) (some_placed (is_seat_of t) s.seats)
+
+-- ---- the first order
+
+module _ (s : State) (c : ℕ) where
+  abbrev orders_of : List ℕ → List WaitingOrder
+  orders_of os = filter_map (λ o. option_map (waiter o) (numbered s.orders o)) os
+
+  pub head_shown : IsSoundOffice s → slice_get (orders_of (s.queue c)) 0 ≡ first_waiting s c
+  head_shown sound = at (s.queue c) refl
+    where
+      at : (q : List ℕ) → s.queue c ≡ q → slice_get (orders_of q) 0 ≡ option_and_then (λ o. option_map (waiter o) (numbered s.orders o)) (first q)
+      at [] is = refl
+      at (o ∷ os) is = found (numbered s.orders o) refl
+        where
+          in_queue : stands o (s.queue c) ≡ true
+          in_queue = ap (stands o) is ∙ ap (λ b. b || stands o os) (same_number o)
+
+          found : (order : Option Order) → numbered s.orders o ≡ order → slice_get (cons_option (option_map (waiter o) order) (orders_of os)) 0 ≡ option_map (waiter o) order
+          found (Some order) e = refl
+          found None e =
+              let it = waiting (container_of s o) (λ c. stands o (s.queue c)) (λ c. is_out_for o (s.place c)) (s.past o) c (sound.sound.desk.filed.each o) in_queue in
+              let for_it = it.for_it in
+              let none : container_of s o ≡ None = ap (option_map (λ (order : Order). order.container)) e in
+              absurd (let bad : None ≡ Some c = sym none ∙ for_it in cc)
+
+  pub first_order : (o : ℕ) → option_map (λ (w : WaitingOrder). w.order) (first_waiting s c) ≡ Some o → first (s.queue c) ≡ Some o
+  first_order o h = at (first (s.queue c)) h
+    where
+      of : (k : ℕ) (order : Option Order) → option_map (λ (w : WaitingOrder). w.order) (option_map (waiter k) order) ≡ Some o → Some k ≡ Some o
+      of k None e = absurd (cc)
+      of k (Some order) e = e
+
+      at : (k : Option ℕ) → option_map (λ (w : WaitingOrder). w.order) (option_and_then (λ o. option_map (waiter o) (numbered s.orders o)) k) ≡ Some o → k ≡ Some o
+      at None e = absurd (cc)
+      at (Some k) e = of k (numbered s.orders k) e
+
+-- ---- what it does
+
+-- an order that waits is one of those that were placed
+pub small_head : (s : State) → IsSoundOffice s → (c o : ℕ) → first (s.queue c) ≡ Some o → IsNumber o
+small_head s sound c o head = let within = waits_within s c o sound.sound.desk.filed (at (s.queue c) head) in let few = sound.sound.desk.orders.few in omega (arith, within, few)
+  where
+    at : (q : List ℕ) → first q ≡ Some o → stands o q ≡ true
+    at [] h = absurd (cc)
+    at (p ∷ os) h = let same : o ≡ p = cc in ap (λ b. b || stands o os) (ap (nat_eq o) (sym same) ∙ same_number o)
+
+module _ (places : Trees → Forest ℕ → Type 0) (version : Version) (s : State) (c t : ℕ) where
+  abbrev asked : Command
+  asked = command.Issue c t
+
+  pub nothing_to_issue : (db : Database) → is_container s c ≡ false → DoesStep places version s asked (Err UnknownContainer) db
+  nothing_to_issue db unknown = let why : refusal s asked ≡ Some UnknownContainer = rw unknown refl in refuses places version s asked db UnknownContainer why
+
+  rows_after : IsSoundOffice s → (o : ℕ) (os : List ℕ) → s.queue c ≡ o ∷ os → is_desk (s.place c) ≡ true → order_rows (issued s c (o ∷ os)) ≡ with_state o 2 (order_rows s)
+  rows_after sound o os is at_desk =
+      let u = issued s c (o ∷ os) in
+      rows_moved s u o (only_issues s c o os is at_desk) refl
+      ∙ ap (λ (x : Option Standing). with_state o (state_number x) (order_rows s))
+      (stands_out (container_of u o) (λ k. stands o (u.queue k)) (λ k. is_out_for o (u.place k)) (u.past o) c (is_issued s c o os is sound.sound.desk.filed))
+
+  pub issues : IsSoundOffice s → ((old new : Trees) (f : Forest ℕ) → new schema.link.tree ≡ old schema.link.tree → places old f → places new f)
+      → (before now : Database) (o : ℕ) → refusal s asked ≡ None → first (s.queue c) ≡ Some o → ShowsState places version before s → now.schema ≡ before.schema
+      → OnlyTouches (schema.orders.tree ∷ schema.holding.tree ∷ []) before now → ShowsDesk now.trees (handed_over c (Out o) o states.Out (tables version s).desk)
+      → DoesStep places version s asked (Ok (done.Issue o)) now
+  issues sound same before now o why head it schema_is only shown = at (s.queue c) refl head
+    where
+      at : (q : List ℕ) → s.queue c ≡ q → first q ≡ Some o → DoesStep places version s asked (Ok (done.Issue o)) now
+      at [] is h = absurd (cc)
+      at (p ∷ os) is h =
+          let one : p ≡ o = cc in
+          let first_is : s.queue c ≡ o ∷ os = is ∙ ap (λ k. k ∷ os) one in
+          let ok = passes (checks s asked) why in
+          let known : is_container s c ≡ true = held_so (is_container s c) UnknownContainer ok.0 in
+          let at_desk : is_desk (s.place c) ≡ true = held_so (is_desk (s.place c)) NotAtDesk ok.1.0 in
+          accepts places version s asked same before now (schema.orders.tree ∷ schema.holding.tree ∷ []) refl why tt it schema_is only
+          (issued s c (o ∷ os)) (ap (issued s c) first_is) refl refl
+          (handed_over c (Out o) o states.Out (tables version s).desk) shown
+          (ap (λ (rows : List OrderRow). record (tables version (issued s c (o ∷ os))).desk { orders = rows }) (rows_after sound o os first_is at_desk)
+          ∙ ap (λ (rows : List HoldingRow). record (tables version s).desk { orders = with_state o 2 (order_rows s); holdings = rows }) (place_after s c (Out o) known))
+          (done.Issue o) (ap (λ q. done.Issue (unwrap_or (first q) 0)) first_is)
+
+-- ---- the decision on what was read
+
+pub decided_as : (version : Version) (s : State) (c t : ℕ) → IsSoundOffice s → (place : Place) (head : Option WaitingOrder) (opened : Bool) (who : Option Sitter) (today : ℤ) (limits : Limits)
+    → today ≡ s.day → limits ≡ limits_of s → IsQueuedFor s c place head → who ≡ option_map (λ (r : ReaderCard). r.reader) (card_of t today (tables version s).desk) → opened ≡ opens s t c
+    → first_that_holds (issue_checks (issue_facts (Some (asked_for place head opened)) t who today limits)) ≡ refusal s (command.Issue c t)
+decided_as version s c t sound place head opened who today limits day allowed queued told is_open =
+    ap (λ (r : Option Sitter). first_that_holds (issue_checks (issue_facts (Some (asked_for place head opened)) t r today limits))) (told ∙ sitter_shown version s sound t today)
+    ∙ ap (λ (n : ℤ). first_that_holds (issue_checks (issue_facts (Some (asked_for place head opened)) t (sitter s t) n limits))) day
+    ∙ ap (λ (l : Limits). first_that_holds (issue_checks (issue_facts (Some (asked_for place head opened)) t (sitter s t) s.day l))) allowed
+    ∙ agrees s c t sound place head opened queued.is_at queued.is_first is_open queued.known

@@ -1,0 +1,104 @@
+use Rattle.std.proofs.Common.{◌≡◌, None, Some, Err, sym, ap, subst, ◌∙◌}
+use Rattle.std.specs.Prelude.{Option, option_map}
+use Rattle.sqlite.specs.Effect.{Database}
+use Rattle.sqlite.specs.Held.{state}
+use Rattle.sqlite.specs.State.{HasCleanDisk}
+use Rattle.desk_core.specs.Checks.{issue_checks}
+use Rattle.desk_core.specs.Decisions.{issue_facts}
+use Rattle.desk_core.specs.Refusals.{first_that_holds}
+use Rattle.desk_core.specs.declared.reader.Limits.{Limits}
+use Rattle.desk_core.specs.declared.reader.Reader.{Reader as Sitter}
+use Rattle.desk_store.specs.declared.cards.ReaderCard.{ReaderCard}
+use Rattle.desk_store.specs.declared.orders.WaitingOrder.{WaitingOrder}
+use Rattle.office_core.specs.Rules.{refusal}
+use Rattle.office_core.specs.SoundOffice.{IsSoundOffice}
+use Rattle.office_core.specs.State.{State}
+use Rattle.office_core.specs.declared.command.Command.TheVariants as command
+use Rattle.office_rows.specs.Reading.{tables}
+use Rattle.office_rows.proofs.LegibleRows.{desk_legible}
+use Rattle.office_tables.proofs.CallEnds.{same_fault}
+use Rattle.office_tables.proofs.Calls.{cut_then, early, looks_then, office_of, still}
+use Rattle.office_tables.proofs.Causes.{cause_then, still_unlimited}
+use Rattle.shown_office.specs.Shown.{ShowsState}
+use Rattle.shown_office.proofs.CardsShown.{sitter_shown}
+use Rattle.shown_office.proofs.CommandSteps.{refuses}
+use Rattle.shown_office.proofs.Doings.{does_after, does_not, does_refuse}
+use Rattle.shown_office.proofs.Judged.{judged_now}
+use Rattle.desk_commands.specs.Lending.{asked_for}
+use Rattle.desk_commands.proofs.Issued.{agrees, decided_as, first_order}
+use Rattle.desk_commands.proofs.issuing.issue_known.Goals as goal
+
+pub reader-requires : goal.reader-requires
+reader-requires g c = record { inside = office_of g.P.Places.version (state g.S.Store c.args.conn.now) c.requires.inside }
+
+pub is_open_to-requires : goal.is_open_to-requires
+is_open_to-requires g c =
+    let a = state g.S.Store c.args.conn.now in
+    let b = state g.S.Store c.reader.new.conn in
+    record { inside = still g.P.Places.version a b c.requires.inside c.in_ok-card.ensures.tells.looks.goes }
+
+pub returns-in_err-card : goal.returns-in_err-card
+returns-in_err-card g c =
+    let a = state g.S.Store c.args.conn.now in
+    let b = state g.S.Store c.reader.new.conn in
+    let told = c.in_err-card.ensures.tells in
+    let e = c.from_residual.ensures in
+    does_not g.P.Places.shows g.P.Places.version _ (command.Issue c.args.wanted.container c.args.ticket) a b c.from_residual.result c.in_err-card.field-0.0
+    (same_fault c.from_residual.result c.in_err-card.field-0.0 e.0 e.1) told.cut
+    (λ s sound so it clean free. told.faults tt (tables g.P.Places.version s).desk it.desk tt (desk_legible g.P.Places.version s sound) clean free)
+
+pub returns-in_err-is_open : goal.returns-in_err-is_open
+returns-in_err-is_open g c =
+    let a = state g.S.Store c.args.conn.now in
+    let b = state g.S.Store c.reader.new.conn in
+    let d = state g.S.Store c.is_open_to.new.conn in
+    let first = c.in_ok-card.ensures.tells.looks in
+    let told = c.in_err-is_open.ensures.tells in
+    let e = c.from_residual-in_err-is_open.ensures in
+    does_not g.P.Places.shows g.P.Places.version _ (command.Issue c.args.wanted.container c.args.ticket) a d c.from_residual-in_err-is_open.result c.in_err-is_open.field-0.0
+    (same_fault c.from_residual-in_err-is_open.result c.in_err-is_open.field-0.0 e.0 e.1) (cut_then a b d first.goes.on told.cut)
+    (λ s sound so it clean free.
+    let at_b = early b d _ told.cut.crash clean in
+    cause_then a b d first.goes.on at_b _
+    (told.faults tt s (subst (λ (db : Database). ShowsState g.P.Places.shows g.P.Places.version db s) (sym (first.same at_b)) it) tt (judged_now s sound) clean (still_unlimited a b first.goes.on free)))
+
+pub returns : goal.returns
+returns g c =
+    let v = g.P.Places.version in
+    let a = state g.S.Store c.args.conn.now in
+    let b = state g.S.Store c.reader.new.conn in
+    let d = state g.S.Store c.is_open_to.new.conn in
+    let w = c.args.wanted in
+    let card = c.in_ok-card.ensures.tells in
+    let opened = c.in_ok-is_open.ensures.tells in
+    does_refuse g.P.Places.shows v _ (command.Issue w.container c.args.ticket) a d (Err c.in-Err.why) (looks_then a b d card.looks opened.looks)
+    (λ clean s sound so it.
+    let at_b = early b d _ opened.looks.goes.on.crash clean in
+    let shown_b = subst (λ (db : Database). ShowsState g.P.Places.shows v db s) (sym (card.looks.same at_b)) it in
+    refuses g.P.Places.shows v s (command.Issue w.container c.args.ticket) d.now c.in-Err.why
+    (sym (c.in-Err.ensures.refused
+    ∙ decided_as v s w.container c.args.ticket sound w.place w.head c.in_ok-is_open.is_open c.holder_of-who.result c.args.today c.args.limits.now so.0 so.1 so.2
+    (c.holder_of-who.ensures ∙ ap (option_map (λ (r : ReaderCard). r.reader)) (card.answers at_b tt (tables v s).desk it.desk))
+    (opened.answers clean tt s shown_b (judged_now s sound) so.0))))
+
+pub returns-in-Ok : goal.returns-in-Ok
+returns-in-Ok g c =
+    let v = g.P.Places.version in
+    let a = state g.S.Store c.args.conn.now in
+    let b = state g.S.Store c.reader.new.conn in
+    let d = state g.S.Store c.is_open_to.new.conn in
+    let f = state g.S.Store c.lend.new.conn in
+    let w = c.args.wanted in
+    let card = c.in_ok-card.ensures.tells in
+    let opened = c.in_ok-is_open.ensures.tells in
+    does_after g.P.Places.shows v _ (command.Issue w.container c.args.ticket) _ a d f c.lend.result (looks_then a b d card.looks opened.looks)
+    (λ clean s sound so it.
+    let at_b = early b d _ opened.looks.goes.on.crash clean in
+    let shown_b = subst (λ (db : Database). ShowsState g.P.Places.shows v db s) (sym (card.looks.same at_b)) it in (
+      sym (c.in-Ok.ensures.refused
+          ∙ decided_as v s w.container c.args.ticket sound w.place w.head c.in_ok-is_open.is_open c.holder_of-who.result c.args.today c.args.limits.now so.0 so.1 so.2
+          (c.holder_of-who.ensures ∙ ap (option_map (λ (r : ReaderCard). r.reader)) (card.answers at_b tt (tables v s).desk it.desk))
+          (opened.answers clean tt s shown_b (judged_now s sound) so.0)),
+      first_order s w.container c.in-Ok.order (ap (option_map (λ (x : WaitingOrder). x.order)) (sym so.2.is_first) ∙ c.in-Ok.ensures.order),
+    ))
+    c.lend.ensures
