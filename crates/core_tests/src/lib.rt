@@ -12,6 +12,10 @@ mod forests;
 #[cfg(test)]
 mod previews;
 #[cfg(test)]
+mod session_tables;
+#[cfg(test)]
 mod sessions;
+#[cfg(test)]
+mod streams;
 #[cfg(test)]
 mod worked_aids;
