@@ -14,6 +14,10 @@ mod judgments;
 #[cfg(test)]
 mod previews;
 #[cfg(test)]
+mod session_tables;
+#[cfg(test)]
 mod sessions;
+#[cfg(test)]
+mod streams;
 #[cfg(test)]
 mod worked_aids;

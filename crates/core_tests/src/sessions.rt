@@ -1,163 +1,11 @@
 //! Sessions over readers and writers that give and take in pieces, fail, or are interrupted.
 
+use crate::streams::{Again, Counter, Halves, Narrow, Pieces, Then};
 use http_desk::ended::{Calls, Ended};
 use http_desk::session::{talk, talk_watched};
-use isad_core::List;
-use office_core::{Answer, Busy, Command, Done, Machine, Query, Reply};
 use std::alloc::Global;
-use std::io::{self, ErrorKind, Read, Write};
 use std::process::Abort;
 use std::test::Fail;
-
-/// Tells one fonds, and gives tickets.
-#[derive(Drop)]
-struct Counter {
-    tickets: u64,
-}
-
-impl Machine for Counter {
-    ghost shows = { λ office s. ⊥ };
-
-    ghost is_intact = { λ office. Prim.Unit {0} };
-
-    fn apply(&mut self, alloc: Global, _command: Command) -> Result<Reply, Busy> {
-        let Ok(json) = Vec::from_slice(alloc, b"{\"ticket\":1}") else {
-            return Err(Busy::Memory);
-        };
-        self.tickets = self.tickets.wrapping_add(1);
-        Ok(Reply {
-            done: Ok(Done::Register {
-                ticket: self.tickets,
-            }),
-            json: List(json),
-        })
-    }
-
-    fn ask(&mut self, alloc: Global, _query: Query) -> Result<Answer, Busy> {
-        let Ok(text) = Vec::from_slice(alloc, b"1 GB 0999 HUL [Fonds] Hull Dock Company\n") else {
-            return Err(Busy::Memory);
-        };
-        Ok(Answer::Text(List(text)))
-    }
-}
-
-/// How reads or writes go on once all bytes are given, or no room is left.
-#[derive(Clone, Copy, PartialEq, Eq, Drop)]
-enum Then {
-    Ends,
-    Fails,
-    Waits,
-}
-
-/// Gives its bytes in pieces. A shy one is interrupted before each piece.
-#[derive(Drop)]
-struct Pieces<'a> {
-    bytes: &'a [u8],
-    piece: usize,
-    then: Then,
-    shy: bool,
-    ready: bool,
-    reads: u64,
-}
-
-impl<'a> Pieces<'a> {
-    fn new(bytes: &'a [u8], piece: usize, then: Then) -> Pieces<'a> {
-        Pieces {
-            bytes,
-            piece,
-            then,
-            shy: false,
-            ready: false,
-            reads: 0,
-        }
-    }
-}
-
-impl Read for Pieces<'_> {
-    fn read(&mut self, buf: &mut [u8]) -> io::Result<usize> {
-        self.reads = self.reads.wrapping_add(1);
-        self.ready = !self.ready;
-        if self.shy && self.ready {
-            return Err(io::Error::from(ErrorKind::Interrupted));
-        }
-        if self.bytes.is_empty() {
-            match self.then {
-                Then::Ends => return Ok(0),
-                Then::Fails => return Err(io::Error::from(ErrorKind::Other)),
-                Then::Waits => return Err(io::Error::from(ErrorKind::Interrupted)),
-            }
-        }
-        let n = self.piece.min(self.bytes.len()).min(buf.len());
-        for i in 0..n {
-            buf[i] = self.bytes[i];
-        }
-        self.bytes = &self.bytes[n..];
-        Ok(n)
-    }
-}
-
-/// Gives one request again and again.
-#[derive(Drop)]
-struct Again<'a> {
-    bytes: &'a [u8],
-}
-
-impl Read for Again<'_> {
-    fn read(&mut self, buf: &mut [u8]) -> io::Result<usize> {
-        let n = self.bytes.len().min(buf.len());
-        for i in 0..n {
-            buf[i] = self.bytes[i];
-        }
-        Ok(n)
-    }
-}
-
-/// Takes that many bytes, in pieces.
-#[derive(Drop)]
-struct Narrow {
-    held: Vec<u8>,
-    room: usize,
-    piece: usize,
-    then: Then,
-    calls: u64,
-    flushes: u64,
-}
-
-impl Narrow {
-    fn new(alloc: Global, room: usize, piece: usize, then: Then) -> Narrow {
-        Narrow {
-            held: Vec::new(alloc),
-            room,
-            piece,
-            then,
-            calls: 0,
-            flushes: 0,
-        }
-    }
-}
-
-impl Write for Narrow {
-    fn write(&mut self, buf: &[u8]) -> io::Result<usize> {
-        self.calls = self.calls.wrapping_add(1);
-        if self.room == 0 {
-            match self.then {
-                Then::Ends => return Ok(0),
-                Then::Fails => return Err(io::Error::from(ErrorKind::Other)),
-                Then::Waits => return Err(io::Error::from(ErrorKind::Interrupted)),
-            }
-        }
-        let n = buf.len().min(self.room).min(self.piece);
-        self.held.extend_from_slice(&buf[..n])?;
-        self.room -= n;
-        Ok(n)
-    }
-
-    fn flush(&mut self) -> io::Result<()> {
-        self.calls = self.calls.wrapping_add(1);
-        self.flushes = self.flushes.wrapping_add(1);
-        Ok(())
-    }
-}
 
 const ONE: &[u8] = b"GET /public/fonds HTTP/1.1\r\nHost: x\r\n\r\n";
 
@@ -369,6 +217,28 @@ const CASES: [Case; 9] = [
 fn worked_sessions(rt: HostRuntime) -> Result<(), Fail> {
     for case in &CASES {
         says(&rt, rt.alloc(), case);
+    }
+    Ok(())
+}
+
+// The same in every two parts.
+#[test]
+fn sessions_in_two_parts(rt: HostRuntime) -> Result<(), Fail> {
+    for case in &CASES {
+        for at in 0..=case.input.len() {
+            if at <= case.input.len() {
+                let mut desk = Counter { tickets: 0 };
+                let mut reader = Halves {
+                    first: &case.input[..at],
+                    second: &case.input[at..],
+                };
+                let mut writer = Narrow::new(rt.alloc(), 100_000, 1000, Then::Fails);
+                let ended = talk(rt.alloc(), &mut reader, &mut writer, &mut desk);
+                assert_eq!(rt; ended, case.end);
+                assert!(rt; writer.held.as_slice() == case.output, "{at}");
+                assert_eq!(rt; desk.tickets, case.tickets);
+            }
+        }
     }
     Ok(())
 }
