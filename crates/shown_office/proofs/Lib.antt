@@ -4,3 +4,4 @@ pub mod Doings
 pub mod Frames
 pub mod RowsOfLists
 pub mod EmptySeats
+pub mod DeskChecked
