@@ -24,3 +24,4 @@ pub mod Passing
 pub mod PermitFrames
 pub mod RowsOfLists
 pub mod Tellings
+pub mod DeskChecked

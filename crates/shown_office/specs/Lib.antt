@@ -6,3 +6,4 @@ pub mod Sitters
 pub mod Judging
 pub mod Openness
 pub mod Gate
+pub mod DeskChecked
