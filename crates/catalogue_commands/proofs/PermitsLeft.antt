@@ -1,7 +1,7 @@
 -- The permits that are left where units are taken away.
 use Rattle.std.proofs.Common.{◌≡◌, ℕ, Bool, true, false, not, cond, List, [], ◌∷◌, ◌++◌, length, map, inl, inr, refl, sym, ap, ap₂, ◌∙◌, nat_eq}
 use Rattle.std.specs.Prelude.{filter}
-use Rattle.std.specs.List.{AllByRecursion, IsDistinct, flat_map, list_any}
+use Rattle.std.specs.List.{AllByRecursion, flat_map, list_any}
 use Rattle.std.proofs.lemmas.Bool.{cases_Bool}
 use Rattle.std.proofs.lemmas.List.Elements.{filter-append}
 use Rattle.tree_core.specs.Forest.{Forest, HasDistinctIds, branch, cut, each, has}

@@ -33,7 +33,7 @@ use Rattle.office_rows.specs.DeskShown.{permit_rows}
 use Rattle.office_rows.specs.Reading.{tables}
 use Rattle.office_rows.proofs.LegibleRows.{desk_legible}
 use Rattle.shown_office.specs.Judging.{CanBeJudged}
-use Rattle.shown_office.specs.Shown.{ShowsState, office_of}
+use Rattle.shown_office.specs.Shown.{office_of}
 use Rattle.shown_office.proofs.Judged.{distinct_ids, judged_with}
 use Rattle.shown_office.proofs.Passing.{IsChange}
 use Rattle.shown_office.proofs.PermitFrames.{desk_with_permits}

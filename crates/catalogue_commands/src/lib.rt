@@ -2,9 +2,11 @@
 #![tactic(auto)]
 
 mod closing;
+mod moving;
 mod removing;
 mod statuses;
 
 pub use closing::change_closure;
+pub use moving::move_to;
 pub use removing::remove_unit;
 pub use statuses::change_status;

@@ -1,4 +1,4 @@
-use Rattle.std.proofs.Common.{◌≡◌, true, false, Err, refl, sym, ◌∙◌}
+use Rattle.std.proofs.Common.{◌≡◌, false, Err, refl, sym, ◌∙◌}
 use Rattle.sqlite.specs.Held.{state}
 use Rattle.desk_core.specs.declared.refusal.Refusal.TheVariants.{UnknownUnit}
 use Rattle.catalogue_core.specs.Finding.{has_unit}
