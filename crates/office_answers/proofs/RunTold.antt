@@ -1,5 +1,5 @@
 -- What is told of a run is what the rules tell of it.
-use Rattle.std.proofs.Common.{◌≡◌, ◌⊎◌, ℕ, suc, ◌<◌, Bool, true, cond, nat_eq, List, [], ◌∷◌, ◌++◌, map, filter, Option, Some, None, inl, inr, refl, sym, ap, subst, ◌∙◌}
+use Rattle.std.proofs.Common.{◌≡◌, ◌⊎◌, ℕ, suc, ◌<◌, true, nat_eq, List, [], ◌∷◌, ◌++◌, map, Option, Some, None, inl, inr, refl, sym, ap, subst, ◌∙◌}
 use Rattle.std.specs.Prelude.{ℤ, filter_map, option_map}
 use Rattle.std.specs.List.{AllByRecursion, AllZip, cons_option, flat_map}
 use Rattle.std.specs.List.Sorted.{IsPermutation}
@@ -30,6 +30,7 @@ use Rattle.office_rows.proofs.DeskLookups.{flipped, some_is}
 use Rattle.office_rows.proofs.Members.{all_in, all_of_in, in_append, in_filter, in_map}
 use Rattle.office_rows.proofs.NumberedRows.{numbered-map, numbered-rows, stands_at}
 use Rattle.office_rows.proofs.ReadBack.{runs_back}
+use Rattle.office_tables.proofs.Rows.{same_test}
 use Rattle.shown_office.proofs.RowsOfLists.{found_row}
 use Rattle.shown_office.proofs.StacksShown.{box_row, has_box, stacks_of}
 use Rattle.office_answers.proofs.SlipTold.{Rise, same_slip}
@@ -38,10 +39,6 @@ use Rattle.office_answers.proofs.SlipTold.{Rise, same_slip}
 abbrev pub told_slip : ℕ → Option Brought → Answer
 told_slip n None = Unknown UnknownRun
 told_slip n (Some told) = Text (slip n told.day told.lines)
-
-filter_same : {X : Type 0} (p q : X → Bool) → ((x : X) → p x ≡ q x) → (xs : List X) → filter p xs ≡ filter q xs
-filter_same p q same [] = refl
-filter_same p q same (x ∷ xs) = ap (λ b. cond b (x ∷ filter p xs) (filter p xs)) (same x) ∙ ap (λ l. cond (q x) (x ∷ l) l) (filter_same p q same xs)
 
 -- those that there are, as a list of lists
 each_some : {X Y : Type 0} (f : X → Option Y) (xs : List X) → filter_map f xs ≡ flat_map (λ x. cons_option (f x) []) xs
@@ -93,7 +90,7 @@ module _ (version : Version) (s : State) (sound : IsSoundOffice s) where
       ∙ sym (numbered-map (run_from all) (rows_from run_row 1 s.runs) n)
       ∙ ap (λ (runs : List Run). numbered runs n) (runs_back s.runs) ∙ is in
       let same : run_from all (run_row n run) ≡ run = cc in
-      ap (map line_from) (filter_same (λ (l : RunLineRow). nat_eq n l.run) (λ (l : RunLineRow). nat_eq l.run n) (λ l. flipped n l.run) all)
+      ap (map line_from) (same_test (λ (l : RunLineRow). nat_eq n l.run) (λ (l : RunLineRow). nat_eq l.run n) (λ l. flipped n l.run) all)
       ∙ ap (λ (r : Run). r.lines) same
 
   -- ---- each container is on a slip once

@@ -15,6 +15,7 @@ use Rattle.office_rows.proofs.DeskLookups.{flipped}
 use Rattle.office_rows.proofs.Members.{in_filter}
 use Rattle.office_rows.proofs.NumberedRows.{in_rows}
 use Rattle.office_rows.proofs.TableLaws.{reads_back}
+use Rattle.office_tables.proofs.Rows.{same_test}
 
 -- ---- where a container is
 
@@ -37,10 +38,6 @@ pub place_shown : (s : State) → IsSoundDesk s → (c : ℕ) (p : Place) → Is
 place_shown s sound c p is = sym (placed_as c (holding_rows s) p is) ∙ ap (λ (place : ℕ → Place). place c) (reads_back s sound).places
 
 -- ---- who waits
-
-filter_same : {X : Type 0} (p q : X → Bool) → ((x : X) → p x ≡ q x) → (xs : List X) → filter p xs ≡ filter q xs
-filter_same p q same [] = refl
-filter_same p q same (x ∷ xs) = ap (λ b. cond b (x ∷ filter p xs) (filter p xs)) (same x) ∙ ap (λ l. cond (q x) (x ∷ l) l) (filter_same p q same xs)
 
 swapped : (a b : Bool) → (a && b) ≡ (b && a)
 swapped true true = refl
@@ -73,7 +70,7 @@ module _ {Y : Type 0} (s : State) (tell : ℕ → Order → Y) where
   told_queue sound c =
       ap (λ (queue : ℕ → List ℕ). filter_map (λ o. option_map (tell o) (numbered s.orders o)) (queue c)) (sym (reads_back s sound).queues)
       ∙ ap (λ rows. filter_map (λ o. option_map (tell o) (numbered s.orders o)) (map (λ (row : OrderRow). row.id) rows))
-      (filter_same (λ (row : OrderRow). nat_eq row.container c && nat_eq row.state 1) (waits_in c)
+      (same_test (λ (row : OrderRow). nat_eq row.container c && nat_eq row.state 1) (waits_in c)
       (λ (row : OrderRow). ap (λ b. b && nat_eq row.state 1) (flipped row.container c) ∙ ap (λ b. nat_eq c row.container && b) (flipped row.state 1) ∙ swapped (nat_eq c row.container) (nat_eq 1 row.state))
       (order_rows s))
       ∙ told_rows (filter (waits_in c) (order_rows s)) (λ row k. (in_filter (waits_in c) (order_rows s) row k).0)
