@@ -20,7 +20,7 @@ use std::process::Abort;
 use std::test::Fail;
 
 /// The first of March 2024, and so many days later.
-fn day_after(days: u8) -> Result<Day, StoreFault> {
+pub(crate) fn day_after(days: u8) -> Result<Day, StoreFault> {
     match Day::from_number(19783 + i32::from(days)) {
         Some(day) => Ok(day),
         None => Err(StoreFault::Schema),
@@ -29,7 +29,7 @@ fn day_after(days: u8) -> Result<Day, StoreFault> {
 
 /// A reader with a ticket for the first day alone: the ticket.
 #[tactic(auto, using(crate::proofs::Going::went_on))]
-fn register<S: Alter>(
+pub(crate) fn register<S: Alter>(
     alloc: Global,
     conn: &mut Connection<S>,
     name: &str,

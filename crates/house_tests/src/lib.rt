@@ -4,4 +4,6 @@
 #[cfg(test)]
 mod desk;
 #[cfg(test)]
+mod reading_room;
+#[cfg(test)]
 mod tests;

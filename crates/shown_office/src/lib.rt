@@ -6,4 +6,5 @@ mod openness;
 
 pub use gate::{kept_back, pass};
 pub use openness::is_open_to;
+
 pub mod desk_checked;

@@ -1,0 +1,558 @@
+//! Days in the reading room, by the desk's calls: what they tell and what the tables keep, in memory and in a file.
+
+ghost use Rattle.std.specs.Prelude.{◌<◌, ◌^◌, OnOk};
+ghost use Rattle.std.specs.List.{AllByRecursion};
+ghost use Rattle.sqlite.specs.Held.{state};
+ghost use Rattle.tree_core.specs.Versions.{Links};
+ghost use Rattle.office_tables.specs.Step.{InTransaction};
+ghost use Rattle.desk_store.specs.Runs.{IsNumbered};
+
+use crate::desk::{day_after, register};
+use crate::tests::{Query, new_office, show_rows};
+use catalogue_store::{LinkPlaces, NewUnit, StoreFault, add_unit, commit};
+use desk_core::{Place, slip_text};
+use desk_store::{
+    FirstOrder, OrderState, append_order, at_desk, candidates, end_order, issued, open_day, queue,
+    reader, record_run, renew, run, seats, set_place, set_seat,
+};
+use isad_core::{BoxKey, List, Text, Values};
+use sqlite::{Alter, Connection};
+use std::alloc::{AllocError, Global};
+use std::process::Abort;
+use std::test::Fail;
+use std::{array, fs};
+
+/// A description that tells of one container alone.
+fn boxed(alloc: Global, name: &str, location: &str) -> Result<Values, AllocError> {
+    let mut boxes = List::new(alloc);
+    boxes.push(BoxKey {
+        name: Text::new(alloc, name)?,
+        location: Text::new(alloc, location)?,
+        kind: Text::new(alloc, "")?,
+    })?;
+    Ok(Values {
+        level: Text::new(alloc, "")?,
+        texts: array::from_fn(|_| None),
+        boxes,
+    })
+}
+
+/// Adds a published top in a container of its own.
+#[tactic(auto, using(crate::proofs::Going::went_on))]
+fn add_boxed<S: Alter>(
+    alloc: Global,
+    conn: &mut Connection<S>,
+    id: u64,
+    name: &str,
+    location: &str,
+) -> Result<(), StoreFault>
+    requires inside { InTransaction Links (state S.Store conn.old) }
+    requires small { id < 2 ^ 62 }
+    ensures inside { OnOk result (InTransaction Links (state S.Store conn.new)) }
+{
+    let values = boxed(alloc, name, location)?;
+    let source = Text::new(alloc, "a")?;
+    let legacy = Text(format!(in alloc; "{id}")?);
+    let unit = NewUnit {
+        id,
+        source: &source,
+        legacy: &legacy,
+        values: &values,
+        draft: false,
+    };
+    add_unit::<LinkPlaces, S>(alloc, conn, None, &unit)
+}
+
+/// Containers 1 to 3 in two strongrooms, and Ann, with ticket 1.
+fn furnished<S: Alter>(
+    alloc: Global,
+    conn: &mut Connection<S>,
+    text: &mut String,
+) -> Result<(), StoreFault>
+    requires inside { InTransaction Links (state S.Store conn.old) }
+    ensures inside { OnOk result (InTransaction Links (state S.Store conn.new)) }
+{
+    add_boxed(alloc, conn, 1, "Box 1", "Strongroom 2")?;
+    add_boxed(alloc, conn, 2, "Box 2", "Strongroom 1")?;
+    add_boxed(alloc, conn, 3, "Box 3", "Strongroom 1")?;
+    register(alloc, conn, "Ann", text)
+}
+
+/// Who waits for a container, and where it is.
+#[tactic(auto, using(crate::proofs::Going::looked_on))]
+fn show_queue<S: Alter>(
+    alloc: Global,
+    conn: &mut Connection<S>,
+    container: u64,
+    text: &mut String,
+) -> Result<(), StoreFault>
+    requires inside { InTransaction Links (state S.Store conn.old) }
+    ensures inside { OnOk result (InTransaction Links (state S.Store conn.new)) }
+{
+    let Some(known) = queue(alloc, conn, container)? else {
+        text.push_str("unknown\n")?;
+        return Ok(());
+    };
+    text.push_str(known.name.as_str())?;
+    match known.place {
+        Place::Shelf => text.push_str(" shelf")?,
+        Place::Desk => text.push_str(" desk")?,
+        Place::Out(order) => write!(text, " out {order}")?,
+    }
+    for waiting in known.waiting.as_slice() {
+        let (order, ticket) = (waiting.order, waiting.ticket);
+        write!(text, " {order}:{ticket}")?;
+    }
+    text.push_str("\n")?;
+    Ok(())
+}
+
+/// The containers that a run may take, each with its first order and that order's ticket.
+#[tactic(auto, using(crate::proofs::Going::looked_on))]
+fn show_candidates<S: Alter>(
+    alloc: Global,
+    conn: &mut Connection<S>,
+    text: &mut String,
+) -> Result<(), StoreFault>
+    requires inside { InTransaction Links (state S.Store conn.old) }
+    ensures inside { OnOk result (InTransaction Links (state S.Store conn.new)) }
+{
+    for first in &candidates(alloc, conn)? {
+        let (container, order, ticket) = (first.container, first.order, first.ticket);
+        write!(text, "{container} {order} {ticket}\n")?;
+    }
+    Ok(())
+}
+
+/// A run on the first day that brings these containers to the desk: its number.
+#[tactic(auto, using(crate::proofs::Going::went_on))]
+fn fetch<S: Alter>(
+    conn: &mut Connection<S>,
+    taken: &[FirstOrder],
+    text: &mut String,
+) -> Result<(), StoreFault>
+    requires inside { InTransaction Links (state S.Store conn.old) }
+    requires lines { AllByRecursion IsNumbered taken.now }
+    ensures inside { OnOk result (InTransaction Links (state S.Store conn.new)) }
+{
+    let run = record_run(conn, day_after(0)?, taken)?.unwrap_or(0);
+    write!(text, "run {run}\n")?;
+    Ok(())
+}
+
+/// The slip of a run.
+#[tactic(auto, using(crate::proofs::Going::looked_on))]
+fn show_slip<S: Alter>(
+    alloc: Global,
+    conn: &mut Connection<S>,
+    number: u64,
+    text: &mut String,
+) -> Result<(), StoreFault>
+    requires inside { InTransaction Links (state S.Store conn.old) }
+    ensures inside { OnOk result (InTransaction Links (state S.Store conn.new)) }
+{
+    let Some(brought) = run(alloc, conn, number)? else {
+        text.push_str("no run\n")?;
+        return Ok(());
+    };
+    let slip = slip_text(alloc, number, brought.day, brought.lines.as_slice())?;
+    for byte in &slip {
+        text.push(char::from(*byte))?;
+    }
+    Ok(())
+}
+
+/// A container is given out for an order.
+fn lend<S: Alter>(conn: &mut Connection<S>, container: u64, order: u64) -> Result<(), StoreFault>
+    requires inside { InTransaction Links (state S.Store conn.old) }
+    requires container { container < 2 ^ 63 }
+    requires order { order < 2 ^ 63 }
+    ensures inside { OnOk result (InTransaction Links (state S.Store conn.new)) }
+{
+    end_order(conn, order, OrderState::Out)?;
+    set_place(conn, container, Place::Out(order))
+}
+
+/// A container that was out for an order comes back to the desk.
+fn give_back<S: Alter>(
+    conn: &mut Connection<S>,
+    container: u64,
+    order: u64,
+) -> Result<(), StoreFault>
+    requires inside { InTransaction Links (state S.Store conn.old) }
+    requires container { container < 2 ^ 63 }
+    requires order { order < 2 ^ 63 }
+    ensures inside { OnOk result (InTransaction Links (state S.Store conn.new)) }
+{
+    end_order(conn, order, OrderState::Done)?;
+    set_place(conn, container, Place::Desk)
+}
+
+/// Two orders wait for container 1. A run brings it; it goes to the first and, when it is back, waits for the second.
+fn lent_in_turn<S: Alter>(
+    alloc: Global,
+    conn: &mut Connection<S>,
+    text: &mut String,
+) -> Result<(), StoreFault>
+    requires inside { InTransaction Links (state S.Store conn.old) }
+    ensures inside { OnOk result (InTransaction Links (state S.Store conn.new)) }
+{
+    place_two(alloc, conn, text)?;
+    show_candidates(alloc, conn, text)?;
+    fetch(conn, &[FIRST], text)?;
+    set_place(conn, 1, Place::Desk)?;
+    show_queue(alloc, conn, 1, text)?;
+    lend(conn, 1, 1)?;
+    show_queue(alloc, conn, 1, text)?;
+    give_back(conn, 1, 1)?;
+    show_queue(alloc, conn, 1, text)
+}
+
+/// Order 1 for container 1, with Ann's ticket.
+const FIRST: FirstOrder = FirstOrder {
+    container: 1,
+    order: 1,
+    ticket: 1,
+};
+
+/// Ann and Bob order container 1.
+#[tactic(auto, using(crate::proofs::Going::went_on))]
+fn place_two<S: Alter>(
+    alloc: Global,
+    conn: &mut Connection<S>,
+    text: &mut String,
+) -> Result<(), StoreFault>
+    requires inside { InTransaction Links (state S.Store conn.old) }
+    ensures inside { OnOk result (InTransaction Links (state S.Store conn.new)) }
+{
+    furnished(alloc, conn, text)?;
+    register(alloc, conn, "Bob", text)?;
+    append_order(conn, 1, 1, 1, day_after(0)?)?;
+    append_order(conn, 2, 2, 1, day_after(0)?)
+}
+
+/// Ann orders containers 1, 2 and 3.
+#[tactic(auto, using(crate::proofs::Going::went_on))]
+fn place_three<S: Alter>(
+    alloc: Global,
+    conn: &mut Connection<S>,
+    text: &mut String,
+) -> Result<(), StoreFault>
+    requires inside { InTransaction Links (state S.Store conn.old) }
+    ensures inside { OnOk result (InTransaction Links (state S.Store conn.new)) }
+{
+    furnished(alloc, conn, text)?;
+    append_order(conn, 1, 1, 1, day_after(0)?)?;
+    append_order(conn, 2, 1, 2, day_after(0)?)?;
+    append_order(conn, 3, 1, 3, day_after(0)?)
+}
+
+/// The first run takes two of three containers, the second the last; each with its slip.
+fn fetched_in_two_runs<S: Alter>(
+    alloc: Global,
+    conn: &mut Connection<S>,
+    text: &mut String,
+) -> Result<(), StoreFault>
+    requires inside { InTransaction Links (state S.Store conn.old) }
+    ensures inside { OnOk result (InTransaction Links (state S.Store conn.new)) }
+{
+    place_three(alloc, conn, text)?;
+    show_candidates(alloc, conn, text)?;
+    fetch(conn, &[FIRST, SECOND], text)?;
+    set_place(conn, 1, Place::Desk)?;
+    set_place(conn, 2, Place::Desk)?;
+    show_candidates(alloc, conn, text)?;
+    fetch(conn, &[THIRD], text)?;
+    show_slip(alloc, conn, 1, text)?;
+    show_slip(alloc, conn, 2, text)?;
+    show_slip(alloc, conn, 3, text)
+}
+
+const SECOND: FirstOrder = FirstOrder {
+    container: 2,
+    order: 2,
+    ticket: 1,
+};
+
+const THIRD: FirstOrder = FirstOrder {
+    container: 3,
+    order: 3,
+    ticket: 1,
+};
+
+/// How many orders Ann placed on a day, the last day of her ticket, and how many orders there are.
+#[tactic(auto, using(crate::proofs::Going::looked_on))]
+fn show_card<S: Alter>(
+    alloc: Global,
+    conn: &mut Connection<S>,
+    days: u8,
+    text: &mut String,
+) -> Result<(), StoreFault>
+    requires inside { InTransaction Links (state S.Store conn.old) }
+    ensures inside { OnOk result (InTransaction Links (state S.Store conn.new)) }
+{
+    let Some(card) = reader(alloc, conn, 1, day_after(days)?)? else {
+        text.push_str("no reader\n")?;
+        return Ok(());
+    };
+    let (placed, until, orders) = (card.placed, card.reader.until.number(), card.orders);
+    write!(text, "{placed} {until} {orders}\n")?;
+    Ok(())
+}
+
+/// Ended orders count on the day on which they were placed, and not on the next; a ticket keeps its last day until it
+/// is renewed.
+#[tactic(auto, using(crate::proofs::Going::went_on))]
+fn counted_by_day<S: Alter>(
+    alloc: Global,
+    conn: &mut Connection<S>,
+    text: &mut String,
+) -> Result<(), StoreFault>
+    requires inside { InTransaction Links (state S.Store conn.old) }
+    ensures inside { OnOk result (InTransaction Links (state S.Store conn.new)) }
+{
+    place_three(alloc, conn, text)?;
+    end_order(conn, 1, OrderState::Cancelled)?;
+    show_card(alloc, conn, 0, text)?;
+    open_day(conn, day_after(1)?)?;
+    show_card(alloc, conn, 1, text)?;
+    renew(conn, 1, day_after(200)?)?;
+    append_order(conn, 4, 1, 1, day_after(1)?)?;
+    show_card(alloc, conn, 1, text)
+}
+
+/// The seats that are taken, each with its ticket.
+#[tactic(auto, using(crate::proofs::Going::looked_on))]
+fn show_seats<S: Alter>(
+    alloc: Global,
+    conn: &mut Connection<S>,
+    text: &mut String,
+) -> Result<(), StoreFault>
+    requires inside { InTransaction Links (state S.Store conn.old) }
+    ensures inside { OnOk result (InTransaction Links (state S.Store conn.new)) }
+{
+    for taken in &seats(alloc, conn)? {
+        let (seat, ticket) = (taken.seat, taken.ticket);
+        write!(text, "{seat} {ticket}\n")?;
+    }
+    Ok(())
+}
+
+/// Ann and Bob have the two seats; Ann leaves, Cy takes hers, and a day later nobody sits.
+#[tactic(auto, using(crate::proofs::Going::went_on))]
+fn seated_in_turn<S: Alter>(
+    alloc: Global,
+    conn: &mut Connection<S>,
+    text: &mut String,
+) -> Result<(), StoreFault>
+    requires inside { InTransaction Links (state S.Store conn.old) }
+    ensures inside { OnOk result (InTransaction Links (state S.Store conn.new)) }
+{
+    place_two(alloc, conn, text)?;
+    register(alloc, conn, "Cy", text)?;
+    set_seat(conn, 1, Some(1))?;
+    set_seat(conn, 2, Some(2))?;
+    set_seat(conn, 1, None)?;
+    set_seat(conn, 1, Some(3))?;
+    show_seats(alloc, conn, text)?;
+    open_day(conn, day_after(1)?)?;
+    show_seats(alloc, conn, text)
+}
+
+/// The containers at the desk, and whether somebody waits for each.
+#[tactic(auto, using(crate::proofs::Going::looked_on))]
+fn show_desk<S: Alter>(
+    alloc: Global,
+    conn: &mut Connection<S>,
+    text: &mut String,
+) -> Result<(), StoreFault>
+    requires inside { InTransaction Links (state S.Store conn.old) }
+    ensures inside { OnOk result (InTransaction Links (state S.Store conn.new)) }
+{
+    for &(container, awaited) in &at_desk(alloc, conn)? {
+        write!(text, "{container} {awaited}\n")?;
+    }
+    let out = issued(alloc, conn)?.len();
+    write!(text, "{out} out\n")?;
+    Ok(())
+}
+
+/// Of two containers at the desk one goes out and comes back; nobody waits for it, and it goes to the shelf.
+fn reshelved<S: Alter>(
+    alloc: Global,
+    conn: &mut Connection<S>,
+    text: &mut String,
+) -> Result<(), StoreFault>
+    requires inside { InTransaction Links (state S.Store conn.old) }
+    ensures inside { OnOk result (InTransaction Links (state S.Store conn.new)) }
+{
+    place_three(alloc, conn, text)?;
+    set_place(conn, 1, Place::Desk)?;
+    set_place(conn, 2, Place::Desk)?;
+    lend(conn, 1, 1)?;
+    show_desk(alloc, conn, text)?;
+    give_back(conn, 1, 1)?;
+    show_desk(alloc, conn, text)?;
+    set_place(conn, 1, Place::Shelf)?;
+    show_desk(alloc, conn, text)?;
+    show_queue(alloc, conn, 2, text)
+}
+
+/// A day in the reading room of a new office.
+#[derive(Clone, Copy)]
+enum Visit {
+    Lend,
+    Fetch,
+    Count,
+    Sit,
+    Reshelve,
+}
+
+/// What the calls of that day say. What they did is committed.
+#[tactic(auto, using(crate::proofs::Going::went_on))]
+fn spend<S: Alter>(
+    alloc: Global,
+    conn: &mut Connection<S>,
+    visit: Visit,
+    text: &mut String,
+) -> Result<(), StoreFault> {
+    new_office(alloc, conn)?;
+    match visit {
+        Visit::Lend => lent_in_turn(alloc, conn, text)?,
+        Visit::Fetch => fetched_in_two_runs(alloc, conn, text)?,
+        Visit::Count => counted_by_day(alloc, conn, text)?,
+        Visit::Sit => seated_in_turn(alloc, conn, text)?,
+        Visit::Reshelve => reshelved(alloc, conn, text)?,
+    }
+    commit(conn)
+}
+
+/// A day, what its calls say, and which rows are kept.
+type Case = (Visit, &'static str, &'static [Query], &'static str);
+
+const ORDERS: Query = ("SELECT id, container, state FROM orders ORDER BY id", 3);
+
+const HOLDINGS: Query = (
+    "SELECT container, place, held_by FROM holding ORDER BY container",
+    3,
+);
+
+const LINES: Query = (
+    "SELECT run, container, order_no, ticket FROM run_line ORDER BY run, container",
+    4,
+);
+
+const SEATS: Query = ("SELECT seat, ticket FROM seat ORDER BY seat", 2);
+
+const DAYS: [Case; 5] = [
+    (
+        Visit::Lend,
+        "1\n2\n1 1 1\nrun 1\nBox 1 desk 1:1 2:2\nBox 1 out 1 2:2\nBox 1 desk 2:2\n",
+        &[ORDERS, HOLDINGS],
+        " 1 1 3\n 2 1 1\n 1 1 -\n",
+    ),
+    (
+        Visit::Fetch,
+        "1\n1 1 1\n2 2 1\n3 3 1\nrun 1\n3 3 1\nrun 2\n\
+         Run 1  2024-03-01\n\
+         Strongroom 1         Box 2                 2        2       1\n\
+         Strongroom 2         Box 1                 1        1       1\n\
+         Run 2  2024-03-01\n\
+         Strongroom 1         Box 3                 3        3       1\n\
+         no run\n",
+        &[LINES],
+        " 1 1 1 1\n 1 2 2 1\n 2 3 3 1\n",
+    ),
+    (
+        Visit::Count,
+        "1\n3 19783 3\n0 19783 3\n1 19983 4\n",
+        &[ORDERS],
+        " 1 1 4\n 2 2 1\n 3 3 1\n 4 1 1\n",
+    ),
+    (Visit::Sit, "1\n2\n3\n1 3\n2 2\n", &[SEATS], ""),
+    (
+        Visit::Reshelve,
+        "1\n2 true\n1 out\n1 false\n2 true\n0 out\n2 true\n0 out\nBox 2 desk 2:1\n",
+        &[ORDERS, HOLDINGS],
+        " 1 1 3\n 2 2 1\n 3 3 1\n 2 1 -\n",
+    ),
+];
+
+/// The rows of these queries.
+fn rows_of<S: Alter>(
+    alloc: Global,
+    conn: &mut Connection<S>,
+    queries: &[Query],
+) -> Result<String, Fail> {
+    let mut text = String::new(alloc);
+    for query in queries {
+        show_rows(&mut text, conn, *query)?;
+    }
+    Ok(text)
+}
+
+fn said_in<S: Alter>(
+    alloc: Global,
+    conn: &mut Connection<S>,
+    visit: Visit,
+) -> Result<String, Fail> {
+    let mut text = String::new(alloc);
+    spend(alloc, conn, visit, &mut text)?;
+    Ok(text)
+}
+
+#[test]
+fn days_in_the_reading_room(rt: HostRuntime) -> Result<(), Fail> {
+    for &(visit, said, queries, kept) in &DAYS {
+        let mut conn = Connection::open_in_memory(rt.alloc())?;
+        let text = said_in(rt.alloc(), &mut conn, visit)?;
+        assert_eq!(rt; text.as_str(), said);
+        let rows = rows_of(rt.alloc(), &mut conn, queries)?;
+        assert_eq!(rt; rows.as_str(), kept);
+    }
+    Ok(())
+}
+
+const FILE: &str = "reading-room-of-the-tests.db";
+/// What is written before it goes into the file stands here.
+const LOG: &str = "reading-room-of-the-tests.db-wal";
+
+fn said_in_file(rt: &HostRuntime, visit: Visit) -> Result<String, Fail> {
+    let mut conn = Connection::open(rt, FILE)?;
+    let text = said_in(rt.alloc(), &mut conn, visit)?;
+    conn.close()?;
+    Ok(text)
+}
+
+fn rows_in_file(rt: &HostRuntime, queries: &[Query]) -> Result<String, Fail> {
+    let mut conn = Connection::open(rt, FILE)?;
+    let text = rows_of(rt.alloc(), &mut conn, queries)?;
+    conn.close()?;
+    Ok(text)
+}
+
+/// What the calls say in a new file, and the rows that it then has.
+fn told_in_file(
+    rt: &HostRuntime,
+    visit: Visit,
+    queries: &[Query],
+) -> Result<(String, String), Fail> {
+    let _ = fs::remove_file(rt, FILE);
+    let _ = fs::remove_file(rt, LOG);
+    let said = said_in_file(rt, visit)?;
+    let kept = rows_in_file(rt, queries)?;
+    Ok((said, kept))
+}
+
+/// The same in a file, which is closed and opened again before its rows are read.
+#[test]
+fn days_in_a_file(rt: HostRuntime) -> Result<(), Fail> {
+    for &(visit, said, queries, kept) in &DAYS {
+        let (text, rows) = told_in_file(&rt, visit, queries)?;
+        assert_eq!(rt; text.as_str(), said);
+        assert_eq!(rt; rows.as_str(), kept);
+    }
+    fs::remove_file(&rt, FILE)?;
+    let _ = fs::remove_file(&rt, LOG);
+    Ok(())
+}
