@@ -13,3 +13,5 @@ pub mod QueueTold
 pub mod Revoked
 pub mod Issued
 pub mod Picked
+pub mod Fetched
+pub mod RunMade

@@ -26,7 +26,7 @@ pub legible_all : (p : Place) (cs : List ℕ) (d : Desk) → AllByRecursion IsNu
 legible_all p [] d small it = it
 legible_all p (c ∷ cs) d small it = legible_all p cs (with_place c p d) small.1 (legible_place c p d small.0 it)
 
-pub all_taken : (P : ℕ → Type 0) (k : ℕ) (cs : List ℕ) → AllByRecursion P cs → AllByRecursion P (take k cs)
+pub all_taken : {X : Type 0} (P : X → Type 0) (k : ℕ) (cs : List X) → AllByRecursion P cs → AllByRecursion P (take k cs)
 all_taken P zero cs h = tt
 all_taken P (suc k) [] h = tt
 all_taken P (suc k) (c ∷ cs) h = (h.0, all_taken P k cs h.1)

@@ -94,11 +94,11 @@ rising_order : (ns : List ℕ) → IsAscending ns → in_order nat_lt ns ≡ ns
 rising_order [] h = refl
 rising_order (n ∷ ns) h = ap (put_in_order nat_lt n) (rising_order ns h.1) ∙ before_all n ns h.0
 
-left_at : (P : ℕ → Type 0) (b : Bool) (n : ℕ) (ns : List ℕ) → P n → AllByRecursion P ns → AllByRecursion P (cond b (n ∷ ns) ns)
+left_at : {X : Type 0} (P : X → Type 0) (b : Bool) (n : X) (ns : List X) → P n → AllByRecursion P ns → AllByRecursion P (cond b (n ∷ ns) ns)
 left_at P true n ns good h = (good, h)
 left_at P false n ns good h = h
 
-all_left : (P : ℕ → Type 0) (test : ℕ → Bool) (ns : List ℕ) → AllByRecursion P ns → AllByRecursion P (filter test ns)
+pub all_left : {X : Type 0} (P : X → Type 0) (test : X → Bool) (ns : List X) → AllByRecursion P ns → AllByRecursion P (filter test ns)
 all_left P test [] h = tt
 all_left P test (n ∷ ns) h = left_at P (test n) n (filter test ns) h.0 (all_left P test ns h.1)
 
@@ -106,7 +106,7 @@ rising_at : (b : Bool) (n : ℕ) (ns : List ℕ) → AllByRecursion (λ m. n < m
 rising_at true n ns above h = (above, h)
 rising_at false n ns above h = h
 
-rising_left : (test : ℕ → Bool) (ns : List ℕ) → IsAscending ns → IsAscending (filter test ns)
+pub rising_left : (test : ℕ → Bool) (ns : List ℕ) → IsAscending ns → IsAscending (filter test ns)
 rising_left test [] h = tt
 rising_left test (n ∷ ns) h = rising_at (test n) n (filter test ns) (all_left (λ m. n < m) test ns h.0) (rising_left test ns h.1)
 

@@ -4,3 +4,4 @@ pub mod Permitting
 pub mod Moving
 pub mod Revoking
 pub mod Lending
+pub mod Running

@@ -12,6 +12,7 @@ mod renewing;
 mod reshelving;
 mod returning;
 mod revoking;
+mod running;
 mod seats;
 
 pub use cancelling::cancel;
@@ -24,4 +25,5 @@ pub use renewing::renew_ticket;
 pub use reshelving::reshelve;
 pub use returning::return_container;
 pub use revoking::revoke_permit;
+pub use running::fetch;
 pub use seats::{leave_seat, take_seat};

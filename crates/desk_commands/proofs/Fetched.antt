@@ -1,0 +1,272 @@
+-- What a run takes, by the rows of the desk and in the state: its lines, its containers and its number.
+use Rattle.std.proofs.Common.{◌≡◌, ℕ, zero, suc, ◌+◌, ◌<◌, ◌≤◌, ◌^◌, Bool, true, false, cond, ◌&&◌, ◌||◌, nat_eq, List, [], ◌∷◌, ◌++◌, length, map, filter, take, Option, Some, None, Ok, Err, inl, inr, refl, sym, ap, subst, ◌∙◌, arith}
+use Rattle.std.specs.Prelude.{filter_map, is_some, nat_le, nat_lt, option_map}
+use Rattle.std.specs.List.{AllByRecursion, IsDistinct, cons_option, list_all, list_any}
+use Rattle.std.specs.List.Sorted.{IsPermutation}
+use Rattle.std.proofs.Math.Path.{fun_ext}
+use Rattle.std.proofs.lemmas.Bool.{and_from, and_parts, cases_Bool, eqb-true, false≢true, ltb-true}
+use Rattle.std.proofs.lemmas.Bool.Decides.{nat_tests}
+use Rattle.std.proofs.lemmas.List.{append-nil, append_assoc, length-map, take-map}
+use Rattle.std.proofs.lemmas.List.Sorted.{IsPermutation-append_right, IsPermutation-map}
+use Rattle.catalogue_core.specs.Members.{StandsIn}
+use Rattle.isad_core.specs.Limits.{IsNumber, most_runs}
+use Rattle.desk_core.specs.DeskRows.{OrderRow, RunLineRow}
+use Rattle.desk_core.specs.Orders.{in_order}
+use Rattle.desk_core.proofs.OrderLemmas.{in_order-permutation}
+use Rattle.desk_store.specs.Holdings.{candidates_of, is_first, is_on_shelf}
+use Rattle.desk_store.specs.Runs.{IsNumbered, TakesEachOnce, line_of, next_run}
+use Rattle.desk_store.specs.declared.holdings.FirstOrder.{FirstOrder}
+use Rattle.office_core.specs.Laws.{numbers_from}
+use Rattle.office_core.specs.SoundDesk.{IsAscending}
+use Rattle.office_core.specs.SoundOffice.{IsSoundOffice}
+use Rattle.office_core.specs.State.{Line, Order, Run, State, brings, is_due, is_line_before, is_shelf, line_for, opens, picked}
+use Rattle.office_core.specs.State as state
+use Rattle.office_core.specs.Words.{first, is_empty, numbered, numbers_to, some_and, stands}
+use Rattle.office_core.proofs.Counts.{numbered_from_one}
+use Rattle.office_core.proofs.Filed.{picked_due}
+use Rattle.office_core.proofs.LineOrder.{any-in_order}
+use Rattle.office_core.proofs.Words.{numbered_within}
+use Rattle.office_rows.specs.DeskShown.{lines_from, order_row, order_rows, run_line_row, run_line_rows, run_row}
+use Rattle.office_rows.specs.Reading.{tables}
+use Rattle.office_rows.proofs.DeskLookups.{flipped}
+use Rattle.office_rows.proofs.Members.{all_of_in, in_filter, in_map}
+use Rattle.office_rows.proofs.NumberedRows.{in_rows, length-rows}
+use Rattle.tree_core.specs.Versions.{Version}
+use Rattle.desk_commands.specs.Running.{has_numbers, taken_by}
+use Rattle.desk_commands.proofs.MovedAll.{AreWithin, all_taken}
+use Rattle.desk_commands.proofs.Picked.{due_shown, is_open_for}
+use Rattle.desk_commands.proofs.Reshelved.{all_left, rising_left, rising_to}
+
+-- ---- the first of a list that pass
+
+-- of those that pass, the first that pass are the first
+pub enough : {X : Type 0} (test : X → Bool) (i : ℕ) (xs : List X) → take (length (filter test (take i xs))) (filter test xs) ≡ filter test (take i xs)
+enough test zero xs = refl
+enough test (suc i) [] = refl
+enough test (suc i) (x ∷ xs) = at (test x) (enough test i xs)
+  where
+    at : (b : Bool) → take (length (filter test (take i xs))) (filter test xs) ≡ filter test (take i xs)
+        → take (length (cond b (x ∷ filter test (take i xs)) (filter test (take i xs)))) (cond b (x ∷ filter test xs) (filter test xs)) ≡ cond b (x ∷ filter test (take i xs)) (filter test (take i xs))
+    at true rest = ap (λ l. x ∷ l) rest
+    at false rest = rest
+
+rising_taken : (k : ℕ) (ns : List ℕ) → IsAscending ns → IsAscending (take k ns)
+rising_taken zero ns h = tt
+rising_taken (suc k) [] h = tt
+rising_taken (suc k) (n ∷ ns) h = (all_taken (λ m. n < m) k ns h.0, rising_taken k ns h.1)
+
+none_mapped : {X Y : Type 0} (f : X → Y) (xs : List X) → is_empty (map f xs) ≡ is_empty xs
+none_mapped f [] = refl
+none_mapped f (x ∷ xs) = refl
+
+-- ---- the lines of runs
+
+-- an order that is taken, as a line of a run
+abbrev pub as_line : FirstOrder → Line
+as_line o = record { container = o.container; order = o.order; ticket = o.ticket }
+
+lines_more : (n : ℕ) (runs : List Run) (run : Run) → lines_from n (runs ++ run ∷ []) ≡ lines_from n runs ++ map (run_line_row (n + length runs)) run.lines
+lines_more n [] run = append-nil (map (run_line_row n) run.lines) ∙ ap (λ k. map (run_line_row k) run.lines) (let e : n ≡ n + 0 = omega arith in e)
+lines_more n (r ∷ runs) run =
+    ap (λ l. map (run_line_row n) r.lines ++ l) (lines_more (suc n) runs run ∙ ap (λ k. lines_from (suc n) runs ++ map (run_line_row k) run.lines) (let e : suc n + length runs ≡ n + suc (length runs) = omega arith in e))
+    ∙ sym (append_assoc (map (run_line_row n) r.lines) (lines_from (suc n) runs) (map (run_line_row (n + suc (length runs))) run.lines))
+
+-- the lines of the last run come last
+lines_end : (runs : List Run) (run : Run) → lines_from 1 (runs ++ run ∷ []) ≡ lines_from 1 runs ++ map (run_line_row (suc (length runs))) run.lines
+lines_end runs run = lines_more 1 runs run ∙ ap (λ k. lines_from 1 runs ++ map (run_line_row k) run.lines) (let e : 1 + length runs ≡ suc (length runs) = omega arith in e)
+
+line_rows : (n : ℕ) (os : List FirstOrder) → map (run_line_row n) (map as_line os) ≡ map (line_of n) os
+line_rows n [] = refl
+line_rows n (o ∷ os) = ap (λ l. line_of n o ∷ l) (line_rows n os)
+
+any_line : (c : ℕ) (os : List FirstOrder) → list_any (λ (line : Line). nat_eq line.container c) (map as_line os) ≡ stands c (map (λ (o : FirstOrder). o.container) os)
+any_line c [] = refl
+any_line c (o ∷ os) = ap (λ b. b || list_any (λ (line : Line). nat_eq line.container c) (map as_line os)) (flipped o.container c) ∙ ap (λ b. nat_eq c o.container || b) (any_line c os)
+
+-- ---- orders that were placed
+
+-- what is told of the order is so
+pub record IsPlaced (s : State) (o : FirstOrder) : Type 0 where
+  pub order : Order
+  pub there : numbered s.orders o.order ≡ Some order
+  pub container : order.container ≡ o.container
+  pub ticket : order.ticket ≡ o.ticket
+
+module _ (s : State) where
+  line_is : (o : FirstOrder) → IsPlaced s o → line_for s o.order ≡ Some (as_line o)
+  line_is o it =
+      ap (option_map (λ (order : Order). (let line : Line = record { container = order.container; order = o.order; ticket = order.ticket } in line))) it.there
+      ∙ ap (λ c. Some (let line : Line = record { container = c; order = o.order; ticket = it.order.ticket } in line)) it.container
+      ∙ ap (λ t. Some (let line : Line = record { container = o.container; order = o.order; ticket = t } in line)) it.ticket
+
+  lines_for : (os : List FirstOrder) → AllByRecursion (IsPlaced s) os → filter_map (line_for s) (map (λ (o : FirstOrder). o.order) os) ≡ map as_line os
+  lines_for [] h = refl
+  lines_for (o ∷ os) h =
+      ap (λ line. cons_option line (filter_map (line_for s) (map (λ (o : FirstOrder). o.order) os))) (line_is o h.0)
+      ∙ ap (λ l. as_line o ∷ l) (lines_for os h.1)
+
+  abbrev IsHead : FirstOrder → Type 0
+  IsHead o = some_and (nat_eq o.order) (first (s.queue o.container)) ≡ true
+
+  head_of : (o : FirstOrder) → IsPlaced s o → is_due s o.order ≡ true → IsHead o
+  head_of o it due =
+      let tests : (some_and (nat_eq o.order) (first (s.queue it.order.container)) && (is_shelf (s.place it.order.container) && opens s it.order.ticket it.order.container)) ≡ true =
+      sym (ap (some_and (λ (order : Order). some_and (nat_eq o.order) (first (s.queue order.container)) && (is_shelf (s.place order.container) && opens s order.ticket order.container))) it.there) ∙ due in
+      subst (λ c. some_and (nat_eq o.order) (first (s.queue c)) ≡ true) it.container (and_parts (some_and (nat_eq o.order) (first (s.queue it.order.container))) _ tests).0
+
+  one_head : (x : Option ℕ) (o p : ℕ) → some_and (nat_eq o) x ≡ true → some_and (nat_eq p) x ≡ true → o ≡ p
+  one_head None o p a b = absurd (false≢true a)
+  one_head (Some n) o p a b = eqb-true o n a ∙ sym (eqb-true p n b)
+
+  -- orders that come later are first for other containers
+  others : (o : FirstOrder) (os : List FirstOrder) → IsHead o → AllByRecursion (IsPlaced s) os → AllByRecursion (λ n. is_due s n ≡ true) (map (λ (o : FirstOrder). o.order) os)
+      → AllByRecursion (λ n. o.order < n) (map (λ (o : FirstOrder). o.order) os) → AllByRecursion (λ c. nat_eq o.container c ≡ false) (map (λ (o : FirstOrder). o.container) os)
+  others o [] head placed due later = tt
+  others o (x ∷ os) head placed due later = (apart, others o os head placed.1 due.1 later.1)
+    where
+      apart : nat_eq o.container x.container ≡ false
+      apart = elim (cases_Bool (nat_eq o.container x.container)) [
+        | inl same ↦
+            let e = eqb-true o.container x.container same in
+            let k = one_head (first (s.queue x.container)) o.order x.order (subst (λ c. some_and (nat_eq o.order) (first (s.queue c)) ≡ true) e head) (head_of x placed.0 due.0) in
+            let less = later.0 in
+            absurd (omega (arith, k, less))
+        | inr other ↦ other
+      ]
+
+  each_once : (os : List FirstOrder) → AllByRecursion (IsPlaced s) os → AllByRecursion (λ n. is_due s n ≡ true) (map (λ (o : FirstOrder). o.order) os)
+      → IsAscending (map (λ (o : FirstOrder). o.order) os) → IsDistinct nat_eq (map (λ (o : FirstOrder). o.container) os)
+  unfolding IsDistinct
+  each_once [] placed due rises = tt
+  each_once (o ∷ os) placed due rises = (others o os (head_of o placed.0 due.0) placed.1 due.1 rises.0, each_once os placed.1 due.1 rises.1)
+
+-- ---- what the next run takes
+
+module _ (version : Version) (s : State) where
+  candidate_placed : (o : FirstOrder) → StandsIn o (candidates_of (tables version s).desk) → IsPlaced s o
+  candidate_placed o k =
+      let as_first : OrderRow → FirstOrder = λ row. record { container = row.container; order = row.id; ticket = row.ticket } in
+      let test : OrderRow → Bool = λ row. is_first (tables version s).desk row && is_on_shelf (tables version s).desk row.container in
+      let i = in_map as_first (filter test (order_rows s)) o k in
+      let m = in_rows (order_row s) s.orders i.0 (in_filter test (order_rows s) i.0 i.1).0 in
+      subst (IsPlaced s) (sym (i.2 ∙ ap as_first m.3)) (record { order = m.1; there = m.2; container = refl; ticket = refl })
+
+  module _ (sound : IsSoundOffice s) where
+    pub taken_placed : AllByRecursion (IsPlaced s) (taken_by version s)
+    taken_placed =
+        all_taken (IsPlaced s) s.settings.run_size (filter (is_open_for version s sound) (candidates_of (tables version s).desk))
+        (all_left (IsPlaced s) (is_open_for version s sound) (candidates_of (tables version s).desk)
+        (all_of_in (IsPlaced s) (candidates_of (tables version s).desk) candidate_placed))
+
+    pub picked_are : picked s ≡ map (λ (o : FirstOrder). o.order) (taken_by version s)
+    picked_are =
+        ap (take s.settings.run_size) (due_shown version s sound)
+        ∙ take-map (λ (o : FirstOrder). o.order) s.settings.run_size (filter (is_open_for version s sound) (candidates_of (tables version s).desk))
+
+    pub as_many : length (picked s) ≡ length (taken_by version s)
+    as_many = ap length picked_are ∙ length-map (taken_by version s) (λ (o : FirstOrder). o.order)
+
+    pub none_taken : is_empty (picked s) ≡ is_empty (taken_by version s)
+    none_taken = ap is_empty picked_are ∙ none_mapped (λ (o : FirstOrder). o.order) (taken_by version s)
+
+    lines_are : (state.next_run s).lines ≡ in_order is_line_before (map as_line (taken_by version s))
+    lines_are = ap (λ os. in_order is_line_before (filter_map (line_for s) os)) picked_are ∙ ap (in_order is_line_before) (lines_for s (taken_by version s) taken_placed)
+
+    pub brought : (c : ℕ) → brings (state.next_run s) c ≡ stands c (map (λ (o : FirstOrder). o.container) (taken_by version s))
+    brought c =
+        ap (list_any (λ (line : Line). nat_eq line.container c)) lines_are
+        ∙ any-in_order is_line_before (λ (line : Line). nat_eq line.container c) (map as_line (taken_by version s))
+        ∙ any_line c (taken_by version s)
+
+    -- the rows of the lines, as they are put and as they stand in the run
+    pub same_lines : IsPermutation (run_line_rows s ++ map (line_of (suc (length s.runs))) (taken_by version s)) (lines_from 1 (s.runs ++ state.next_run s ∷ []))
+    same_lines =
+        let n = suc (length s.runs) in
+        subst (IsPermutation (run_line_rows s ++ map (line_of n) (taken_by version s))) (sym (lines_end s.runs (state.next_run s)))
+        (IsPermutation-append_right (run_line_rows s) (map (line_of n) (taken_by version s)) (map (run_line_row n) (state.next_run s).lines)
+        (subst (λ (l : List RunLineRow). IsPermutation l (map (run_line_row n) (state.next_run s).lines)) (line_rows n (taken_by version s))
+        (IsPermutation-map (run_line_row n) (map as_line (taken_by version s)) (state.next_run s).lines
+        (subst (IsPermutation (map as_line (taken_by version s))) (sym lines_are) (in_order-permutation is_line_before (map as_line (taken_by version s)))))))
+
+    pub taken_once : TakesEachOnce (taken_by version s)
+    taken_once = each_once s (taken_by version s) taken_placed
+        (subst (AllByRecursion (λ n. is_due s n ≡ true)) picked_are (picked_due s))
+        (subst IsAscending picked_are (rising_taken s.settings.run_size (filter (is_due s) (numbers_to (length s.orders))) (rising_left (is_due s) (numbers_to (length s.orders)) (rising_to (length s.orders)))))
+
+    in_house : (o : FirstOrder) → IsPlaced s o → (1 ≤ o.container) × (o.container ≤ length s.catalogue.containers)
+    in_house o it =
+        let known = (sound.sound.desk.orders.each o.order it.order it.there).container in
+        subst (λ c. (1 ≤ c) × (c ≤ length s.catalogue.containers)) it.container
+        (numbered_from_one s.catalogue.containers it.order.container known, numbered_within s.catalogue.containers it.order.container known)
+
+    all_in_house : (os : List FirstOrder) → AllByRecursion (IsPlaced s) os → AreWithin (length s.catalogue.containers) (map (λ (o : FirstOrder). o.container) os)
+    all_in_house [] h = tt
+    all_in_house (o ∷ os) h = (in_house o h.0, all_in_house os h.1)
+
+    pub taken_within : AreWithin (length s.catalogue.containers) (map (λ (o : FirstOrder). o.container) (taken_by version s))
+    taken_within = all_in_house (taken_by version s) taken_placed
+
+    small : (o : FirstOrder) → IsPlaced s o → IsNumbered o
+    small o it =
+        let lies = (in_house o it).1 in
+        let boxes = sound.sound.containers.few in
+        let number = numbered_within s.orders o.order (ap is_some it.there) in
+        let orders = sound.sound.desk.orders.few in
+        let known = numbered_within s.readers it.order.ticket (sound.sound.desk.orders.each o.order it.order it.there).ticket in
+        let same = it.ticket in
+        let readers = sound.sound.desk.readers.few in
+        (omega (arith, lies, boxes), omega (arith, number, orders), omega (arith, known, same, readers))
+
+    all_small : (os : List FirstOrder) → AllByRecursion (IsPlaced s) os → AllByRecursion IsNumbered os
+    all_small [] h = tt
+    all_small (o ∷ os) h = (small o h.0, all_small os h.1)
+
+    pub taken_small : AllByRecursion IsNumbered (taken_by version s)
+    taken_small = all_small (taken_by version s) taken_placed
+
+-- ---- whether the numbers are such as a table keeps
+
+below : (n : ℕ) → nat_lt n (2 ^ 63) ≡ true → IsNumber n
+below n h = ltb-true n (2 ^ 63) h
+
+numbers_if : (o : FirstOrder) → has_numbers o ≡ true → IsNumbered o
+numbers_if o h =
+    let last = and_parts (nat_lt o.container (2 ^ 63) && nat_lt o.order (2 ^ 63)) (nat_lt o.ticket (2 ^ 63)) h in
+    let both = and_parts (nat_lt o.container (2 ^ 63)) (nat_lt o.order (2 ^ 63)) last.0 in
+    (below o.container both.0, below o.order both.1, below o.ticket last.1)
+
+numbers_so : (o : FirstOrder) → IsNumbered o → has_numbers o ≡ true
+numbers_so o h = and_from (nat_lt o.container (2 ^ 63) && nat_lt o.order (2 ^ 63)) (nat_lt o.ticket (2 ^ 63)) (and_from (nat_lt o.container (2 ^ 63)) (nat_lt o.order (2 ^ 63)) (less o.container h.0) (less o.order h.1)) (less o.ticket h.2)
+  where
+    less : (n : ℕ) → IsNumber n → nat_lt n (2 ^ 63) ≡ true
+    less n h = grind (arith, nat_tests, h)
+
+pub all_numbered : (os : List FirstOrder) → list_all has_numbers os ≡ true → AllByRecursion IsNumbered os
+all_numbered [] h = tt
+all_numbered (o ∷ os) h = let both = and_parts (has_numbers o) (list_all has_numbers os) h in (numbers_if o both.0, all_numbered os both.1)
+
+pub numbered_all : (os : List FirstOrder) → AllByRecursion IsNumbered os → list_all has_numbers os ≡ true
+numbered_all [] h = refl
+numbered_all (o ∷ os) h = and_from (has_numbers o) (list_all has_numbers os) (numbers_so o h.0) (numbered_all os h.1)
+
+-- ---- the number of the next run
+
+next_as : (version : Version) (s : State) (b : Bool) → nat_le most_runs (length s.runs) ≡ b → next_run (tables version s).desk ≡ cond b None (Some (suc (length s.runs)))
+next_as version s b e = ap (λ n. cond (nat_lt n most_runs) (Some (suc n)) None) (length-rows run_row 1 s.runs) ∙ at b e
+  where
+    at : (b : Bool) → nat_le most_runs (length s.runs) ≡ b → cond (nat_lt (length s.runs) most_runs) (Some (suc (length s.runs))) None ≡ cond b None (Some (suc (length s.runs)))
+    at true e = let less : nat_lt (length s.runs) most_runs ≡ false = grind (arith, nat_tests, e) in rw less refl
+    at false e = let less : nat_lt (length s.runs) most_runs ≡ true = grind (arith, nat_tests, e) in rw less refl
+
+-- no number is left where there were as many runs as there may be
+pub none_left : (version : Version) (s : State) → None ≡ next_run (tables version s).desk → nat_le most_runs (length s.runs) ≡ true
+none_left version s is = elim (cases_Bool (nat_le most_runs (length s.runs))) [
+  | inl full ↦ full
+  | inr room ↦ absurd (let bad : None ≡ Some (suc (length s.runs)) = is ∙ next_as version s false room in cc)
+]
+
+pub one_left : (version : Version) (s : State) (n : ℕ) → Some n ≡ next_run (tables version s).desk → (nat_le most_runs (length s.runs) ≡ false) × (n ≡ suc (length s.runs))
+one_left version s n is = elim (cases_Bool (nat_le most_runs (length s.runs))) [
+  | inl full ↦ absurd (let bad : Some n ≡ None = is ∙ next_as version s true full in cc)
+  | inr room ↦ (room, (let e : Some n ≡ Some (suc (length s.runs)) = is ∙ next_as version s false room in cc))
+]
