@@ -1,12 +1,11 @@
 -- What a run takes, by the rows of the desk and in the state: its lines, its containers and its number.
-use Rattle.std.proofs.Common.{◌≡◌, ℕ, zero, suc, ◌+◌, ◌<◌, ◌≤◌, ◌^◌, Bool, true, false, cond, ◌&&◌, ◌||◌, nat_eq, List, [], ◌∷◌, ◌++◌, length, map, filter, take, Option, Some, None, Ok, Err, inl, inr, refl, sym, ap, subst, ◌∙◌, arith}
+use Rattle.std.proofs.Common.{◌≡◌, ℕ, zero, suc, ◌+◌, ◌<◌, ◌≤◌, ◌^◌, Bool, true, false, cond, ◌&&◌, ◌||◌, nat_eq, List, [], ◌∷◌, ◌++◌, length, map, filter, take, Option, Some, None, inl, inr, refl, sym, ap, subst, ◌∙◌, arith}
 use Rattle.std.specs.Prelude.{filter_map, is_some, nat_le, nat_lt, option_map}
 use Rattle.std.specs.List.{AllByRecursion, IsDistinct, cons_option, list_all, list_any}
 use Rattle.std.specs.List.Sorted.{IsPermutation}
-use Rattle.std.proofs.Math.Path.{fun_ext}
 use Rattle.std.proofs.lemmas.Bool.{and_from, and_parts, cases_Bool, eqb-true, false≢true, ltb-true}
 use Rattle.std.proofs.lemmas.Bool.Decides.{nat_tests}
-use Rattle.std.proofs.lemmas.List.{append-nil, append_assoc, length-map, take-map}
+use Rattle.std.proofs.lemmas.List.{append-nil, append_assoc, length-append, length-map, take-map}
 use Rattle.std.proofs.lemmas.List.Sorted.{IsPermutation-append_right, IsPermutation-map}
 use Rattle.catalogue_core.specs.Members.{StandsIn}
 use Rattle.isad_core.specs.Limits.{IsNumber, most_runs}
@@ -16,7 +15,6 @@ use Rattle.desk_core.proofs.OrderLemmas.{in_order-permutation}
 use Rattle.desk_store.specs.Holdings.{candidates_of, is_first, is_on_shelf}
 use Rattle.desk_store.specs.Runs.{IsNumbered, TakesEachOnce, line_of, next_run}
 use Rattle.desk_store.specs.declared.holdings.FirstOrder.{FirstOrder}
-use Rattle.office_core.specs.Laws.{numbers_from}
 use Rattle.office_core.specs.SoundDesk.{IsAscending}
 use Rattle.office_core.specs.SoundOffice.{IsSoundOffice}
 use Rattle.office_core.specs.State.{Line, Order, Run, State, brings, is_due, is_line_before, is_shelf, line_for, opens, picked}
@@ -49,6 +47,9 @@ enough test (suc i) (x ∷ xs) = at (test x) (enough test i xs)
         → take (length (cond b (x ∷ filter test (take i xs)) (filter test (take i xs)))) (cond b (x ∷ filter test xs) (filter test xs)) ≡ cond b (x ∷ filter test (take i xs)) (filter test (take i xs))
     at true rest = ap (λ l. x ∷ l) rest
     at false rest = rest
+
+pub one_more_fits : {X : Type 0} (xs ys : List X) (x : X) (most : ℕ) → ys ≡ xs ++ x ∷ [] → length xs < most → length ys ≤ most
+one_more_fits xs ys x most is room = let e = ap length is ∙ length-append xs (x ∷ []) in omega (arith, e, room)
 
 rising_taken : (k : ℕ) (ns : List ℕ) → IsAscending ns → IsAscending (take k ns)
 rising_taken zero ns h = tt

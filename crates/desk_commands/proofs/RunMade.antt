@@ -1,5 +1,5 @@
 -- A run that is made, in the rows of the desk.
-use Rattle.std.proofs.Common.{◌≡◌, ℕ, suc, ◌+◌, Bool, true, false, cond, nat_eq, List, [], ◌∷◌, ◌++◌, length, map, Option, Some, None, Ok, Err, refl, sym, ap, subst, ◌∙◌}
+use Rattle.std.proofs.Common.{◌≡◌, ℕ, suc, true, false, cond, nat_eq, List, [], ◌∷◌, ◌++◌, length, map, Option, Some, None, Ok, Err, refl, sym, ap, subst, ◌∙◌}
 use Rattle.std.specs.Prelude.{ℤ, nat_le}
 use Rattle.std.specs.List.{AllByRecursion}
 use Rattle.std.specs.List.Sorted.{IsPermutation}
@@ -25,12 +25,12 @@ use Rattle.desk_store.specs.declared.holdings.FirstOrder.{FirstOrder}
 use Rattle.office_core.specs.Rules.{fetched, refusal}
 use Rattle.office_core.specs.SoundOffice.{IsSoundOffice}
 use Rattle.office_core.specs.State.{State, next_run, picked}
-use Rattle.office_core.specs.Words.{is_empty, numbers_to, some_and, stands}
+use Rattle.office_core.specs.Words.{is_empty, numbers_to, some_and}
 use Rattle.office_core.specs.declared.command.Command.TheVariants as command
 use Rattle.office_core.specs.declared.done.Done.TheVariants as done
 use Rattle.office_core.proofs.Filed.{fetched_out}
 use Rattle.office_core.proofs.OrderLaws.{goes_same}
-use Rattle.office_rows.specs.DeskShown.{holding_rows, lines_from, order_rows, run_line_rows, run_row}
+use Rattle.office_rows.specs.DeskShown.{holding_rows, order_rows, run_line_rows, run_row}
 use Rattle.office_rows.specs.Reading.{tables}
 use Rattle.office_tables.specs.Schema as schema
 use Rattle.office_tables.specs.Step.{OnlyTouches}

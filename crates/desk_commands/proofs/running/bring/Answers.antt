@@ -1,13 +1,10 @@
-use Rattle.std.proofs.Common.{◌≡◌, ℕ, List, ◌∷◌, [], map, Some, None, Err, refl, sym, ap, subst, ◌∙◌}
-use Rattle.std.specs.Prelude.{ℤ}
+use Rattle.std.proofs.Common.{ℕ, List, ◌∷◌, [], refl, sym, subst, ◌∙◌}
 use Rattle.std.specs.List.{AllByRecursion}
 use Rattle.sqlite.specs.Held.{state}
 use Rattle.isad_core.specs.Limits.{IsNumber}
 use Rattle.desk_core.specs.declared.reader.Place.TheVariants.{Desk}
-use Rattle.desk_core.specs.declared.refusal.Refusal.TheVariants.{Full}
 use Rattle.desk_store.specs.Runs.{TakesEachOnce, next_run, with_run}
 use Rattle.desk_store.specs.Shows.{ShowsDesk}
-use Rattle.desk_store.specs.declared.holdings.FirstOrder.{FirstOrder}
 use Rattle.office_core.specs.declared.command.Command.TheVariants as command
 use Rattle.office_rows.specs.Reading.{tables}
 use Rattle.office_rows.proofs.LegibleRows.{desk_legible}

@@ -1,5 +1,5 @@
-use Rattle.std.proofs.Common.{◌≡◌, ◌≤◌, ◌+◌, true, false, cond, [], ◌∷◌, ◌++◌, length, filter, take, get_or, refl, sym, ap, subst, ◌∙◌, arith, length-append}
-use Rattle.std.specs.Prelude.{⊤, slice_index_or}
+use Rattle.std.proofs.Common.{◌≡◌, ◌≤◌, cond, [], ◌∷◌, ◌++◌, length, filter, take, get_or, sym, ap, subst, ◌∙◌, arith}
+use Rattle.std.specs.Prelude.{⊤}
 use Rattle.std.proofs.lemmas.List.{append-nil, take_all}
 use Rattle.std.proofs.lemmas.List.Elements.{filter_more}
 use Rattle.sqlite.specs.Held.{state}
@@ -11,7 +11,7 @@ use Rattle.office_tables.proofs.Calls.{early, looks_then, still}
 use Rattle.office_tables.specs.declared.fault.StoreFault.TheVariants.{Memory}
 use Rattle.shown_office.specs.Judging.{CanBeJudged, ShowsWhole}
 use Rattle.desk_commands.specs.Running.{due_of}
-use Rattle.desk_commands.proofs.Fetched.{enough}
+use Rattle.desk_commands.proofs.Fetched.{enough, one_more_fits}
 use Rattle.desk_commands.proofs.running.due.Goals.{then-branch+in_ok-push, else-branch}
 use Rattle.desk_commands.proofs.running.due.Goals as goal
 
@@ -57,9 +57,8 @@ loop-order-preserved g c =
       looks = looks_then a b d looks told.looks;
       few = elim c.if-branch.branch [
         | then-branch+in_ok-push w ↦
-            let more = ap (λ v. length v.items) w.due-is ∙ ap length w.in_ok-push.ensures.items ∙ length-append so_far (x ∷ []) in
             let room = c.if-len-most.false in
-            omega (arith, more, room, few)
+            one_more_fits so_far _ x c.args.most (ap (λ v. v.items) w.due-is ∙ w.in_ok-push.ensures.items) (omega (arith, room))
         | else-branch w ↦ let same = ap (λ v. length v.items) w.due-is in omega (arith, same, few)
       ];
       so_far = λ clean s judged it day.
