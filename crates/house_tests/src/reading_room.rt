@@ -64,7 +64,7 @@ fn add_boxed<S: Alter>(
 }
 
 /// Containers 1 to 3 in two strongrooms, and Ann, with ticket 1.
-fn furnished<S: Alter>(
+pub(crate) fn furnished<S: Alter>(
     alloc: Global,
     conn: &mut Connection<S>,
     text: &mut String,
