@@ -7,7 +7,7 @@ case "${1:-}" in
 desk) needs="isad_core desk_core anyhow" ;;
 forests) needs="tree_core" ;;
 tables) needs="isad_core tree_core catalogue_core office_tables catalogue_rows catalogue_store desk_store sqlite" ;;
-reading_room) needs="isad_core tree_core desk_core catalogue_core office_tables catalogue_rows catalogue_store desk_store sqlite" ;;
+reading_room) needs="isad_core tree_core desk_core catalogue_core office_tables catalogue_rows catalogue_store desk_checks desk_store sqlite" ;;
 *) echo "usage: bench/measure.sh desk|forests|tables|reading_room" >&2; exit 2 ;;
 esac
 copy=$(mktemp -d)
