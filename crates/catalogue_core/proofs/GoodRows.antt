@@ -5,7 +5,6 @@ use Rattle.std.specs.List.{list_any, list_all, AllByRecursion, cons_option}
 use Rattle.std.proofs.lemmas.Bool.{and_from, or_parts, ltb-false}
 use Rattle.isad_core.specs.Texts.{Bytes, is_blank_text}
 use Rattle.isad_core.specs.declared.element.Element.TheVariants as element
-use Rattle.isad_core.specs.declared.values.BoxKey.{BoxKey}
 use Rattle.atom_csv.specs.Columns.{columns}
 use Rattle.atom_csv.specs.Entries.{entries, filled, joined}
 use Rattle.atom_csv.specs.Fields.{Fields, is_empty, value}
@@ -19,6 +18,7 @@ use Rattle.atom_csv.specs.declared.file.File.{File}
 use Rattle.atom_csv.specs.declared.file.Row.{Row}
 use Rattle.atom_csv.proofs.ToldLemmas.{file_sound}
 use Rattle.catalogue_core.specs.GoodCatalogues.{is_good_text}
+use Rattle.catalogue_core.specs.GoodRows.{IsGoodRow}
 use Rattle.isad_core.specs.Limits.{most_bytes}
 use Rattle.catalogue_core.proofs.EachOf.{all_and}
 use Rattle.catalogue_core.proofs.FileRows.{read_from, tells, line_at, no_fault_cons}
@@ -93,15 +93,6 @@ short_rows bytes file e =
     subst (λ f. AllByRecursion IsShortRow f.rows) (sym r.is) (short_below r.header [] r.rest r.no_fault)
 
 -- ---- all of it
-
-pub record IsGoodRow (row : Row) : Type 0 where
-  pub legacy : is_blank_text row.legacy ≡ false
-  pub legacy_short : length row.legacy ≤ most_bytes
-  pub level_short : length row.values.level ≤ most_bytes
-  pub texts : list_all is_good_text row.values.texts ≡ true
-  pub texts_count : length row.values.texts ≡ 25
-  pub named : AllByRecursion (λ (b : BoxKey). is_blank_text b.name ≡ false) row.values.boxes
-  pub apart : distinct row.values.boxes ≡ row.values.boxes
 
 good_texts : (texts : List (Option Bytes)) → AllByRecursion (λ text. IfSome text IsThere) texts → list_all is_good_text texts ≡ true
 good_texts [] h = refl

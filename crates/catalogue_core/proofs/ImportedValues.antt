@@ -17,7 +17,7 @@ use Rattle.catalogue_core.specs.Sources.{is_source}
 use Rattle.isad_core.specs.Limits.{most_bytes}
 use Rattle.catalogue_core.specs.GoodCatalogues.{is_good_text, IsGoodUnit}
 use Rattle.catalogue_core.proofs.EachOf.{all_and, all_of_found}
-use Rattle.catalogue_core.proofs.GoodRows.{IsGoodRow}
+use Rattle.catalogue_core.specs.GoodRows.{IsGoodRow}
 use Rattle.catalogue_core.proofs.ImportedAgain.{box_itself, stands_box, still_stands}
 
 -- ---- containers that are known

@@ -1,6 +1,6 @@
 -- A good catalogue whose texts are UTF-8 is within the limits of the tables that keep it.
 use Rattle.std.proofs.Common.{◌≡◌, ◌+◌, ◌<◌, ◌≤◌, Bool, true, false, cond, [], ◌∷◌, length, Option, Some, None, sym, ap, subst, ◌∙◌, arith}
-use Rattle.std.specs.Prelude.{ℤ, IfSome, max, nat_eq}
+use Rattle.std.specs.Prelude.{ℤ, IfSome, max, nat_eq, ◌^◌}
 use Rattle.std.specs.List.{AllByRecursion}
 use Rattle.std.proofs.lemmas.List.{length-map}
 use Rattle.isad_core.specs.Days.{is_day_number}
@@ -46,13 +46,16 @@ some_day : (until : Option ℤ) → IsSomeDay until → IfSome until (λ day. is
 some_day None h = tt
 some_day (Some day) h = is_day_number-true day h
 
-pub kept : (c : Catalogue) → AreGoodUnits c → AreGoodContainers c → AllByRecursion (λ (u : Unit). IsSomeDay u.until) (nodes c.forest) → IsLegibleCatalogue c → IsKept c
-kept c g boxes days texts = record {
+pub kept_within : (c : Catalogue) → AreGoodUnits c → length c.containers < 2 ^ 62 → AllByRecursion (λ (u : Unit). IsSomeDay u.until) (nodes c.forest) → IsLegibleCatalogue c → IsKept c
+kept_within c g few days texts = record {
   places = bounded c g;
   units = all_and HasLegibleTexts (λ (u : Unit). IsSomeDay u.until) IsLegibleUnit (λ u t d. record { level = t.values.level; texts = t.values.texts; until = some_day u.until d }) (nodes c.forest) texts.units days;
   boxes = texts.containers;
-  few_boxes = let few = boxes.few in omega (arith, few);
+  few_boxes = few;
 }
+
+pub kept : (c : Catalogue) → AreGoodUnits c → AreGoodContainers c → AllByRecursion (λ (u : Unit). IsSomeDay u.until) (nodes c.forest) → IsLegibleCatalogue c → IsKept c
+kept c g boxes days texts = kept_within c g (let few = boxes.few in omega (arith, few)) days texts
 
 pub knows : (c : Catalogue) → AreGoodUnits c → distinct c.containers ≡ c.containers → KnowsItsContainers c
 knows c g apart = record { apart = apart; known = all_so (IsGoodUnit c.containers) _ (λ u h. h.known) (nodes c.forest) g.each }

@@ -6,7 +6,7 @@ use Rattle.isad_core.specs.Texts.{is_blank_text}
 use Rattle.isad_core.specs.declared.values.BoxKey.{BoxKey}
 use Rattle.atom_csv.specs.declared.file.Row.{Row}
 use Rattle.catalogue_core.proofs.EachOf.{all_append}
-use Rattle.catalogue_core.proofs.GoodRows.{IsGoodRow}
+use Rattle.catalogue_core.specs.GoodRows.{IsGoodRow}
 
 -- ---- containers
 

@@ -16,6 +16,7 @@ pub mod Aids
 pub mod Sources
 pub mod Intake
 pub mod GoodCatalogues
+pub mod GoodRows
 pub mod Members
 pub mod Published
 pub mod OneRule

@@ -1,12 +1,11 @@
 -- What the public is shown of units: the tops, the finding aid of a unit, and its page (ISAD(G) 2.1 to 2.4).
 use Rattle.std.specs.Prelude.{ℕ, ◌++◌, Bool, nat_eq, List, [], ◌∷◌, Option, Some, None, map, filter_map, cond}
 use Rattle.std.specs.List.{flat_map}
-use Rattle.std.specs.Fmt.{decimal}
 use Rattle.isad_core.specs.Texts.{Bytes}
 use Rattle.isad_core.specs.Codes.{code_of}
 use Rattle.isad_core.specs.Elements.{is_found_above}
 use Rattle.isad_core.specs.Values.{line_elements, text_of}
-use Rattle.isad_core.specs.Printed.{aid, head_line, line}
+use Rattle.isad_core.specs.Printed.{aid, numbered_line}
 use Rattle.isad_core.specs.declared.element.Element.{Element}
 use Rattle.isad_core.specs.declared.shown.Page.{Page}
 use Rattle.isad_core.specs.declared.shown.Shown.{Shown}
@@ -40,7 +39,7 @@ side_by_side press above (Node unit children others) =
 
 -- the tops, a line for each
 abbrev pub tops_text : List (ℕ × Shown) → Bytes
-tops_text tops = flat_map (λ (top : ℕ × Shown). line (decimal top.0 ++ 32 ∷ head_line top.1)) tops
+tops_text = flat_map numbered_line
 
 abbrev pub fonds_text : Press → Forest PublicUnit → Bytes
 fonds_text press f = tops_text (side_by_side press [] f)

@@ -78,3 +78,8 @@ unit_below u = line (indent 1 ++ codes "Unit " ++ decimal u.0 ++ codes ": " ++ h
 abbrev pub page : Page → Bytes
 page p = line (head_line p.head) ++ flat_map found_element p.lines
     ++ flat_map found_container p.boxes ++ flat_map unit_below p.below
+
+-- ---- a list of units, each with its number
+
+abbrev pub numbered_line : ℕ × Shown → Bytes
+numbered_line u = line (decimal u.0 ++ 32 ∷ head_line u.1)

@@ -1,8 +1,8 @@
-//! Pages of one unit.
-ghost use Rattle.std.specs.Prelude.{◌≡◌, ◌++◌, IfOk, OnOk, codes, decimal};
+//! Pages of one unit, and lists of units.
+ghost use Rattle.std.specs.Prelude.{◌≡◌, ◌++◌, ◌∷◌, IfOk, OnOk, codes, decimal};
 ghost use Rattle.std.specs.List.{flat_map};
 ghost use Rattle.isad_core.specs.Printed.{container_text, head_line, indent, line, origin, page};
-ghost use Rattle.isad_core.specs.Printed.{found_container, found_element, unit_below};
+ghost use Rattle.isad_core.specs.Printed.{found_container, found_element, numbered_line, unit_below};
 
 use crate::element::Element;
 use crate::print::{
@@ -88,6 +88,27 @@ fn push_unit(out: &mut Vec<u8>, number: u64, unit: &Shown) -> Result<(), AllocEr
     push(out, "Unit ")?;
     push_number(out, number)?;
     push(out, ": ")?;
+    push_head_line(out, unit)?;
+    end_line(out)
+}
+
+/// A list of units: the number and the head line of each.
+pub fn list_text(alloc: Global, units: &[(u64, Shown)]) -> Result<Vec<u8>, AllocError>
+    ensures { IfOk result (λ text. text.items ≡ flat_map numbered_line units.now) }
+{
+    let mut out = Vec::new(alloc);
+    for (number, unit) in units {
+        push_numbered(&mut out, *number, unit)?;
+    }
+    Ok(out)
+}
+
+/// The line of a unit in a list.
+fn push_numbered(out: &mut Vec<u8>, number: u64, unit: &Shown) -> Result<(), AllocError>
+    ensures { OnOk result (out.new.items ≡ out.old.items ++ line (decimal number ++ 32 ∷ head_line unit.now)) }
+{
+    push_number(out, number)?;
+    push(out, " ")?;
     push_head_line(out, unit)?;
     end_line(out)
 }

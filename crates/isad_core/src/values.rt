@@ -31,7 +31,7 @@ pub struct Values {
 
 /// The elements that have a line of their own, in the standard's order: code, title and level stand
 /// in the head line.
-const LINE_ELEMENTS: [Element; 23] = [
+pub const LINE_ELEMENTS: [Element; 23] = [
     Element::Dates,
     Element::Extent,
     Element::Creator,

@@ -25,7 +25,8 @@ use Rattle.office_core.specs.Imported.{HasGoodCatalogue, ImportsKeepTheCatalogue
 use Rattle.office_core.proofs.Steps.{Passes, held_so, held_not, step_at}
 use Rattle.catalogue_core.proofs.EachOf.{all_and, all_append, all_distinct, all_filtered}
 use Rattle.catalogue_core.proofs.DistinctLists.{all_so}
-use Rattle.catalogue_core.proofs.GoodRows.{IsGoodRow, good_rows}
+use Rattle.catalogue_core.specs.GoodRows.{IsGoodRow}
+use Rattle.catalogue_core.proofs.GoodRows.{good_rows}
 use Rattle.catalogue_core.proofs.FileRows.{apart_rows}
 use Rattle.catalogue_core.proofs.Imported.{new_rows, IsTaken, taken_is}
 use Rattle.catalogue_core.proofs.Rooted.{revised_id}

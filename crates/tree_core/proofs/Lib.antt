@@ -26,3 +26,4 @@ pub mod Climbing
 pub mod Orders
 pub mod Sharing
 pub mod MarkRows
+pub mod TopsLemmas

@@ -11,4 +11,5 @@ pub mod SpanFaults
 pub mod LinkFaults
 pub mod Steps
 pub mod Versions
+pub mod Tops
 pub mod Members
