@@ -212,3 +212,48 @@ module _ (old new : State) (unit_id : ℕ) (v : Version) (has : old.now.schema �
       (λ (x : ℤ × ElementRow). nat_eq unit_id x.1.unit) (λ x. only (same_number x.1.unit unit_id)) (λ x. cells (told_of x)) (λ (x : ℤ × ElementRow). Int (pos x.1.unit) ∷ Int (pos x.1.k) ∷ []) (λ _. refl)
       (λ x y. by_element x.1 y.1) (λ _. refl) (λ x y. by_two_ints (pos x.1.unit) (pos y.1.unit) (pos x.1.k) (pos y.1.k)) cells items told_of (λ _. refl) (λ (e : Element). IsUtf8 e.value) refl free
       (all_numbered element_row (old.now.trees element.tree) xs at (λ (e : ElementRow). IsUtf8 e.value) legible) r
+
+-- ---- one text of a unit
+
+abbrev pub one_text : List ℕ
+one_text = codes "SELECT value FROM element WHERE unit = ?1 AND k = ?2 ORDER BY unit, k"
+
+abbrev that_element : List Term
+that_element = op2 (Compare Eq Binary) (col 1 1) (col 0 0) ∷ op2 (Compare Eq Binary) (col 1 2) (col 0 1) ∷ []
+
+abbrev one_names : List (List ℕ)
+one_names = codes "value" ∷ []
+
+abbrev pub one_command : Command
+one_command = Select (asking element that_element (col 1 3 ∷ []) by_unit) one_names
+
+pub one_means : (v : Version) → Means v one_text 2 one_command
+unfolding understood everything
+one_means Links = record { is = refl; plain = (refl, refl); whole = (le_refl _, refl, refl); unlisted = refl }
+one_means Spans = record { is = refl; plain = (refl, refl); whole = (le_refl _, refl, refl); unlisted = refl }
+
+abbrev text_cells : Bytes → Row
+text_cells t = Text t ∷ []
+
+abbrev value_of : ℤ × ElementRow → Bytes
+value_of x = x.1.value
+
+module _ (old new : State) (unit_id k : ℕ) (v : Version) (has : old.now.schema ≡ schema v) (xs : List ElementRow) (at : HoldsNumbered element element_row old xs) {X : Type 0} (items : X → List Bytes) (r : Result X StoreFault) where
+  pub one_found : IfOk r (λ found. Finds text_cells one_text (Int (pos unit_id) ∷ Int (pos k) ∷ []) old new (items found))
+      → IfOk r (λ found. (ys : List ElementRow) × IsOrdered by_element (filter (λ (e : ElementRow). nat_eq unit_id e.unit && nat_eq k e.k) xs) ys × (items found ≡ map (λ (e : ElementRow). e.value) ys))
+  one_found finds =
+      IfOk-weaker r _ _ (λ found it. (
+        map (λ x. x.1) it.0,
+        kept_ordered element_row by_element (old.now.trees element.tree) xs at (λ (e : ElementRow). nat_eq unit_id e.unit && nat_eq k e.k) it.0 it.1,
+        it.2 ∙ sym (map-map (λ (e : ElementRow). e.value) (λ (x : ℤ × ElementRow). x.1) it.0),
+      ))
+      (select_finds v element one_text that_element (col 1 3 ∷ []) by_unit one_names (Int (pos unit_id) ∷ Int (pos k) ∷ []) (one_means v) old new has element_row at.numbered at.are
+      (λ (x : ℤ × ElementRow). nat_eq unit_id x.1.unit && nat_eq k x.1.k) (λ x. both (same_number x.1.unit unit_id) (same_number x.1.k k)) (λ x. text_cells (value_of x)) (λ (x : ℤ × ElementRow). Int (pos x.1.unit) ∷ Int (pos x.1.k) ∷ []) (λ _. refl)
+      (λ x y. by_element x.1 y.1) (λ _. refl) (λ x y. by_two_ints (pos x.1.unit) (pos y.1.unit) (pos x.1.k) (pos y.1.k)) text_cells items value_of (λ _. refl) r finds)
+
+  pub one_faults : AllByRecursion (λ (e : ElementRow). IsUtf8 e.value) xs → IsUnlimited old → IfErr r (Misses text_cells IsUtf8 one_text (Int (pos unit_id) ∷ Int (pos k) ∷ []) old new) → IfErr r (HasCause old new)
+  one_faults legible free =
+      select_faults v element one_text that_element (col 1 3 ∷ []) by_unit one_names (Int (pos unit_id) ∷ Int (pos k) ∷ []) (one_means v) old new has element_row at.numbered at.are
+      (λ (x : ℤ × ElementRow). nat_eq unit_id x.1.unit && nat_eq k x.1.k) (λ x. both (same_number x.1.unit unit_id) (same_number x.1.k k)) (λ x. text_cells (value_of x)) (λ (x : ℤ × ElementRow). Int (pos x.1.unit) ∷ Int (pos x.1.k) ∷ []) (λ _. refl)
+      (λ x y. by_element x.1 y.1) (λ _. refl) (λ x y. by_two_ints (pos x.1.unit) (pos y.1.unit) (pos x.1.k) (pos y.1.k)) text_cells items value_of (λ _. refl) IsUtf8 refl free
+      (all_numbered element_row (old.now.trees element.tree) xs at (λ (e : ElementRow). IsUtf8 e.value) legible) r

@@ -30,3 +30,4 @@ pub mod LinkQueries
 pub mod InsertFaults
 pub mod UnitFaults
 pub mod Untold
+pub mod OneText

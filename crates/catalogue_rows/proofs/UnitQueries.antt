@@ -129,6 +129,23 @@ unfolding understood everything
 level_means Links = record { is = refl; plain = (refl, refl); whole = (le_refl _, refl, refl); unlisted = refl }
 level_means Spans = record { is = refl; plain = (refl, refl); whole = (le_refl _, refl, refl); unlisted = refl }
 
+abbrev pub standing_text : List ℕ
+standing_text = codes "SELECT level, draft, until FROM unit WHERE id = ?1 ORDER BY id"
+
+abbrev pub standing_columns : List Term
+standing_columns = col 1 4 ∷ col 1 5 ∷ col 1 6 ∷ []
+
+abbrev pub standing_names : List (List ℕ)
+standing_names = codes "level" ∷ codes "draft" ∷ codes "until" ∷ []
+
+abbrev pub standing_command : Command
+standing_command = Select (asking unit with_its_number standing_columns in_order) standing_names
+
+pub standing_means : (v : Version) → Means v standing_text 1 standing_command
+unfolding understood everything
+standing_means Links = record { is = refl; plain = (refl, refl); whole = (le_refl _, refl, refl); unlisted = refl }
+standing_means Spans = record { is = refl; plain = (refl, refl); whole = (le_refl _, refl, refl); unlisted = refl }
+
 -- a day fits the type of a day's number
 day_fits : (day : ℤ) → is_day_number day ≡ true → SFits w32 day
 day_fits day h = grind (arith, ints, h)

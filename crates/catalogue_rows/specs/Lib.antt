@@ -5,3 +5,4 @@ pub mod Removals
 pub mod Adding
 pub mod Settings
 pub mod Values
+pub mod Standings

@@ -1,6 +1,7 @@
 //! What the rows of the catalogue's tables tell, read one by one.
 
-ghost use Rattle.std.specs.Prelude.{◌<◌, pos, [], ◌∷◌};
+ghost use Rattle.std.specs.Prelude.{◌≡◌, ◌<◌, pos, [], ◌∷◌, true, IfSome, IfOk, IsOk};
+ghost use Rattle.isad_core.specs.Days.{is_day_number};
 ghost use Rattle.sqlite.specs.declared.types.Value.TheVariants.{Int};
 
 use crate::office::OfficeRow;
@@ -32,6 +33,49 @@ impl FromRow for Status {
         Ok(Status {
             draft: row.get(0)?,
             until: row.get(1)?,
+        })
+    }
+}
+
+/// What a unit's row tells of it: its level, whether it is a draft, and the day on which its
+/// closure ends.
+#[derive(Drop)]
+pub struct Standing {
+    pub level: Text,
+    pub draft: bool,
+    pub until: Option<Day>,
+}
+
+/// The day of this number, where there is a number.
+fn day_of(number: Option<i32>) -> Result<Option<Day>, StoreFault>
+    ensures value { IfOk result (λ day. day ≡ number) }
+    ensures days { IfSome number (λ n. is_day_number n ≡ true) → IsOk result }
+{
+    let Some(number) = number else {
+        return Ok(None);
+    };
+    match Day::from_number(number) {
+        Some(day) => Ok(Some(day)),
+        None => Err(StoreFault::Schema),
+    }
+}
+
+impl FromRow for Standing {
+    ghost use Rattle.std.specs.Prelude.{[], ◌∷◌, ◌≡◌, true, IfSome, IsUtf8};
+    ghost use Rattle.isad_core.specs.Days.{is_day_number};
+    ghost use Rattle.office_tables.specs.Flags.{flag};
+    ghost use Rattle.sqlite.specs.Values.{or_null};
+    ghost use Rattle.sqlite.specs.declared.types.Value.TheVariants.{Int, Text as words_cell};
+
+    ghost cells = { λ s. words_cell s.level ∷ Int (flag s.draft) ∷ or_null Int s.until ∷ [] };
+
+    ghost is_legible = { λ s. IsUtf8 s.level × IfSome s.until (λ day. is_day_number day ≡ true) };
+
+    fn read(row: &Row) -> Result<Standing, StoreFault> {
+        Ok(Standing {
+            level: Text(row.get(0)?),
+            draft: row.get(1)?,
+            until: day_of(row.get(2)?)?,
         })
     }
 }

@@ -16,3 +16,4 @@ pub mod ValueCauses
 pub mod WorkedLemmas
 pub mod UnitTold
 pub mod UnitsThere
+pub mod HeadForests

@@ -3,6 +3,7 @@ pub mod Attaching
 pub mod Valuing
 pub mod Removing
 pub mod Offices
+pub mod Heads
 pub use Rattle.catalogue_core.specs.Units
 pub use Rattle.catalogue_core.specs.Merging
 pub use Rattle.catalogue_core.specs.Publishing

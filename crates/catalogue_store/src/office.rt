@@ -89,3 +89,19 @@ pub fn office_row<P: Places, S: Alter>(
         containers: only_number(&containers)?,
     })
 }
+
+/// The settings, the day and the next unit number. Nothing is counted.
+pub fn settings<P: Places, S: Alter>(
+    alloc: Global,
+    conn: &mut Connection<S>,
+) -> Result<OfficeRow, StoreFault>
+    requires inside { InTransaction P.version (state S.Store conn.old) }
+    ensures tells { Tells S.Store (ShowsSettings P.shows P.version) AreLegibleSettings conn.old conn.new result (λ _. ⊤)
+        (λ _ o row. row ≡ o) }
+{
+    let mut rows = office_rows(alloc, conn)?;
+    let Some(row) = rows.pop() else {
+        return Err(StoreFault::Schema);
+    };
+    Ok(row)
+}

@@ -1,0 +1,128 @@
+use Rattle.std.proofs.Common.{◌≡◌, filter, length, refl, sym, ap, subst, ◌∙◌, arith}
+use Rattle.std.specs.Prelude.{⊤, find, option_map}
+use Rattle.std.specs.List.Sorted.{IsPermutation}
+use Rattle.std.proofs.lemmas.List.{length-map}
+use Rattle.std.proofs.lemmas.List.Sorted.{IsPermutation-refl}
+use Rattle.sqlite.specs.Effect.{Database}
+use Rattle.sqlite.specs.Held.{state}
+use Rattle.sqlite_rules.proofs.ListLemmas.{all_has}
+use Rattle.tree_core.specs.Forest.{nodes}
+use Rattle.catalogue_core.specs.Bounds.{IsKept}
+use Rattle.catalogue_core.specs.Units.{Unit, has_id}
+use Rattle.office_tables.specs.Schema as tables
+use Rattle.catalogue_rows.specs.Rows.{element_row}
+use Rattle.catalogue_rows.specs.Shows.{Shows, element_cells, elements_of}
+use Rattle.catalogue_rows.specs.Standings.{standing_of}
+use Rattle.catalogue_store.specs.Heads.{head_of}
+use Rattle.office_tables.proofs.CallEnds.{same_fault, tells_not, tells_cut}
+use Rattle.office_tables.proofs.Calls.{early, goes_then, looks_then, office_of, still_office}
+use Rattle.office_tables.proofs.numbered.OwnNumbers.{still_numbered}
+use Rattle.catalogue_rows.proofs.FoundUnits.{none_found, one_told}
+use Rattle.catalogue_store.proofs.HeadForests.{head_told}
+use Rattle.catalogue_store.proofs.MarkCauses.{legible_units}
+use Rattle.catalogue_store.proofs.ValueCauses.{legible_elements}
+use Rattle.catalogue_store.proofs.heads.find_head.Goals as goal
+
+pub standings_of-requires-clause-inside : goal.standings_of-requires-clause-inside
+standings_of-requires-clause-inside g c = office_of g.P.Places.version (state g.S.Store c.args.conn.now) c.requires.inside
+
+pub returns-in_err-found : goal.returns-in_err-found
+returns-in_err-found g c =
+    let a = state g.S.Store c.args.conn.now in
+    let handed = c.from_residual.ensures in
+    let e = c.in_err-found.field-0.0 in
+    record {
+      tells = tells_not g.S.Store (Shows g.P.Places.shows g.P.Places.version) IsKept (λ _. ⊤) c.args.conn.now c.standings_of.new.conn c.from_residual.result (λ _ k head. head ≡ option_map head_of (find (has_id c.args.unit) (nodes k.forest))) e
+          (same_fault c.from_residual.result e handed.0 handed.1) c.in_err-found.ensures.reads.cut
+          (λ o k it may kept clean free. let at = it.catalogue.units in c.in_err-found.ensures.faults at.units at.rows (legible_units a.now.trees k at kept) clean free);
+    }
+
+pub returns-in_default : goal.returns-in_default
+returns-in_default g c =
+    let a = state g.S.Store c.args.conn.now in
+    record {
+      tells = record {
+        answers = λ clean o k it.
+            let at = it.catalogue.units in
+            let rows = filter (has_id c.args.unit) at.units in
+            let got = c.in_ok-found.ensures.rows clean at.units at.rows at.rise in
+            let few : length rows ≡ 0 = omega (arith, c.in_default.ensures.cases.0, c.in_ok-found.found.ok.0, ap length got, length-map rows standing_of) in
+            sym (ap (option_map head_of) (none_found a.now.trees k.forest at c.args.unit rows (IsPermutation-refl rows) few));
+        looks = c.in_ok-found.ensures.reads.looks;
+        cut = tt;
+        faults = λ o k it may kept clean free. tt;
+      };
+    }
+
+pub text_of-requires-clause-inside : goal.text_of-requires-clause-inside
+text_of-requires-clause-inside g c =
+    let a = state g.S.Store c.args.conn.now in
+    let b = state g.S.Store c.standings_of.new.conn in
+    still_office a b (office_of g.P.Places.version a c.requires.inside) c.in_ok-found.ensures.reads.looks.goes
+
+pub returns-in_err-identifier : goal.returns-in_err-identifier
+returns-in_err-identifier g c =
+    let a = state g.S.Store c.args.conn.now in
+    let handed = c.from_residual-in_err-identifier.ensures in
+    let e = c.in_err-identifier.field-0.0 in
+    let looked = c.in_ok-found.ensures.reads.looks in
+    record {
+      tells = tells_cut g.S.Store (Shows g.P.Places.shows g.P.Places.version) IsKept (λ _. ⊤) c.args.conn.now c.standings_of.new.conn c.text_of.new.conn c.from_residual-in_err-identifier.result (λ _ k head. head ≡ option_map head_of (find (has_id c.args.unit) (nodes k.forest))) e
+          (same_fault c.from_residual-in_err-identifier.result e handed.0 handed.1) looked c.in_err-identifier.ensures.reads.cut
+          (λ o k it may kept at_b clean free.
+          let at = it.catalogue.elements in
+          c.in_err-identifier.ensures.faults at.elements (still_numbered element_row _ _ at.elements (ap (λ (db : Database). db.trees tables.element.tree) (looked.same at_b)) at.rows) (legible_elements a.now.trees k.forest at kept.units) clean free);
+    }
+
+pub text_of-requires-2-clause-inside : goal.text_of-requires-2-clause-inside
+text_of-requires-2-clause-inside g c =
+    let a = state g.S.Store c.args.conn.now in
+    let b = state g.S.Store c.standings_of.new.conn in
+    let d = state g.S.Store c.text_of.new.conn in
+    still_office a d (office_of g.P.Places.version a c.requires.inside) (goes_then a b d c.in_ok-found.ensures.reads.looks.goes c.in_ok-identifier.ensures.reads.looks.goes)
+
+pub returns-in_err-title : goal.returns-in_err-title
+returns-in_err-title g c =
+    let a = state g.S.Store c.args.conn.now in
+    let b = state g.S.Store c.standings_of.new.conn in
+    let d = state g.S.Store c.text_of.new.conn in
+    let handed = c.from_residual-in_err-title.ensures in
+    let e = c.in_err-title.field-0.0 in
+    let looked = looks_then a b d c.in_ok-found.ensures.reads.looks c.in_ok-identifier.ensures.reads.looks in
+    record {
+      tells = tells_cut g.S.Store (Shows g.P.Places.shows g.P.Places.version) IsKept (λ _. ⊤) c.args.conn.now c.text_of.new.conn c.text_of-2.new.conn c.from_residual-in_err-title.result (λ _ k head. head ≡ option_map head_of (find (has_id c.args.unit) (nodes k.forest))) e
+          (same_fault c.from_residual-in_err-title.result e handed.0 handed.1) looked c.in_err-title.ensures.reads.cut
+          (λ o k it may kept at_d clean free.
+          let at = it.catalogue.elements in
+          c.in_err-title.ensures.faults at.elements (still_numbered element_row _ _ at.elements (ap (λ (db : Database). db.trees tables.element.tree) (looked.same at_d)) at.rows) (legible_elements a.now.trees k.forest at kept.units) clean free);
+    }
+
+pub returns : goal.returns
+returns g c =
+    let a = state g.S.Store c.args.conn.now in
+    let b = state g.S.Store c.standings_of.new.conn in
+    let d = state g.S.Store c.text_of.new.conn in
+    let e = state g.S.Store c.text_of-2.new.conn in
+    let looked_b = c.in_ok-found.ensures.reads.looks in
+    let looked_d = looks_then a b d looked_b c.in_ok-identifier.ensures.reads.looks in
+    record {
+      tells = record {
+        answers = λ clean o k it.
+            let at = it.catalogue.units in
+            let texts = it.catalogue.elements in
+            let at_d = early d e _ c.in_ok-title.ensures.reads.looks.goes.on.crash clean in
+            let at_b = early b d _ c.in_ok-identifier.ensures.reads.looks.goes.on.crash at_d in
+            let rows = filter (has_id c.args.unit) at.units in
+            let got = c.in_ok-found.ensures.rows at_b at.units at.rows at.rise in
+            let found = one_told a.now.trees k.forest at c.args.unit rows (IsPermutation-refl rows) standing_of c.pop.new.self.items c.in-Some.standing (sym got ∙ c.in-Some.ensures.items) in
+            let u = found.0 in
+            let told = subst (λ n. IsPermutation (element_cells u.values) (elements_of n texts.elements)) (sym found.2)
+            (all_has (λ (u : Unit). IsPermutation (element_cells u.values) (elements_of u.id texts.elements)) (nodes k.forest) u texts.are found.1) in
+            let identifier = c.in_ok-identifier.ensures.text at_d u.values texts.elements (still_numbered element_row _ _ texts.elements (ap (λ (db : Database). db.trees tables.element.tree) (looked_b.same at_b)) texts.rows) told 0 refl in
+            let title = c.in_ok-title.ensures.text clean u.values texts.elements (still_numbered element_row _ _ texts.elements (ap (λ (db : Database). db.trees tables.element.tree) (looked_d.same at_d)) texts.rows) told 1 refl in
+            head_told k.forest c.args.unit u c.in-Some.standing c.in_ok-identifier.identifier c.in_ok-title.title found.2 found.3 found.4 identifier title;
+        looks = looks_then a d e looked_d c.in_ok-title.ensures.reads.looks;
+        cut = tt;
+        faults = λ o k it may kept clean free. tt;
+      };
+    }

@@ -1,0 +1,21 @@
+-- What a unit is shown by in a line of its own (ISAD(G) 3.1: its identity).
+use Rattle.std.specs.Prelude.{ℕ, find, Option, option_map}
+use Rattle.isad_core.specs.Values.{identifier, title}
+use Rattle.tree_core.specs.Forest.{Forest, nodes}
+use Rattle.catalogue_core.specs.Units.{Unit, has_id}
+use Rattle.catalogue_store.specs.declared.heads.Head.{Head}
+
+-- the level, the identifier and the title of a unit, and who may see it
+abbrev pub head_of : Unit → Head
+head_of u = record {
+  id = u.id;
+  level = u.values.level;
+  identifier = identifier u.values;
+  title = title u.values;
+  draft = u.draft;
+  until = u.until;
+}
+
+-- that of the unit with this number, where there is one
+abbrev pub head_at : Forest Unit → ℕ → Option Head
+head_at f unit = option_map head_of (find (has_id unit) (nodes f))
