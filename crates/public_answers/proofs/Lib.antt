@@ -1,0 +1,16 @@
+pub mod MoreItems
+pub mod HeadLineLemmas
+pub mod CodedWays
+pub mod PageLineLemmas
+pub mod Standing
+pub mod AidAnswers
+pub mod AidCalls
+pub mod AidPrinted
+pub mod AidUnits
+pub mod Knowings
+pub mod FoundUnits
+pub mod HeadsPrinted
+pub mod FondsPrinted
+pub mod PagePrinted
+pub mod PageAnswers
+pub mod LaterKnowing
