@@ -1,0 +1,124 @@
+-- The path of the unit that a source has under a number.
+use Rattle.std.proofs.Common.{◌≡◌, ℕ, suc, ◌+◌, Bool, true, false, not, cond, ◌&&◌, ◌||◌, List, [], ◌∷◌, length, map, Option, Some, None, refl, sym, ap, ap₂, subst, ◌∙◌, inl, inr, nat_eq, arith}
+use Rattle.std.specs.Prelude.{find, is_some}
+use Rattle.std.specs.List.{AllByRecursion, list_any}
+use Rattle.std.proofs.lemmas.Bool.{and_parts, eqb-true, false≢true, ne_eqb, or_cases, or_parts}
+use Rattle.isad_core.specs.Texts.{Bytes}
+use Rattle.tree_core.specs.Forest.{Forest, Empty, Node, each, has, nodes, path}
+use Rattle.tree_core.proofs.EachLemmas.{path-each}
+use Rattle.catalogue_core.specs.Finding.{Finds, has_unit}
+use Rattle.catalogue_core.specs.GoodCatalogues.{AreGoodUnits}
+use Rattle.catalogue_core.specs.Merging.{Catalogue, depth_under}
+use Rattle.catalogue_core.specs.Units.{Unit, has_id, is_from}
+use Rattle.catalogue_core.proofs.EachOf.{all_split, none_found}
+use Rattle.catalogue_core.proofs.EachRow.{found_numbers}
+use Rattle.catalogue_core.proofs.Rooted.{has_node}
+
+-- ---- paths
+
+-- two tests that agree on each unit find one path
+same_any : (p q : Unit → Bool) (us : List Unit) → AllByRecursion (λ (u : Unit). p u ≡ q u) us → list_any p us ≡ list_any q us
+same_any p q [] h = refl
+same_any p q (u ∷ us) h = ap₂ (λ (a b : Bool). a || b) h.0 (same_any p q us h.1)
+
+pub same_path : (p q : Unit → Bool) (f : Forest Unit) → AllByRecursion (λ (u : Unit). p u ≡ q u) (nodes f) → path p f ≡ path q f
+same_path p q Empty h = refl
+same_path p q (Node u c o) h =
+    let parts = all_split (λ (u : Unit). p u ≡ q u) (nodes c) (nodes o) h.1 in
+    ap (λ (b : Bool). cond b (u ∷ []) (cond (has p c) (u ∷ path p c) (path p o))) h.0
+    ∙ (ap (λ (b : Bool). cond (q u) (u ∷ []) (cond b (u ∷ path p c) (path p o))) (same_any p q (nodes c) parts.0)
+    ∙ ap₂ (λ (x y : List Unit). cond (q u) (u ∷ []) (cond (has q c) (u ∷ x) y)) (same_path p q c parts.0) (same_path p q o parts.1))
+
+-- there is a path where there is such a unit
+pub path_there : (is : Unit → Bool) (f : Forest Unit) → nat_eq (length (path is f)) 0 ≡ not (has is f)
+path_there is Empty = refl
+path_there is (Node a c o) = at (is a) (has is c) (path_there is o) ∙ sym (ap not (has_node is a c o))
+  where
+    at : (b d : Bool) → nat_eq (length (path is o)) 0 ≡ not (has is o) → nat_eq (length (cond b (a ∷ []) (cond d (a ∷ path is c) (path is o)))) 0 ≡ not (b || (d || has is o))
+    at true d rest = ne_eqb 1 0 (λ z. absurd (omega (arith, z)))
+    at false true rest = ne_eqb (suc (length (path is c))) 0 (λ z. absurd (omega (arith, z)))
+    at false false rest = rest
+
+no_length : {A : Type 0} (xs : List A) → nat_eq (length xs) 0 ≡ true → xs ≡ []
+no_length [] h = refl
+no_length (x ∷ xs) h = absurd (let e = eqb-true (suc (length xs)) 0 h in omega (arith, e))
+
+pub none_path : (is : Unit → Bool) (f : Forest Unit) → has is f ≡ false → path is f ≡ []
+none_path is f h = no_length (path is f) (path_there is f ∙ ap not h)
+
+-- ---- the unit that is found
+
+none_both : (p q : Unit → Bool) (us : List Unit) → list_any p us ≡ false → list_any (λ (u : Unit). p u && q u) us ≡ false
+none_both p q [] h = refl
+none_both p q (u ∷ us) h =
+    let parts = or_parts (p u) (list_any p us) h in
+    ap₂ (λ (a b : Bool). (a && q u) || b) parts.0 (none_both p q us parts.1)
+
+any_second : (p q : Unit → Bool) (us : List Unit) → list_any (λ (u : Unit). p u && q u) us ≡ true → list_any q us ≡ true
+any_second p q [] h = absurd (false≢true h)
+any_second p q (u ∷ us) h = at (p u) (q u) h (any_second p q us)
+  where
+    at : (a b : Bool) → ((a && b) || list_any (λ (u : Unit). p u && q u) us) ≡ true → (list_any (λ (u : Unit). p u && q u) us ≡ true → list_any q us ≡ true) → (b || list_any q us) ≡ true
+    at a true k later = refl
+    at true false k later = later k
+    at false false k later = later k
+
+-- a number that is found is that of a unit that is there
+pub found_there : (is : Unit → Bool) (f : Forest Unit) (id : ℕ) → Finds is f (Some id) → has_unit f id ≡ true
+found_there is f id h = any_second is (has_id id) (nodes f) h
+
+which : (is : Unit → Bool) (v id : ℕ) (us : List Unit) → AllByRecursion (λ (u : Unit). has_id v u ≡ is u) us → list_any (λ (u : Unit). is u && has_id id u) us ≡ true → v ≡ id
+which is v id [] h e = absurd (false≢true e)
+which is v id (u ∷ us) h e = elim (or_cases (is u && has_id id u) (list_any (λ (w : Unit). is w && has_id id w) us) e) [
+  | inl here ↦ (let both = and_parts (is u) (has_id id u) here in eqb-true v u.id (h.0 ∙ both.0) ∙ sym (eqb-true id u.id both.1))
+  | inr later ↦ which is v id us h.1 later
+]
+
+-- each unit has that number where it is the one that was looked for
+pub found_number : (c : Catalogue) (source legacy : Bytes) (id : ℕ) → AreGoodUnits c → Finds (is_from source legacy) c.forest (Some id) → AllByRecursion (λ (u : Unit). has_id id u ≡ is_from source legacy u) (nodes c.forest)
+found_number c source legacy id good h = at (find (is_from source legacy) (nodes c.forest)) refl
+  where
+    at : (r : Option Unit) → find (is_from source legacy) (nodes c.forest) ≡ r → AllByRecursion (λ (u : Unit). has_id id u ≡ is_from source legacy u) (nodes c.forest)
+    at None e =
+        let none = none_both (is_from source legacy) (has_id id) (nodes c.forest) (none_found (is_from source legacy) (nodes c.forest) e) in
+        absurd (false≢true (sym none ∙ h))
+    at (Some v) e =
+        let all = found_numbers source legacy (nodes c.forest) v good.ids good.pairs e in
+        let same = which (is_from source legacy) v.id id (nodes c.forest) all h in
+        subst (λ n. AllByRecursion (λ (u : Unit). has_id n u ≡ is_from source legacy u) (nodes c.forest)) same all
+
+-- its path, by its number
+pub found_path : (c : Catalogue) (source legacy : Bytes) (id : ℕ) → AreGoodUnits c → Finds (is_from source legacy) c.forest (Some id) → path (nat_eq id) (each (λ (u : Unit). u.id) c.forest) ≡ map (λ (u : Unit). u.id) (path (is_from source legacy) c.forest)
+found_path c source legacy id good h =
+    path-each (nat_eq id) (λ (u : Unit). u.id) c.forest
+    ∙ ap (map (λ (u : Unit). u.id)) (same_path (has_id id) (is_from source legacy) c.forest (found_number c source legacy id good h))
+
+-- ---- depths
+
+-- how deep a row lies that names a catalogued unit, by the length of the unit's path
+pub depth_found : (f : Forest Unit) (source legacy : Bytes) (n : ℕ) (b : Bool) → length (path (is_from source legacy) f) ≡ n → nat_eq n 0 ≡ b → depth_under f source (Some legacy) [] ≡ cond b None (Some (n + 1))
+depth_found f source legacy n b long zero =
+    let there = turned (has (is_from source legacy) f) b (sym (path_there (is_from source legacy) f) ∙ (ap (λ k. nat_eq k 0) long ∙ zero)) in
+    ap₂ (λ (h : Bool) k. cond h (Some (k + 1)) None) there long ∙ swapped b
+  where
+    turned : (h b : Bool) → not h ≡ b → h ≡ not b
+    turned true b e = ap not e
+    turned false b e = ap not e
+
+    swapped : (b : Bool) → cond (not b) (Some (n + 1)) None ≡ cond b None (Some (n + 1))
+    swapped true = refl
+    swapped false = refl
+
+-- ---- whether it is found
+
+pub finds_so : (is : Unit → Bool) (f : Forest Unit) (r : Option ℕ) → Finds is f r → is_some r ≡ has is f
+finds_so is f None h = sym h
+finds_so is f (Some id) h = sym (any_first (nodes f) h)
+  where
+    any_first : (us : List Unit) → list_any (λ (u : Unit). is u && has_id id u) us ≡ true → list_any is us ≡ true
+    any_first [] h = absurd (false≢true h)
+    any_first (u ∷ us) h = at (is u) (has_id id u) h (any_first us)
+      where
+        at : (a b : Bool) → ((a && b) || list_any (λ (u : Unit). is u && has_id id u) us) ≡ true → (list_any (λ (u : Unit). is u && has_id id u) us ≡ true → list_any is us ≡ true) → (a || list_any is us) ≡ true
+        at true b k later = refl
+        at false b k later = later k

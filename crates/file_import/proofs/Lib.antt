@@ -1,0 +1,13 @@
+pub mod Tellings
+pub mod FoundPaths
+pub mod Planned
+pub mod Remarked
+pub mod SameValues
+pub mod GoodMerges
+pub mod OneRow
+pub mod RowsToCome
+pub mod Afterwards
+pub mod Imports
+pub mod Carried
+pub mod Counting
+pub mod Refused

@@ -1,0 +1,86 @@
+use Rattle.std.proofs.Common.{◌≡◌, ◌+◌, ◌∷◌, drop, sym, ap, subst, ◌∙◌, arith}
+use Rattle.std.specs.BTreeMap.{get_by_text}
+use Rattle.std.proofs.lemmas.List.{drop_all, drop_more}
+use Rattle.sqlite.specs.Effect.{Database}
+use Rattle.sqlite.specs.Held.{state}
+use Rattle.atom_csv.specs.declared.file.Row.{Row as RowTold}
+use Rattle.catalogue_rows.specs.Shows.{Shows}
+use Rattle.office_tables.proofs.Calls.{early, looks_then, still}
+use Rattle.file_import.proofs.Planned.{IsPlanned, ends_faulty, ends_well, goes_known, goes_new}
+use Rattle.file_import.proofs.planning.plan.Goals as goal
+use Rattle.file_import.proofs.planning.plan.Goals.{in-Known, in-Fits+in_ok-remember-in-Fits}
+
+pub returns-in-Faulty : goal.returns-in-Faulty
+returns-in-Faulty g c =
+    let a = state g.S.Store c.args.conn.now in
+    let b = state g.S.Store c.loop-row.conn in
+    let d = state g.S.Store c.place.new.conn in
+    let looks = c.loop-row.invariant.looks in
+    let told = c.in_ok-place.ensures.tells in
+    let rows = c.args.rows.now in
+    let i = c.loop-row.row-index in
+    let item = c.row-item.result in
+    let rest : drop i rows ≡ item ∷ drop (i + 1) rows = drop_more rows i item c.loop-row-test.true ∙ ap (λ (r : RowTold). r ∷ drop (i + 1) rows) (sym c.row-item.is) in
+    record {
+      tells = record {
+        answers = λ clean o k it good.
+            let at_b = early b d _ told.looks.goes.on.crash clean in
+            let planned = subst (IsPlanned k.forest c.args.source.now (get_by_text c.loop-row.depths) c.loop-row.new rows) rest (c.loop-row.invariant.so_far at_b o k it good) in
+            let shown = subst (λ (db : Database). Shows g.P.Places.shows g.P.Places.version db o k) (sym (looks.same at_b)) it in
+            ends_faulty k.forest c.args.source.now (get_by_text c.loop-row.depths) c.loop-row.new rows (drop (i + 1) rows) item c.in-Faulty.cause planned
+            (sym c.in-Faulty.is ∙ told.answers clean o k shown good planned.above planned.knows);
+        looks = looks_then a b d looks told.looks;
+        cut = tt;
+        faults = λ o k it may kept clean free. tt;
+      };
+    }
+
+pub loop-row-preserved : goal.loop-row-preserved
+loop-row-preserved g c =
+    let v = g.P.Places.version in
+    let a = state g.S.Store c.args.conn.now in
+    let b = state g.S.Store c.loop-row.conn in
+    let d = state g.S.Store c.place.new.conn in
+    let looks = c.loop-row.invariant.looks in
+    let few = c.loop-row.invariant.few in
+    let told = c.in_ok-place.ensures.tells in
+    let rows = c.args.rows.now in
+    let i = c.loop-row.row-index in
+    let item = c.row-item.result in
+    let rest : drop i rows ≡ item ∷ drop (i + 1) rows = drop_more rows i item c.loop-row-test.true ∙ ap (λ (r : RowTold). r ∷ drop (i + 1) rows) (sym c.row-item.is) in
+    record {
+      inside = still v b d c.loop-row.invariant.inside told.looks.goes;
+      looks = looks_then a b d looks told.looks;
+      few = elim c.match-branch-2.branch [
+        | in-Known w ↦ (let n = w.new-is in omega (arith, few, n))
+        | in-Fits+in_ok-remember-in-Fits w ↦ (let n = w.new-is in omega (arith, few, n))
+      ];
+      so_far = λ clean o k it good.
+          let at_b = early b d _ told.looks.goes.on.crash clean in
+          let planned = subst (IsPlanned k.forest c.args.source.now (get_by_text c.loop-row.depths) c.loop-row.new rows) rest (c.loop-row.invariant.so_far at_b o k it good) in
+          let shown = subst (λ (db : Database). Shows g.P.Places.shows g.P.Places.version db o k) (sym (looks.same at_b)) it in
+          let is = told.answers clean o k shown good planned.above planned.knows in
+          elim c.match-branch-2.branch [
+            | in-Known w ↦
+                rw (w.depths-is, w.new-is)
+                (goes_known k.forest c.args.source.now (get_by_text c.loop-row.depths) c.loop-row.new rows (drop (i + 1) rows) item planned (sym w.in-Known.is ∙ is))
+            | in-Fits+in_ok-remember-in-Fits w ↦
+                rw (w.depths-is, w.new-is)
+                (goes_new k.forest c.args.source.now (get_by_text c.loop-row.depths) (get_by_text w.remember.new.depths) c.loop-row.new rows (drop (i + 1) rows) item w.in-Fits.below planned (sym w.in-Fits.is ∙ is) w.in_ok-remember-in-Fits.ensures)
+          ];
+    }
+
+pub returns : goal.returns
+returns g c =
+    let rows = c.args.rows.now in
+    let last = c.loop-row-test.false in
+    record {
+      tells = record {
+        answers = λ clean o k it good.
+            ends_well k.forest c.args.source.now (get_by_text c.loop-row.depths) c.loop-row.new rows
+            (subst (IsPlanned k.forest c.args.source.now (get_by_text c.loop-row.depths) c.loop-row.new rows) (drop_all c.loop-row.row-index rows (omega (arith, last))) (c.loop-row.invariant.so_far clean o k it good));
+        looks = c.loop-row.invariant.looks;
+        cut = tt;
+        faults = λ o k it may kept clean free. tt;
+      };
+    }

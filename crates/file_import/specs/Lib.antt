@@ -1,0 +1,5 @@
+pub mod Entering
+pub mod Turns
+pub mod Planning
+pub mod Remarking
+pub mod Importing

@@ -1,0 +1,279 @@
+//! The rows of a file, entered into the tables of a catalogue.
+
+ghost use Rattle.std.specs.Prelude.{◌≡◌, ◌+◌, ◌<◌, ◌^◌, [], ◌∷◌, false, find, None, Some, IfOk, IfSome, ⊤};
+ghost use Rattle.sqlite.specs.Held.{state};
+ghost use Rattle.sqlite.specs.State.{HasCleanDisk};
+ghost use Rattle.isad_core.specs.Limits.{IsNumber};
+ghost use Rattle.tree_core.specs.Forest.{nodes};
+ghost use Rattle.catalogue_core.specs.Describing.{with_values};
+ghost use Rattle.catalogue_core.specs.GoodCatalogues.{AreGoodUnits};
+ghost use Rattle.catalogue_core.specs.Intake.{same_values, unit_of};
+ghost use Rattle.catalogue_core.specs.Merging.{Catalogue};
+ghost use Rattle.catalogue_core.specs.RowByRow.{new_at, number_there, with_new};
+ghost use Rattle.catalogue_core.specs.Units.{«Unit» as Described, has_id};
+ghost use Rattle.catalogue_rows.specs.Shows.{ShowsNumbered, catalogue_trees};
+ghost use Rattle.catalogue_rows.specs.declared.office.OfficeRow.{OfficeRow};
+ghost use Rattle.office_tables.specs.Calls.{Makes, Tells};
+ghost use Rattle.office_tables.specs.Step.{InTransaction};
+ghost use Rattle.file_import.specs.Entering.{CanEnter, ShowsLegible, counts_of, entered};
+ghost use Rattle.file_import.specs.Turns.{AreToCome, IsTurn, MayChange, MayCome, boxes_named, counted, entry_of};
+
+use atom_csv::Row;
+use catalogue_rows::office::office_rows;
+use catalogue_store::{NewUnit, Places, add_unit, known, replace_values, values as values_of};
+use isad_core::{Text, Values};
+use office_tables::StoreFault;
+use office_tables::value::NO_NUMBER;
+use sqlite::{Alter, Connection};
+use std::alloc::Global;
+
+/// No unit has this number, so that each has a number after it.
+const LAST_NUMBER: u64 = NO_NUMBER - 1;
+
+/// How many rows of a file changed a unit, made one, or left one as it was.
+#[derive(Clone, Copy, Debug, PartialEq, Eq)]
+pub struct Counts {
+    pub changed: u64,
+    pub new: u64,
+    pub same: u64,
+}
+
+/// What became of a row.
+#[derive(Clone, Copy)]
+enum Entry {
+    /// Its unit took other values.
+    Changed,
+    /// It made a unit.
+    New,
+    /// Its unit had its values.
+    Same,
+}
+
+/// Whether these are the same values.
+fn are_same(some: &Values, others: &Values) -> bool
+    ensures { result ≡ same_values some.now others.now }
+{
+    some == others
+}
+
+/// The number of the unit that has this number in the source.
+fn number_of<P: Places, S: Alter>(
+    alloc: Global,
+    conn: &mut Connection<S>,
+    source: &Text,
+    legacy: &Text,
+) -> Result<Option<u64>, StoreFault>
+    requires inside { InTransaction P.version (state S.Store conn.old) }
+    ensures tells { Tells S.Store (ShowsNumbered P.shows P.version) (λ _. ⊤) conn.old conn.new result AreGoodUnits
+        (λ _ c found. AreGoodUnits c → found ≡ number_there c source.now legacy.now) }
+    ensures small { IfOk result (λ found. IfSome found IsNumber) }
+{
+    let Some(unit) = known(alloc, conn, source, legacy)? else {
+        return Ok(None);
+    };
+    if unit >= NO_NUMBER {
+        return Err(StoreFault::Schema);
+    }
+    Ok(Some(unit))
+}
+
+/// Gives a unit the values of its row, where they differ.
+fn enter_known<P: Places, S: Alter>(
+    alloc: Global,
+    conn: &mut Connection<S>,
+    unit: u64,
+    values: &Values,
+) -> Result<Entry, StoreFault>
+    requires inside { InTransaction P.version (state S.Store conn.old) }
+    requires small { IsNumber unit }
+    ensures makes { Makes S.Store (ShowsNumbered P.shows P.version) (λ _. ⊤) conn.old conn.new result
+        (MayChange unit values.now) (with_values unit values.now) catalogue_trees }
+    ensures told { HasCleanDisk (state S.Store conn.new) → (o : OfficeRow) (c : Catalogue)
+        → ShowsNumbered P.shows P.version (state S.Store conn.old).now o c → MayChange unit values.now c
+        → (u : Described) → find (has_id unit) (nodes c.forest) ≡ Some u
+        → IfOk result (λ entry. entry ≡ entry_of (Some u) values.now) }
+{
+    let Some(found) = values_of(alloc, conn, unit)? else {
+        return Err(StoreFault::Schema);
+    };
+    if are_same(&found.values, values) {
+        return Ok(Entry::Same);
+    }
+    replace_values::<P, S>(alloc, conn, unit, values)?;
+    Ok(Entry::Changed)
+}
+
+/// The number of the parent that the row names, if it names one.
+fn parent_of<P: Places, S: Alter>(
+    alloc: Global,
+    conn: &mut Connection<S>,
+    source: &Text,
+    row: &Row,
+) -> Result<Option<u64>, StoreFault>
+    requires inside { InTransaction P.version (state S.Store conn.old) }
+    ensures tells { Tells S.Store (ShowsNumbered P.shows P.version) (λ _. ⊤) conn.old conn.new result AreGoodUnits
+        (λ _ c found. AreGoodUnits c → found ≡ (new_at c source.now row.now).parent) }
+    ensures small { IfOk result (λ found. IfSome found IsNumber) }
+{
+    match &row.parent {
+        None => Ok(None),
+        Some(parent) => number_of::<P, S>(alloc, conn, source, parent),
+    }
+}
+
+/// Makes the unit of a row.
+fn enter_new<P: Places, S: Alter>(
+    alloc: Global,
+    conn: &mut Connection<S>,
+    source: &Text,
+    next: u64,
+    row: &Row,
+) -> Result<Entry, StoreFault>
+    requires inside { InTransaction P.version (state S.Store conn.old) }
+    ensures makes { Makes S.Store (ShowsNumbered P.shows P.version) (λ _. ⊤) conn.old conn.new result
+        (MayCome source.now row.now next) (with_new source.now row.now) catalogue_trees }
+    ensures told { IfOk result (λ entry. entry ≡ entry_of None row.now.values) }
+{
+    if next >= LAST_NUMBER {
+        return Err(StoreFault::Schema);
+    }
+    let parent = parent_of::<P, S>(alloc, conn, source, row)?;
+    let unit = NewUnit {
+        id: next,
+        source,
+        legacy: &row.legacy,
+        values: &row.values,
+        draft: !row.published,
+    };
+    add_unit::<P, S>(alloc, conn, parent, &unit)?;
+    Ok(Entry::New)
+}
+
+/// Enters a row, whose unit takes its values, or comes with the next number.
+fn enter_row<P: Places, S: Alter>(
+    alloc: Global,
+    conn: &mut Connection<S>,
+    source: &Text,
+    next: u64,
+    row: &Row,
+) -> Result<Entry, StoreFault>
+    requires inside { InTransaction P.version (state S.Store conn.old) }
+    ensures makes { Makes S.Store (ShowsNumbered P.shows P.version) (λ _. ⊤) conn.old conn.new result
+        (IsTurn source.now row.now next) (entered source.now (row.now ∷ [])) catalogue_trees }
+    ensures told { HasCleanDisk (state S.Store conn.new) → (o : OfficeRow) (c : Catalogue)
+        → ShowsNumbered P.shows P.version (state S.Store conn.old).now o c → IsTurn source.now row.now next c
+        → IfOk result (λ entry. entry ≡ entry_of (unit_of c.forest source.now row.now) row.now.values) }
+{
+    let found = number_of::<P, S>(alloc, conn, source, &row.legacy)?;
+    match found {
+        Some(unit) => enter_known::<P, S>(alloc, conn, unit, &row.values),
+        None => enter_new::<P, S>(alloc, conn, source, next, row),
+    }
+}
+
+/// The counts with one row more.
+fn count(counts: Counts, became: Entry) -> Counts
+    requires changed { counts.changed + 1 < 2 ^ 64 }
+    requires new { counts.new + 1 < 2 ^ 64 }
+    requires same { counts.same + 1 < 2 ^ 64 }
+    ensures { result ≡ counted became counts }
+{
+    match became {
+        Entry::Changed => Counts {
+            changed: counts.changed + 1,
+            ..counts
+        },
+        Entry::New => Counts {
+            new: counts.new + 1,
+            ..counts
+        },
+        Entry::Same => Counts {
+            same: counts.same + 1,
+            ..counts
+        },
+    }
+}
+
+/// Enters rows one after another, where this is the next number.
+fn enter_each<P: Places, S: Alter>(
+    alloc: Global,
+    conn: &mut Connection<S>,
+    source: &Text,
+    next: u64,
+    rows: &[Row],
+) -> Result<Counts, StoreFault>
+    requires inside { InTransaction P.version (state S.Store conn.old) }
+    ensures makes { Makes S.Store (ShowsNumbered P.shows P.version) (λ _. ⊤) conn.old conn.new result
+        (AreToCome source.now rows.now next) (entered source.now rows.now) catalogue_trees }
+    ensures counts { HasCleanDisk (state S.Store conn.new) → (o : OfficeRow) (c : Catalogue)
+        → ShowsNumbered P.shows P.version (state S.Store conn.old).now o c → AreToCome source.now rows.now next c
+        → IfOk result (λ counts. counts ≡ counts_of c.forest source.now rows.now) }
+{
+    let mut counts = Counts {
+        changed: 0,
+        new: 0,
+        same: 0,
+    };
+    for row in rows {
+        let number = next.saturating_add(counts.new);
+        let became = enter_row::<P, S>(alloc, conn, source, number, row)?;
+        counts = count(counts, became);
+    }
+    Ok(counts)
+}
+
+/// The number of the next new unit.
+fn next_number<P: Places, S: Alter>(
+    alloc: Global,
+    conn: &mut Connection<S>,
+) -> Result<u64, StoreFault>
+    requires inside { InTransaction P.version (state S.Store conn.old) }
+    ensures tells { Tells S.Store (ShowsLegible P.shows P.version) (λ _. ⊤) conn.old conn.new result (λ _. ⊤)
+        (λ _ c next. next ≡ c.next) }
+{
+    let mut found = office_rows(alloc, conn)?;
+    let Some(office) = found.pop() else {
+        return Err(StoreFault::Schema);
+    };
+    Ok(office.next_unit)
+}
+
+/// No memory holds so many containers. Fewer can be numbered on top of those that an office has.
+const MOST_BOXES: u64 = 1 << 61;
+
+/// Whether the rows name more containers than any memory holds.
+fn name_too_many(rows: &[Row]) -> bool
+    ensures { result ≡ false → boxes_named rows.now < 2 ^ 61 }
+{
+    let mut named: u64 = 0;
+    for row in rows {
+        let more = row.values.boxes.len() as u64;
+        if more >= MOST_BOXES - named {
+            return true;
+        }
+        named += more;
+    }
+    false
+}
+
+/// Enters the rows of a file from a source, one after another: the unit of a row takes its values, or comes with the
+/// next number.
+pub(crate) fn enter_rows<P: Places, S: Alter>(
+    alloc: Global,
+    conn: &mut Connection<S>,
+    source: &Text,
+    rows: &[Row],
+) -> Result<Counts, StoreFault>
+    requires inside { InTransaction P.version (state S.Store conn.old) }
+    ensures makes { Makes S.Store (ShowsLegible P.shows P.version) (λ _. ⊤) conn.old conn.new result
+        (CanEnter source.now rows.now) (entered source.now rows.now) catalogue_trees }
+    ensures counts { HasCleanDisk (state S.Store conn.new) → (o : OfficeRow) (c : Catalogue)
+        → ShowsLegible P.shows P.version (state S.Store conn.old).now o c → CanEnter source.now rows.now c
+        → IfOk result (λ counts. counts ≡ counts_of c.forest source.now rows.now) }
+{
+    if name_too_many(rows) {
+        return Err(StoreFault::Memory);
+    }
+    let next = next_number::<P, S>(alloc, conn)?;
+    enter_each::<P, S>(alloc, conn, source, next, rows)
+}

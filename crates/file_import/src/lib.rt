@@ -1,0 +1,10 @@
+//! Files taken into the catalogue of an office, over its tables, within a transaction.
+#![tactic(auto)]
+
+mod entering;
+mod importing;
+mod paths;
+mod planning;
+mod remarks;
+
+pub use importing::import;
