@@ -45,3 +45,8 @@ pub use Rattle.office_rows.specs.Versions
 pub use Rattle.catalogue_core.specs.LegibleCatalogues
 pub use Rattle.catalogue_core.specs.RowByRow
 pub use Rattle.desk_core.specs.LegibleDesks
+pub use Rattle.running_office.specs.Founding
+pub use Rattle.running_office.specs.Resting
+pub use Rattle.running_office.specs.Opening
+pub use Rattle.running_office.specs.Applying
+pub use Rattle.running_office.specs.Runs

@@ -25,3 +25,4 @@ pub use office_rows::laws_of_offices::{
     sound_desks_are_legible, sound_offices_are_read, sound_offices_are_told, states_are_shown,
     versions_differ_in_places,
 };
+pub use running_office::laws::calls_are_the_machines_run;

@@ -5,5 +5,6 @@ pub mod laws;
 pub mod worked;
 
 pub use finding_aids::preview;
-pub use office_core::{Answer, Command, Done, Query, Refusal, Remark};
+pub use office_core::{Answer, Busy, Command, Done, Machine, Query, Refusal, Remark, Reply};
 pub use office_rows::desk_judged;
+pub use running_office::{Office, OpenFault, Settings, SettingsFault};

@@ -1,5 +1,5 @@
 -- The tables of a new office show it.
-use Rattle.std.proofs.Common.{◌≡◌, ℕ, zero, suc, List, [], replicate, None, refl, sym, ap, subst}
+use Rattle.std.proofs.Common.{◌≡◌, ℕ, List, sym, ap, subst}
 use Rattle.sqlite.specs.Effect.{Database}
 use Rattle.sqlite.specs.Tree.{Trees}
 use Rattle.tree_core.specs.Forest.{Forest}

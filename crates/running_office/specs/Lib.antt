@@ -2,3 +2,6 @@ pub mod Founding
 pub mod Resting
 pub mod Opening
 pub mod Sight
+pub mod Rows
+pub mod Applying
+pub mod Runs

@@ -1,5 +1,9 @@
-//! Why an office is not opened.
+//! Why an office is not opened, and why it is busy.
 
+ghost use Rattle.std.specs.Prelude.{◌≡◌};
+ghost use Rattle.running_office.specs.Applying.{busy_for};
+
+use office_core::Busy;
 use office_tables::StoreFault;
 
 /// No office was opened, and the tables are as they were.
@@ -25,5 +29,16 @@ impl From<StoreFault> for OpenFault {
             StoreFault::Disk => OpenFault::Disk,
             StoreFault::Schema => OpenFault::Schema,
         }
+    }
+}
+
+/// Why an office is busy, by the fault of its store.
+pub(crate) fn busy(fault: StoreFault) -> Busy
+    ensures { result ≡ busy_for fault }
+{
+    match fault {
+        StoreFault::Memory => Busy::Memory,
+        StoreFault::Disk => Busy::Disk,
+        StoreFault::Schema => Busy::Schema,
     }
 }

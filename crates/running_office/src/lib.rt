@@ -1,10 +1,15 @@
 //! An office over its tables: one command, one transaction, one step.
 #![tactic(auto)]
 
+mod commands;
 mod faults;
 mod founding;
+pub mod laws;
+mod machine;
 mod names;
 mod offices;
+mod questions;
+mod rows;
 mod settings;
 mod transactions;
 

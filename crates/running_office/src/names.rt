@@ -1,10 +1,12 @@
-//! What can be seen to be wrong with a command before any table is asked.
+//! What can be seen of a command before any table is asked: what is wrong with it, and what days it names.
 
 ghost use Rattle.std.specs.Prelude.{◌≡◌, nat_eq, nat_le, not, ◌&&◌};
 ghost use Rattle.std.specs.List.{list_all};
 ghost use Rattle.catalogue_core.specs.Sources.{is_source as is_source_name, is_source_letter as may_stand};
 ghost use Rattle.desk_core.specs.Names.{is_name as is_reader_name};
+ghost use Rattle.isad_core.specs.Days.{IsDayNumber};
 ghost use Rattle.office_core.specs.SoundOffice.{NamesTexts};
+ghost use Rattle.office_core.specs.Soundness.{NamesDays};
 ghost use Rattle.running_office.specs.Sight.{seen_wrong};
 
 use isad_core::{Day, is_blank};
@@ -53,13 +55,40 @@ fn is_source(name: &str) -> bool
 /// The first check of a command, where it needs no table. A new day comes after today; a source and a reader have names
 /// of their forms.
 pub(crate) fn refused_at_sight(today: Day, command: &Command) -> Option<Refusal>
-    ensures why { result ≡ seen_wrong today command.now }
-    ensures texts { NamesTexts command.now }
+    ensures { result ≡ seen_wrong today command.now }
 {
     match command {
         Command::OpenDay { day } if *day <= today => Some(Refusal::DayNotLater),
         Command::Import { source, .. } if !is_source(source.as_str()) => Some(Refusal::BadName),
         Command::Register { name, .. } if !is_name(name.as_str()) => Some(Refusal::BadName),
         _ => None,
+    }
+}
+
+/// A day is one of the calendar.
+fn is_of_calendar(day: Day)
+    ensures { IsDayNumber day }
+{
+    let _ = day.number();
+}
+
+/// The days that a command names are of the calendar, and the reader's name that it brings is UTF-8.
+pub(crate) fn names_days_and_texts(command: &Command)
+    ensures days { NamesDays command.now }
+    ensures texts { NamesTexts command.now }
+{
+    match command {
+        Command::OpenDay { day } => is_of_calendar(*day),
+        Command::SetClosure {
+            until: Some(day),
+            ..
+        } => is_of_calendar(*day),
+        Command::Register { name, until } => {
+            let _ = name.as_str();
+            is_of_calendar(*until);
+        }
+        Command::Renew { until, .. } => is_of_calendar(*until),
+        Command::Permit { until, .. } => is_of_calendar(*until),
+        _ => {}
     }
 }

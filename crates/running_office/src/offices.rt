@@ -1,31 +1,39 @@
 //! An office over its tables.
 
-ghost use Rattle.std.specs.Prelude.{◌≡◌, false, Err, IfErr, IfOk};
+ghost use Rattle.std.specs.Prelude.{◌≡◌, false, Err, IfErr, IfOk, IsErr, OnErr};
 ghost use Rattle.sqlite.specs.Held.{state};
 ghost use Rattle.sqlite.specs.State.{HasCleanDisk, Survives};
+ghost use Rattle.office_core.specs.Json.{reply_text};
+ghost use Rattle.office_core.specs.Queries.{answer};
+ghost use Rattle.office_core.specs.Rules.{step};
 ghost use Rattle.office_core.specs.SoundOffice.{IsSoundOffice};
+ghost use Rattle.office_core.specs.State.{State};
 ghost use Rattle.office_tables.specs.Faults.{IsUnlimited};
 ghost use Rattle.office_tables.specs.Schema.{no_schema, schema};
+ghost use Rattle.running_office.specs.Applying.{HasBusyCause, MayFind, TakesStep};
 ghost use Rattle.running_office.specs.Founding.{founded};
 ghost use Rattle.running_office.specs.Opening.{HasOpenCause};
-ghost use Rattle.running_office.specs.Resting.{IsAsBefore, IsIn};
+ghost use Rattle.running_office.specs.Resting.{IsAsBefore, IsIn, is_clean, is_shown};
+ghost use Rattle.running_office.specs.Runs.{IsCall, answered, applied};
 ghost use Rattle.shown_office.specs.Shown.{ShowsState};
 
-use crate::faults::OpenFault;
+use crate::commands::apply_to;
+use crate::faults::{OpenFault, busy};
 use crate::founding::found;
+use crate::names::names_days_and_texts;
+use crate::questions::ask_in;
 use crate::settings::Settings;
-use catalogue_rows::OfficeRow;
 use catalogue_store::Places;
 use desk_store::is_blank;
+use office_core::{Answer, Busy, Command, Query, Reply};
 use sqlite::{Alter, Connection};
+use std::alloc::Global;
 use std::marker::{Model, PhantomData};
 
 /// An office over its tables, whose places are kept as `P` has them. Between its calls no transaction is open, and the
 /// connection has the tables of an office, as they were committed.
 pub struct Office<P: Places, S: Alter> {
     conn: Connection<S>,
-    /// What the office's own row tells: it is read no more.
-    known: OfficeRow,
     places: PhantomData<P>,
 }
 
@@ -39,7 +47,7 @@ impl<P: Places, S: Alter> Model for Office<P, S> {
 
     ghost view = { λ o. o.conn };
 
-    ghost invariant = { λ o. IsOffice P.version o.known (state S.Store o.conn) };
+    ghost invariant = { λ o. IsOffice P.version (state S.Store o.conn) };
 }
 
 impl<P: Places, S: Alter> Office<P, S> {
@@ -69,19 +77,66 @@ impl<P: Places, S: Alter> Office<P, S> {
             (founded settings))) }
     {
         let mut conn = conn;
-        let known = settings.into_row();
+        let row = settings.into_row();
         // Outside a transaction a connection that is open shows what was committed.
         let _ = conn.is_autocommit();
         if !is_blank(&conn) {
             return Err((OpenFault::Schema, conn));
         }
-        match found::<P, S>(&mut conn, &known) {
+        match found::<P, S>(&mut conn, &row) {
             Ok(()) => Ok(Office {
                 conn,
-                known,
                 places: PhantomData,
             }),
             Err(fault) => Err((OpenFault::from(fault), conn)),
+        }
+    }
+
+    /// Carries out a command. A refusal changes nothing, nor does an office that is busy; a crash finds what was
+    /// committed before, or the state after the command. Where a failure of the disk had shut the connection before,
+    /// the office is busy for ever.
+    pub fn apply(&mut self, alloc: Global, command: &Command) -> Result<Reply, Busy>
+        ensures steps { HasCleanDisk (state S.Store self.new)
+            → (s : State) → IsSoundOffice s → IsIn P.shows P.version s (state S.Store self.old)
+            → IfOk result (λ reply. TakesStep P.shows P.version s command.now reply.done (state S.Store self.new)) }
+        ensures sound { (s : State) → IsSoundOffice s → IsSoundOffice (step s command.now).0 }
+        ensures bytes { IfOk result (λ reply. reply.json ≡ reply_text reply.done) }
+        ensures refused { HasCleanDisk (state S.Store self.new) → IfOk result (λ reply. IsErr reply.done
+            → IsAsBefore (state S.Store self.old) (state S.Store self.new)) }
+        ensures busy { HasCleanDisk (state S.Store self.new)
+            → OnErr result (IsAsBefore (state S.Store self.old) (state S.Store self.new)) }
+        ensures cause { HasCleanDisk (state S.Store self.new)
+            → (s : State) → IsSoundOffice s → IsIn P.shows P.version s (state S.Store self.old)
+            → IfErr result (HasBusyCause (state S.Store self.old) (state S.Store self.new)) }
+        ensures crash { Survives (state S.Store self.old) (state S.Store self.new)
+            (MayFind P.shows P.version command.now (state S.Store self.old)) }
+        ensures call { IsCall (is_shown S.Store P.shows P.version) (is_clean S.Store) self.old self.new
+            (applied command.now result) }
+    {
+        names_days_and_texts(command);
+        match apply_to::<P, S>(alloc, &mut self.conn, command) {
+            Ok(reply) => Ok(reply),
+            Err(fault) => Err(busy(fault)),
+        }
+    }
+
+    /// Answers a question. Nothing is changed by it, whatever comes.
+    pub fn ask(&mut self, alloc: Global, query: Query) -> Result<Answer, Busy>
+        ensures answers { HasCleanDisk (state S.Store self.new)
+            → (s : State) → IsSoundOffice s → IsIn P.shows P.version s (state S.Store self.old)
+            → IfOk result (λ told. told ≡ answer s query) }
+        ensures same { HasCleanDisk (state S.Store self.new)
+            → IsAsBefore (state S.Store self.old) (state S.Store self.new) }
+        ensures cause { HasCleanDisk (state S.Store self.new)
+            → (s : State) → IsSoundOffice s → IsIn P.shows P.version s (state S.Store self.old)
+            → IfErr result (HasBusyCause (state S.Store self.old) (state S.Store self.new)) }
+        ensures crash { Survives (state S.Store self.old) (state S.Store self.new) (λ _. ⊥) }
+        ensures call { IsCall (is_shown S.Store P.shows P.version) (is_clean S.Store) self.old self.new
+            (answered query result) }
+    {
+        match ask_in::<P, S>(alloc, &mut self.conn, query) {
+            Ok(answer) => Ok(answer),
+            Err(fault) => Err(busy(fault)),
         }
     }
 
@@ -90,11 +145,7 @@ impl<P: Places, S: Alter> Office<P, S> {
         ensures same { result ≡ self }
         ensures ended { HasCleanDisk (state S.Store result) → (state S.Store result).in_transaction ≡ false }
     {
-        let Office {
-            conn,
-            known: _,
-            places: _,
-        } = self;
+        let Office { conn, places: _ } = self;
         conn
     }
 }

@@ -8,30 +8,30 @@ use Rattle.running_office.proofs.NewOffices.{founded_sound, shows_founded}
 use Rattle.running_office.proofs.offices.Office.create.Goals as goal
 
 pub returns-then-not-is_blank-clause-sound : goal.returns-then-not-is_blank-clause-sound
-returns-then-not-is_blank-clause-sound g c = founded_sound c.args.settings c.into_row-known.ensures.good
+returns-then-not-is_blank-clause-sound g c = founded_sound c.args.settings c.into_row-row.ensures.good
 
 pub returns-in-Ok-clause-sound : goal.returns-in-Ok-clause-sound
-returns-in-Ok-clause-sound g c = founded_sound c.args.settings c.into_row-known.ensures.good
+returns-in-Ok-clause-sound g c = founded_sound c.args.settings c.into_row-row.ensures.good
 
-pub returns-in-Err-clause-sound : goal.returns-in-Err-clause-sound
-returns-in-Err-clause-sound g c = founded_sound c.args.settings c.into_row-known.ensures.good
+pub returns-clause-sound : goal.returns-clause-sound
+returns-clause-sound g c = founded_sound c.args.settings c.into_row-row.ensures.good
 
 pub returns-in-Ok-clause-shows : goal.returns-in-Ok-clause-shows
 returns-in-Ok-clause-shows g c clean opened =
     let d = state g.S.Store c.found.new.conn in
-    let new = subst (λ (row : OfficeRow). ShowsNew g.P.Places.shows g.P.Places.version d.now row) c.into_row-known.ensures.row (c.in-Ok.ensures.shows clean opened) in
-    shows_founded g.P.Places.shows g.P.Places.version d.now c.args.settings c.into_row-known.ensures.good new
+    let new = subst (λ (row : OfficeRow). ShowsNew g.P.Places.shows g.P.Places.version d.now row) c.into_row-row.ensures.row (c.in-Ok.ensures.shows clean opened) in
+    shows_founded g.P.Places.shows g.P.Places.version d.now c.args.settings c.into_row-row.ensures.good new
 
 pub returns-in-Ok-clause-crash : goal.returns-in-Ok-clause-crash
 returns-in-Ok-clause-crash g c =
     survives_weaker (state g.S.Store c.args.conn) (state g.S.Store c.found.new.conn) _ _
-    (λ clean db new. shows_founded g.P.Places.shows g.P.Places.version (record { schema = schema g.P.Places.version; trees = db }) c.args.settings c.into_row-known.ensures.good
-    (subst (λ (row : OfficeRow). ShowsNew g.P.Places.shows g.P.Places.version (record { schema = schema g.P.Places.version; trees = db }) row) c.into_row-known.ensures.row new))
+    (λ clean db new. shows_founded g.P.Places.shows g.P.Places.version (record { schema = schema g.P.Places.version; trees = db }) c.args.settings c.into_row-row.ensures.good
+    (subst (λ (row : OfficeRow). ShowsNew g.P.Places.shows g.P.Places.version (record { schema = schema g.P.Places.version; trees = db }) row) c.into_row-row.ensures.row new))
     c.in-Ok.ensures.crash
 
-pub returns-in-Err-clause-crash_back : goal.returns-in-Err-clause-crash_back
-returns-in-Err-clause-crash_back g c =
+pub returns-clause-crash_back : goal.returns-clause-crash_back
+returns-clause-crash_back g c =
     survives_weaker (state g.S.Store c.args.conn) (state g.S.Store c.found.new.conn) _ _
-    (λ clean db new. shows_founded g.P.Places.shows g.P.Places.version (record { schema = schema g.P.Places.version; trees = db }) c.args.settings c.into_row-known.ensures.good
-    (subst (λ (row : OfficeRow). ShowsNew g.P.Places.shows g.P.Places.version (record { schema = schema g.P.Places.version; trees = db }) row) c.into_row-known.ensures.row new))
+    (λ clean db new. shows_founded g.P.Places.shows g.P.Places.version (record { schema = schema g.P.Places.version; trees = db }) c.args.settings c.into_row-row.ensures.good
+    (subst (λ (row : OfficeRow). ShowsNew g.P.Places.shows g.P.Places.version (record { schema = schema g.P.Places.version; trees = db }) row) c.into_row-row.ensures.row new))
     c.in-Err.ensures.crash

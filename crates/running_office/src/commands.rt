@@ -1,0 +1,155 @@
+//! A command: one transaction, one step.
+
+ghost use Rattle.std.specs.Prelude.{◌≡◌, ⊤, None, IfErr, IfOk, IsErr, OnErr, OnOk};
+ghost use Rattle.sqlite.specs.Held.{state};
+ghost use Rattle.sqlite.specs.State.{HasCleanDisk, Survives};
+ghost use Rattle.office_core.specs.Json.{reply_text};
+ghost use Rattle.office_core.specs.SoundOffice.{IsSoundOffice, NamesTexts};
+ghost use Rattle.office_core.specs.State.{State};
+ghost use Rattle.office_tables.specs.Faults.{Excused, HasCause};
+ghost use Rattle.office_tables.specs.Step.{Goes, InTransaction, IsCut};
+ghost use Rattle.running_office.specs.Applying.{MayFind, TakesStep};
+ghost use Rattle.running_office.specs.Resting.{IsAsBefore, IsIn, IsOffice};
+ghost use Rattle.running_office.specs.Sight.{seen_wrong};
+ghost use Rattle.shown_office.specs.Doing.{Does, DoesStep};
+ghost use Rattle.shown_office.specs.Shown.{ShowsState, office_of};
+
+use crate::names::{names_days_and_texts, refused_at_sight};
+use crate::rows::{limits_in, own_row};
+use crate::transactions::settle;
+use catalogue_commands::{change_closure, change_status, move_to, remove_unit};
+use catalogue_rows::OfficeRow;
+use catalogue_store::Places;
+use desk_commands::{
+    cancel, fetch, issue, leave_seat, open, order, permit, register, renew_ticket, reshelve,
+    return_container, revoke_permit, take_seat,
+};
+use file_import::import;
+use office_answers::json_of;
+use office_core::{Command, Done, Refusal, Reply};
+use office_tables::{StoreFault, begin};
+use sqlite::{Alter, Connection};
+use std::alloc::Global;
+
+/// Carries out a command with which nothing is seen to be wrong.
+fn perform<P: Places, S: Alter>(
+    alloc: Global,
+    conn: &mut Connection<S>,
+    row: &OfficeRow,
+    command: &Command,
+) -> Result<Result<Done, Refusal>, StoreFault>
+    requires inside { InTransaction P.version (state S.Store conn.old) }
+    requires seen { seen_wrong row.now.day command.now ≡ None }
+    requires texts { NamesTexts command.now }
+    ensures { Does P.shows P.version (λ s. row.now ≡ office_of s) command.now (state S.Store conn.old)
+        (state S.Store conn.new) result }
+{
+    let today = row.day;
+    let limits = limits_in(row);
+    match command {
+        Command::OpenDay { day } => open::<P, S>(alloc, conn, *day),
+        Command::Import { source, file } => {
+            import::<P, S>(alloc, conn, today, source, file.as_slice())
+        }
+        Command::SetStatus {
+            unit,
+            draft,
+            branch,
+        } => change_status::<P, S>(alloc, conn, today, *unit, *draft, *branch),
+        Command::SetClosure { unit, until } => {
+            change_closure::<P, S>(alloc, conn, today, *unit, *until)
+        }
+        Command::Move { unit, parent } => move_to::<P, S>(alloc, conn, today, *unit, *parent),
+        Command::Remove { unit } => remove_unit::<P, S>(alloc, conn, today, *unit),
+        Command::Register { name, until } => register::<P, S>(conn, name, *until),
+        Command::Renew { ticket, until } => {
+            renew_ticket::<P, S>(alloc, conn, today, *ticket, *until)
+        }
+        Command::TakeSeat { ticket } => take_seat::<P, S>(alloc, conn, today, &limits, *ticket),
+        Command::LeaveSeat { ticket } => leave_seat::<P, S>(alloc, conn, today, *ticket),
+        Command::Order { ticket, container } => {
+            order::<P, S>(alloc, conn, today, &limits, *ticket, *container)
+        }
+        Command::Cancel { order } => cancel::<P, S>(alloc, conn, *order),
+        Command::Run => fetch::<P, S>(alloc, conn, today, &limits),
+        Command::Reshelve => reshelve::<P, S>(alloc, conn),
+        Command::Issue { container, ticket } => {
+            issue::<P, S>(alloc, conn, today, &limits, *container, *ticket)
+        }
+        Command::Return { container } => return_container::<P, S>(alloc, conn, *container),
+        Command::Permit {
+            ticket,
+            unit,
+            until,
+        } => permit::<P, S>(alloc, conn, today, *ticket, *unit, *until),
+        Command::Revoke { ticket, unit } => {
+            revoke_permit::<P, S>(alloc, conn, today, *ticket, *unit)
+        }
+    }
+}
+
+/// Carries out a command on the day of the office, within its settings.
+fn carry_out<P: Places, S: Alter>(
+    alloc: Global,
+    conn: &mut Connection<S>,
+    command: &Command,
+) -> Result<Result<Done, Refusal>, StoreFault>
+    requires inside { InTransaction P.version (state S.Store conn.old) }
+    ensures { Does P.shows P.version (λ _. ⊤) command.now (state S.Store conn.old) (state S.Store conn.new) result }
+{
+    let row = own_row::<P, S>(alloc, conn)?;
+    if let Some(why) = refused_at_sight(row.day, command) {
+        return Ok(Err(why));
+    }
+    names_days_and_texts(command);
+    perform::<P, S>(alloc, conn, &row, command)
+}
+
+/// Carries out a command, and makes the bytes that tell of it.
+fn reply_to<P: Places, S: Alter>(
+    alloc: Global,
+    conn: &mut Connection<S>,
+    command: &Command,
+) -> Result<Reply, StoreFault>
+    requires inside { InTransaction P.version (state S.Store conn.old) }
+    ensures steps { HasCleanDisk (state S.Store conn.new)
+        → (s : State) → IsSoundOffice s → ShowsState P.shows P.version (state S.Store conn.old).now s
+        → IfOk result (λ reply.
+        DoesStep P.shows P.version s command.now reply.done (state S.Store conn.new).now) }
+    ensures bytes { IfOk result (λ reply. reply.json ≡ reply_text reply.done) }
+    ensures goes { OnOk result (Goes (state S.Store conn.old) (state S.Store conn.new)) }
+    ensures cut { OnErr result (IsCut (state S.Store conn.old) (state S.Store conn.new)) }
+    ensures faults { (s : State) → IsSoundOffice s → ShowsState P.shows P.version (state S.Store conn.old).now s
+        → Excused (state S.Store conn.old) (state S.Store conn.new) result }
+{
+    let done = carry_out::<P, S>(alloc, conn, command)?;
+    let json = json_of(alloc, &done)?;
+    Ok(Reply { done, json })
+}
+
+/// Carries out a command in a transaction of its own. The reply's bytes are made before the commit.
+pub(crate) fn apply_to<P: Places, S: Alter>(
+    alloc: Global,
+    conn: &mut Connection<S>,
+    command: &Command,
+) -> Result<Reply, StoreFault>
+    requires office { IsOffice P.version (state S.Store conn.old) }
+    ensures office { IsOffice P.version (state S.Store conn.new) }
+    ensures steps { HasCleanDisk (state S.Store conn.new)
+        → (s : State) → IsSoundOffice s → IsIn P.shows P.version s (state S.Store conn.old)
+        → IfOk result (λ reply. TakesStep P.shows P.version s command.now reply.done (state S.Store conn.new)) }
+    ensures bytes { IfOk result (λ reply. reply.json ≡ reply_text reply.done) }
+    ensures refused { HasCleanDisk (state S.Store conn.new) → IfOk result (λ reply. IsErr reply.done
+        → IsAsBefore (state S.Store conn.old) (state S.Store conn.new)) }
+    ensures busy { HasCleanDisk (state S.Store conn.new)
+        → OnErr result (IsAsBefore (state S.Store conn.old) (state S.Store conn.new)) }
+    ensures faults { HasCleanDisk (state S.Store conn.new)
+        → (s : State) → IsSoundOffice s → IsIn P.shows P.version s (state S.Store conn.old)
+        → IfErr result (HasCause (state S.Store conn.old) (state S.Store conn.new)) }
+    ensures crash { Survives (state S.Store conn.old) (state S.Store conn.new)
+        (MayFind P.shows P.version command.now (state S.Store conn.old)) }
+{
+    begin(conn)?;
+    let outcome = reply_to::<P, S>(alloc, conn, command);
+    settle(conn, outcome)
+}
