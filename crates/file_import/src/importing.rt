@@ -84,8 +84,8 @@ fn judge<P: Places, S: Alter>(
     counts: Counts,
 ) -> Result<Result<Done, Refusal>, StoreFault>
     requires inside { InTransaction P.version (state S.Store conn.old) }
-    ensures tells { Tells S.Store (ShowsWhole P.shows P.version) (HasImported source.now file.now) conn.old conn.new result
-        (λ _. ⊤) (λ _ s reply. HasImported source.now file.now s → today ≡ s.day
+    ensures tells { Tells S.Store (ShowsWhole P.shows P.version) (HasImported source.now file.now) conn.old conn.new
+        result (λ _. ⊤) (λ _ s reply. HasImported source.now file.now s → today ≡ s.day
         → reply ≡ judged s (told_of source.now file.now counts s)) }
 {
     if has_many_containers::<P, S>(alloc, conn)? {
