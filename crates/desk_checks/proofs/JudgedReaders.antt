@@ -37,7 +37,7 @@ use Rattle.office_tables.proofs.CellTexts.{from_first}
 use Rattle.office_tables.proofs.Rows.{kept_all}
 use Rattle.office_tables.proofs.Queries.{asking}
 use Rattle.office_tables.proofs.statements.SelectOf.{select_rows}
-use Rattle.desk_checks.proofs.TableReads.{same_rows}
+use Rattle.doubtful_rows.proofs.TableReads.{same_rows}
 use Rattle.desk_checks.specs.Readers.{is_reader_with, is_reader_answer, are_reader_answers, are_registered_well, readers_in, readers_are_doubtful, number_registered}
 use Rattle.office_tables.proofs.ByNumber.{by, by_key, read_by_number, any_read, any_ordered, length_read, length_ordered}
 

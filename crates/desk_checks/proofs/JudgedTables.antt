@@ -20,7 +20,7 @@ use Rattle.desk_judgments.specs.declared.around.Around.{Around}
 use Rattle.desk_judgments.specs.Rows.{Surrounds}
 use Rattle.desk_checks.specs.Checks.{by, desk_in, orders_are_doubtful, holdings_are_doubtful, runs_are_doubtful}
 use Rattle.desk_checks.specs.Judging.{good_seats_in, good_permits_in, good_holdings_in, good_runs_in, AreOrdersOf}
-use Rattle.desk_checks.specs.Readings.{AreRead, by_rowid, in_any_order}
+use Rattle.doubtful_rows.specs.Readings.{AreRead, by_rowid, in_any_order}
 use Rattle.desk_checks.proofs.Alike.{Alike, read_alike}
 use Rattle.desk_checks.proofs.DesksAlike.{seats_alike, permits_alike, orders_alike, holdings_alike, runs_alike}
 use Rattle.desk_checks.proofs.JudgedReaders.{is_number}

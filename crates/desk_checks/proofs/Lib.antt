@@ -1,10 +1,6 @@
 pub mod Alike
 pub mod DesksAlike
-pub mod TableReads
-pub mod TableTexts
 pub mod JudgedReaders
 pub mod JudgedTables
 pub mod Surroundings
-pub mod ReadCalls
 pub mod Doubts
-pub mod GatheredRows

@@ -12,7 +12,7 @@ use Rattle.office_tables.specs.Cells.{has_unread}
 use Rattle.office_tables.specs.DeskCells.{read_reader, read_seat, read_order, read_holding, read_run, read_run_line, read_permit}
 use Rattle.office_tables.specs.Schema as tables
 use Rattle.desk_checks.specs.Readers.{readers_in}
-use Rattle.desk_checks.specs.Readings.{read_number}
+use Rattle.doubtful_rows.specs.Readings.{read_number}
 use Rattle.desk_checks.specs.declared.doubt.DeskDoubt.{DeskDoubt}
 use Rattle.desk_checks.specs.declared.doubt.DeskDoubt.TheVariants.{Readers, Orders, Holdings, Runs}
 

@@ -1,4 +1,3 @@
 pub mod Readers
-pub mod Readings
 pub mod Checks
 pub mod Judging

@@ -16,9 +16,9 @@ use crate::judging::{
     holdings_are_good, permits_are_good, runs_are_good, seats_are_good, surroundings,
 };
 use crate::readers::registered;
-use crate::tables::orders;
 use desk_core::Limits;
 use desk_judgments::{Around, OrderRow, are_good_orders};
+use doubtful_rows::orders;
 use isad_core::Day;
 use office_tables::StoreFault;
 use sqlite::{Alter, Connection};

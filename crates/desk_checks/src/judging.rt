@@ -15,11 +15,11 @@ ghost use Rattle.desk_checks.specs.Judging.{good_holdings_in, good_runs_in};
 ghost use Rattle.desk_checks.specs.Readers.{number_registered};
 ghost use Rattle.desk_judgments.specs.Rows.{Surrounds, order_row};
 
-use crate::tables::{container_numbers, holdings, permits, run_lines, runs, seats, unit_numbers};
 use desk_core::Limits;
 use desk_judgments::{
     Around, Numbers, OrderRow, are_good_holdings, are_good_permits, are_good_runs, are_good_seats,
 };
+use doubtful_rows::{container_numbers, holdings, permits, run_lines, runs, seats, unit_numbers};
 use isad_core::Day;
 use office_tables::StoreFault;
 use sqlite::{Alter, Connection};

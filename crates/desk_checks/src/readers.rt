@@ -15,7 +15,7 @@ ghost use Rattle.office_tables.specs.Faults.{Excused};
 ghost use Rattle.office_tables.specs.Step.{InOffice};
 ghost use Rattle.desk_checks.specs.Readers.{is_reader_answer, number_registered};
 
-use crate::cells::{cell, number_in};
+use doubtful_rows::{cell, number_in};
 use isad_core::is_blank;
 use office_tables::{Gathering, StoreFault, gather};
 use sqlite::types::ValueRef;

@@ -22,7 +22,7 @@ use Rattle.office_rows.specs.CellCauses.{by, rows_in, places_are_unread}
 use Rattle.office_rows.specs.Reading.{OfficeRows}
 use Rattle.office_rows.proofs.Judging.{none_held}
 use Rattle.desk_checks.specs.Checks.{around_in, is_numbered, cause_of, registration_is_doubtful, orders_are_doubtful, holdings_are_doubtful, runs_are_doubtful, doubt_of_desk, doubtful_desk}
-use Rattle.desk_checks.specs.Readings.{read_number}
+use Rattle.doubtful_rows.specs.Readings.{read_number}
 use Rattle.desk_checks.specs.declared.doubt.DeskDoubt.{DeskDoubt}
 use Rattle.desk_checks.specs.declared.doubt.DeskDoubt.TheVariants.{Readers, Orders, Holdings, Runs}
 use Rattle.shown_office.specs.DeskChecked.{AreOfOffice, of_desk, DeskChecksTellTheCause}

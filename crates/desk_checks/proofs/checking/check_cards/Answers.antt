@@ -7,7 +7,7 @@ use Rattle.desk_judgments.specs.Rows.{Surrounds}
 use Rattle.desk_checks.specs.Checks.{desk_in, doubt_of_orders}
 use Rattle.desk_checks.specs.Judging.{good_permits_in}
 use Rattle.desk_checks.proofs.Doubts.{bad_seats, bad_permits, good_cards}
-use Rattle.desk_checks.proofs.ReadCalls.{same_trees, before, reads_then}
+use Rattle.doubtful_rows.proofs.ReadCalls.{same_trees, before, reads_then}
 use Rattle.desk_checks.proofs.checking.check_cards.Goals as goal
 
 pub returns-then-not-branch-clause-tells : goal.returns-then-not-branch-clause-tells

@@ -11,10 +11,10 @@ use Rattle.desk_judgments.specs.Rows.{Surrounds, order_row}
 use Rattle.desk_judgments.specs.declared.rows.OrderRow.{OrderRow}
 use Rattle.desk_checks.specs.Checks.{desk_in, orders_are_doubtful, doubt_of_past}
 use Rattle.desk_checks.specs.Judging.{AreOrdersOf}
-use Rattle.desk_checks.specs.Readings.{AreRead, by_rowid}
+use Rattle.doubtful_rows.specs.Readings.{AreRead, by_rowid}
 use Rattle.desk_checks.proofs.Doubts.{was_good, was_bad, bad_orders, sound_orders}
 use Rattle.desk_checks.proofs.JudgedTables.{orders_judged}
-use Rattle.desk_checks.proofs.ReadCalls.{same_trees}
+use Rattle.doubtful_rows.proofs.ReadCalls.{same_trees}
 use Rattle.desk_checks.proofs.checking.check_orders.Goals as goal
 use Rattle.desk_checks.proofs.checking.check_orders.Goals.{then-all, else-all}
 

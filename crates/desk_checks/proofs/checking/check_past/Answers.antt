@@ -6,7 +6,7 @@ use Rattle.desk_judgments.specs.Rows.{Surrounds, order_row}
 use Rattle.desk_checks.specs.Checks.{desk_in}
 use Rattle.desk_checks.specs.Judging.{AreOrdersOf, good_runs_in}
 use Rattle.desk_checks.proofs.Doubts.{bad_holdings, bad_runs, no_doubt}
-use Rattle.desk_checks.proofs.ReadCalls.{same_trees, before}
+use Rattle.doubtful_rows.proofs.ReadCalls.{same_trees, before}
 use Rattle.desk_checks.proofs.checking.check_past.Goals as goal
 
 pub returns-then-not-branch-clause-tells : goal.returns-then-not-branch-clause-tells

@@ -8,7 +8,7 @@ use Rattle.desk_checks.specs.Checks.{around_in, desk_in}
 use Rattle.desk_checks.specs.Judging.{doubt_beside_readers}
 use Rattle.desk_checks.specs.Readers.{number_registered}
 use Rattle.desk_checks.proofs.Doubts.{doubt_of_cards}
-use Rattle.desk_checks.proofs.ReadCalls.{same_trees, before, reads_then}
+use Rattle.doubtful_rows.proofs.ReadCalls.{same_trees, before, reads_then}
 use Rattle.desk_checks.proofs.checking.load_check_desk.Goals as goal
 
 pub returns-clause-reads : goal.returns-clause-reads

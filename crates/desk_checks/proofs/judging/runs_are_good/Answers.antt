@@ -4,9 +4,9 @@ use Rattle.sqlite.specs.Tree.{Trees}
 use Rattle.office_tables.specs.DeskCells.{read_run_line}
 use Rattle.office_tables.specs.Schema as tables
 use Rattle.desk_judgments.specs.Rows.{order_row, run_row, run_line_row}
-use Rattle.desk_checks.specs.Readings.{AreRead, in_any_order}
+use Rattle.doubtful_rows.specs.Readings.{AreRead, in_any_order}
 use Rattle.desk_checks.proofs.JudgedTables.{runs_judged}
-use Rattle.desk_checks.proofs.ReadCalls.{same_trees, before}
+use Rattle.doubtful_rows.proofs.ReadCalls.{same_trees, before}
 use Rattle.desk_checks.proofs.judging.runs_are_good.Goals as goal
 use Rattle.desk_checks.proofs.judging.runs_are_good.Goals.{then-all, else-all, then-are_read, else-are_read}
 

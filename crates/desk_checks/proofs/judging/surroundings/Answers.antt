@@ -4,8 +4,8 @@ use Rattle.sqlite.specs.Held.{state}
 use Rattle.sqlite.specs.Tree.{Trees}
 use Rattle.office_tables.specs.Schema as tables
 use Rattle.office_tables.proofs.Calls.{looks_then}
-use Rattle.desk_checks.specs.Readings.{AreRead, in_any_order, read_number}
-use Rattle.desk_checks.proofs.ReadCalls.{reads_well, same_trees, before}
+use Rattle.doubtful_rows.specs.Readings.{AreRead, in_any_order, read_number}
+use Rattle.doubtful_rows.proofs.ReadCalls.{reads_well, same_trees, before}
 use Rattle.desk_checks.proofs.Surroundings.{numbers_met, surrounded}
 use Rattle.desk_checks.proofs.judging.surroundings.Goals as goal
 

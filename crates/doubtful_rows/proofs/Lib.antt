@@ -1,0 +1,5 @@
+pub mod TableReads
+pub mod TableTexts
+pub mod ReadCalls
+pub mod GatheredRows
+pub mod PlaceTexts
