@@ -17,3 +17,5 @@ pub mod WorkedLemmas
 pub mod UnitTold
 pub mod UnitsThere
 pub mod HeadForests
+pub mod Joiners
+pub mod Entered

@@ -34,10 +34,10 @@ pub record HasValued (old new : Database) (unit : ℕ) (values : Values) (units 
   pub described : IsDescribed unit values boxes (filter (λ x. not (nat_eq unit x.unit)) elements) (filter (λ x. not (nat_eq unit x.unit)) housings) new.trees
 
 module _ (unit : ℕ) (values : Values) where
-  abbrev valued : Unit → Unit
+  abbrev pub valued : Unit → Unit
   valued u = if has_id unit u then record u { values = values } else u
 
-  same_id : (u : Unit) → (valued u).id ≡ u.id
+  pub same_id : (u : Unit) → (valued u).id ≡ u.id
   same_id u = kept_by (λ (u : Unit). u.id) (has_id unit u) (record u { values = values }) u refl
 
   -- what is true of a unit by its number and its values

@@ -1,5 +1,8 @@
 pub mod Worked
+pub mod Arrivals
 pub mod Attaching
+pub mod Entering
+pub mod LastPlaces
 pub mod Valuing
 pub mod Removing
 pub mod Offices

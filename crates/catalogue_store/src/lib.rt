@@ -4,7 +4,10 @@
 mod catalogue;
 mod closing;
 mod describing;
+mod entering;
 mod heads;
+mod joining;
+mod last_places;
 pub mod laws;
 mod links;
 mod marking;
@@ -18,6 +21,7 @@ pub use catalogue::{create, is_unit, known};
 pub use catalogue_rows::{NewUnit, OfficeRow};
 pub use closing::{set_closure, set_status};
 pub use describing::{add_unit, replace_values};
+pub use entering::{enter_unit, enter_values};
 pub use heads::{Head, find_head, heads_below, path_heads};
 pub use links::LinkPlaces;
 pub use marking::{Attached, branch_marks, contents_marks, path_marks};
