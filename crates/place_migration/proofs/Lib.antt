@@ -1,0 +1,3 @@
+pub mod Dropping
+pub mod Version
+pub mod Migrating
