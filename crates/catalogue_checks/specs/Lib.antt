@@ -1,0 +1,4 @@
+pub mod Checks
+pub mod Answers
+pub mod Filled
+pub mod Judging

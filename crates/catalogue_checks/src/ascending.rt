@@ -1,0 +1,56 @@
+//! Numbers that ascend.
+
+ghost use Rattle.std.specs.Prelude.{◌≡◌};
+ghost use Rattle.std.specs.List.Sorted.{IsPermutation};
+ghost use Rattle.isad_core.specs.Words.{stands};
+ghost use Rattle.catalogue_core.specs.CatalogueCauses.{all_stand_in};
+
+use std::marker::Model;
+
+/// Numbers, which a clause sees as their list.
+#[derive(Drop)]
+pub(crate) struct Ascending {
+    numbers: Vec<u64>,
+}
+
+impl Model for Ascending {
+    ghost use Rattle.std.specs.Prelude.{ℕ, List};
+    ghost use Rattle.std.specs.List.Sorted.{IsNonDecreasing};
+
+    ghost Value = { List ℕ };
+
+    ghost view = { λ n. n.numbers.items };
+
+    ghost invariant = { λ n. IsNonDecreasing n.numbers.items };
+}
+
+impl Ascending {
+    /// These numbers, which may come in any order.
+    pub(crate) fn sorted(mut numbers: Vec<u64>) -> Ascending
+        ensures { IsPermutation numbers.items result }
+    {
+        numbers.sort_unstable();
+        Ascending { numbers }
+    }
+
+    /// The numbers.
+    pub(crate) fn as_slice(&self) -> &[u64]
+        ensures { result.now ≡ self.now }
+    {
+        &self.numbers
+    }
+
+    /// Whether the number is one of these.
+    pub(crate) fn contains(&self, number: u64) -> bool
+        ensures { result ≡ stands number self.now }
+    {
+        self.numbers.binary_search(&number).is_ok()
+    }
+
+    /// Whether each of the others is one of these.
+    pub(crate) fn contains_all(&self, others: &[u64]) -> bool
+        ensures { result ≡ all_stand_in self.now others.now }
+    {
+        others.iter().all(|number| self.contains(*number))
+    }
+}
