@@ -9,7 +9,7 @@ use Rattle.sqlite.specs.Tree.{Trees}
 use Rattle.tree_core.specs.Forest.{Forest}
 use Rattle.tree_core.specs.Versions.{Version}
 use Rattle.catalogue_core.specs.Merging.{Catalogue}
-use Rattle.catalogue_rows.specs.Shows.{Shows, ShowsNumbered}
+use Rattle.catalogue_rows.specs.Shows.{ShowsNumbered}
 use Rattle.office_tables.specs.Calls.{Makes}
 use Rattle.office_tables.specs.Step.{Goes, IsCut, Looks, OnlyTouches}
 use Rattle.office_tables.specs.declared.fault.StoreFault.{StoreFault}
@@ -83,18 +83,6 @@ pub makes_same_fault : {S X Y Stays Model : Type 0} (g : store.Ghosts S) (shows 
     → Makes {X = X} g shows kept before after (Err e) may made touched → Makes g shows kept before after r may made touched
 makes_same_fault g shows kept may made touched before after e r is it =
     subst (λ k. Makes g shows kept before after k may made touched) (sym is) (record { shows_made = λ clean s m shown allowed. tt; only = λ clean. tt; goes = tt; cut = it.cut; faults = it.faults })
-
--- a call that leaves the number of the next unit, where the catalogue tells it
-pub makes_numbered : {S X : Type 0} (g : store.Ghosts S) (places : Trees → Forest ℕ → Type 0) (version : Version) (kept may : Catalogue → Type 0) (made : Catalogue → Catalogue) (touched : List ℕ) (before after : Held S) (r : Result X StoreFault) → ((c : Catalogue) → (made c).next ≡ c.next)
-    → Makes g (Shows places version) kept before after r may made touched → Makes g (ShowsNumbered places version) kept before after r may made touched
-makes_numbered g places version kept may made touched before after r stays it = record {
-  shows_made = λ clean o c shown allowed.
-      subst (λ n. OnOk r (Shows places version (state g after).now (record o { next_unit = n }) (made c))) (sym (stays c)) (it.shows_made clean (record o { next_unit = c.next }) c shown allowed);
-  only = it.only;
-  goes = it.goes;
-  cut = it.cut;
-  faults = λ o c. it.faults (record o { next_unit = c.next }) c;
-}
 
 -- a call that leaves the settings
 pub makes_legible : {S X : Type 0} (g : store.Ghosts S) (places : Trees → Forest ℕ → Type 0) (version : Version) (kept may : Catalogue → Type 0) (made : Catalogue → Catalogue) (touched : List ℕ) (before after : Held S) (r : Result X StoreFault)

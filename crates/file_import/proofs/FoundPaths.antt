@@ -93,6 +93,12 @@ found_path c source legacy id good h =
     path-each (nat_eq id) (λ (u : Unit). u.id) c.forest
     ∙ ap (map (λ (u : Unit). u.id)) (same_path (has_id id) (is_from source legacy) c.forest (found_number c source legacy id good h))
 
+-- the path of a unit that is found, by its number
+pub path_by_number : (c : Catalogue) (source legacy : Bytes) (v : Unit) → AreGoodUnits c → find (is_from source legacy) (nodes c.forest) ≡ Some v → path (nat_eq v.id) (each (λ (u : Unit). u.id) c.forest) ≡ map (λ (u : Unit). u.id) (path (is_from source legacy) c.forest)
+path_by_number c source legacy v good found =
+    path-each (nat_eq v.id) (λ (u : Unit). u.id) c.forest
+    ∙ ap (map (λ (u : Unit). u.id)) (same_path (has_id v.id) (is_from source legacy) c.forest (found_numbers source legacy (nodes c.forest) v good.ids good.pairs found))
+
 -- ---- depths
 
 -- how deep a row lies that names a catalogued unit, by the length of the unit's path

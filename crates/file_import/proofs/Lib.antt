@@ -11,3 +11,6 @@ pub mod Imports
 pub mod Carried
 pub mod Counting
 pub mod Refused
+pub mod Frames
+pub mod Arrived
+pub mod ComeToStand

@@ -123,7 +123,7 @@ module _ (source : Bytes) (row : Row) (next : ℕ) (c : Catalogue) (turn : IsTur
     unless_is : unless_cause row (cause_at (depth_there c source row.parent)) (with_new source row c) ≡ Ok turn.after
     unless_is = sym (ap (λ n. with_row_at n source row c) e) ∙ turn.placed
 
-    none_against : cause_at (depth_there c source row.parent) ≡ None
+    pub none_against : cause_at (depth_there c source row.parent) ≡ None
     none_against = no_cause (cause_at (depth_there c source row.parent)) unless_is
 
     pub entered_new : entered source (row ∷ []) c ≡ with_new source row c

@@ -1,5 +1,5 @@
 -- What the path of a row's unit says of it.
-use Rattle.std.proofs.Common.{◌≡◌, ℕ, Bool, true, false, cond, List, [], ◌∷◌, ◌++◌, length, map, Option, Some, None, refl, sym, ap, subst, ◌∙◌, inl, inr, nat_eq, arith, append_assoc}
+use Rattle.std.proofs.Common.{◌≡◌, ℕ, Bool, true, false, cond, List, [], ◌∷◌, ◌++◌, map, Option, Some, None, refl, sym, ap, subst, ◌∙◌, inl, inr, nat_eq, append_assoc}
 use Rattle.std.specs.Prelude.{find, option_map}
 use Rattle.std.specs.List.{AllByRecursion, IsDistinct}
 use Rattle.std.specs.Option.{option_to_list}
@@ -10,12 +10,11 @@ use Rattle.isad_core.specs.declared.values.Values.{Values}
 use Rattle.atom_csv.specs.declared.file.Row.{Row}
 use Rattle.tree_core.proofs.Lists.{eqb_comm}
 use Rattle.tree_core.specs.Forest.{Forest, Empty, Node, has, nodes, path}
+use Rattle.tree_core.specs.Tops.{last_but_one}
 use Rattle.catalogue_core.specs.Members.{StandsIn}
-use Rattle.catalogue_core.specs.Pages.{before_last}
 use Rattle.catalogue_core.specs.Units.{Unit, has_id, is_from}
 use Rattle.catalogue_core.proofs.EachOf.{none_found, some_found}
 use Rattle.catalogue_core.proofs.EnteredUnits.{find-append, or_else}
-use Rattle.catalogue_core.proofs.PublishedUnits.{before_last-push}
 use Rattle.catalogue_core.proofs.UnitPlaces.{HaveOwnNumbers}
 use Rattle.office_core.specs.ImportReply.{is_level_above, lacks_essential, remark_if, remark_on, remarks}
 use Rattle.office_core.specs.declared.done.Remark.{Remark}
@@ -25,36 +24,24 @@ use Rattle.file_import.proofs.FoundPaths.{none_path}
 
 -- ---- lists
 
-abbrev last_of : {X : Type 0} → X → List X → X
-last_of x [] = x
-last_of x (y ∷ ys) = last_of y ys
+-- the last of some units, where there is one
+data Ending (us : List Unit) : Type 0 where
+  Nothing : us ≡ [] → Ending us
+  With : (front : List Unit) (last : Unit) → us ≡ front ++ last ∷ [] → Ending us
 
-last_push : {X : Type 0} (d : X) (xs : List X) (x : X) → last_of d (xs ++ x ∷ []) ≡ x
-last_push d [] x = refl
-last_push d (y ∷ ys) x = last_push y ys x
+ending : (us : List Unit) → Ending us
+ending [] = Nothing refl
+ending (u ∷ us) = elim (ending us) [
+  | Nothing e ↦ With [] u (ap (λ l. u ∷ l) e)
+  | With front last e ↦ With (u ∷ front) last (ap (λ l. u ∷ l) e)
+]
 
-same_last : {X : Type 0} (xs ys : List X) (x y : X) → xs ++ x ∷ [] ≡ ys ++ y ∷ [] → x ≡ y
-same_last xs ys x y e = sym (last_push x xs x) ∙ (ap (last_of x) e ∙ last_push x ys y)
-
-map_push : (us : List Unit) (u : Unit) → map (λ (u : Unit). u.id) (us ++ u ∷ []) ≡ map (λ (u : Unit). u.id) us ++ u.id ∷ []
-map_push [] u = refl
-map_push (v ∷ us) u = ap (λ l. v.id ∷ l) (map_push us u)
-
-record EndsWith (us : List Unit) (n : ℕ) : Type 0 where
-  front : List Unit
-  last : Unit
-  are : us ≡ front ++ last ∷ []
-  number : last.id ≡ n
-
-ends_with : (us : List Unit) (ids : List ℕ) (n : ℕ) → map (λ (u : Unit). u.id) us ≡ ids ++ n ∷ [] → EndsWith us n
-ends_with [] [] n e = absurd (cc)
-ends_with [] (i ∷ ids) n e = absurd (cc)
-ends_with (u ∷ []) ids n e = record { front = []; last = u; are = refl; number = same_last [] ids u.id n e }
-ends_with (u ∷ v ∷ us) [] n e = absurd (cc)
-ends_with (u ∷ v ∷ us) (i ∷ ids) n e =
-    let rest : map (λ (u : Unit). u.id) (v ∷ us) ≡ ids ++ n ∷ [] = cc in
-    let it = ends_with (v ∷ us) ids n rest in
-    record { front = u ∷ it.front; last = it.last; are = ap (λ l. u ∷ l) it.are; number = it.number }
+-- the number of the last but one
+last_but_two : (us : List Unit) (p v : Unit) → last_but_one (map (λ (u : Unit). u.id) (us ++ p ∷ v ∷ [])) ≡ Some p.id
+last_but_two [] p v = refl
+last_but_two (x ∷ []) p v = refl
+last_but_two (x ∷ y ∷ []) p v = refl
+last_but_two (x ∷ y ∷ z ∷ us) p v = last_but_two (y ∷ z ∷ us) p v
 
 -- ---- paths
 
@@ -126,41 +113,13 @@ its_values : (f : Forest Unit) (source : Bytes) (row : Row) (v : Unit) → find 
 its_values f source row v e h =
     let both : Some v.values ≡ Some row.values = sym (ap (option_map (λ (unit : Unit). unit.values)) e) ∙ h in cc
 
-module _ (f : Forest Unit) (source : Bytes) (row : Row) (ids : List ℕ) (are : ids ≡ map (λ (u : Unit). u.id) (path (is_from source row.legacy) f)) where
-  abbrev is : Unit → Bool
-  is u = is_from source row.legacy u
+-- no path leads to a unit that is not there
+pub no_remark : (f : Forest Unit) (source : Bytes) (row : Row) → find (is_from source row.legacy) (nodes f) ≡ None → [] ≡ remark_on row.row (path (is_from source row.legacy) f)
+no_remark f source row none = sym (ap (remark_on row.row) (none_path (is_from source row.legacy) f (none_found (is_from source row.legacy) (nodes f) none)))
 
-  found : (above : List ℕ) (n : ℕ) → ids ≡ above ++ n ∷ [] → (v : Unit) × (find (is_from source row.legacy) (nodes f) ≡ Some v)
-  found above n e = at (find (is_from source row.legacy) (nodes f)) refl
-    where
-      at : (r : Option Unit) → find (is_from source row.legacy) (nodes f) ≡ r → (v : Unit) × (find (is_from source row.legacy) (nodes f) ≡ Some v)
-      at (Some v) h = (v, h)
-      at None h =
-          let none : ids ≡ [] = are ∙ ap (map (λ (u : Unit). u.id)) (none_path (is_from source row.legacy) f (none_found (is_from source row.legacy) (nodes f) h)) in
-          absurd (nothing above n (sym e ∙ none))
-        where
-          nothing : (above : List ℕ) (n : ℕ) → above ++ n ∷ [] ≡ [] → ⊥
-          nothing [] n z = cc
-          nothing (m ∷ ms) n z = cc
-
-  -- those above it, by their numbers
-  above_are : (above : List ℕ) (n : ℕ) (v : Unit) (units : List Unit) → ids ≡ above ++ n ∷ [] → path (is_from source row.legacy) f ≡ units ++ v ∷ [] → map (λ (u : Unit). u.id) units ≡ above
-  above_are above n v units e p =
-      let both : map (λ (u : Unit). u.id) units ++ v.id ∷ [] ≡ above ++ n ∷ [] = sym (map_push units v) ∙ (sym (ap (map (λ (u : Unit). u.id)) p) ∙ (sym are ∙ e)) in
-      sym (before_last-push (map (λ (u : Unit). u.id) units) v.id) ∙ (ap before_last both ∙ before_last-push above n)
-
-  pub top_remark : (n : ℕ) (above : List ℕ) → ids ≡ above ++ n ∷ [] → length above ≡ 0 → HasItsUnit f source row → remark_if (lacks_essential row.values) (LacksEssential row.row) ≡ remark_on row.row (path (is_from source row.legacy) f)
-  top_remark n above e none h =
-      let it = found above n e in
-      let v = it.0 in
-      let ends = path_ends (is_from source row.legacy) f v it.1 in
-      let top = empty_of ends.0 (ap length (above_are above n v ends.0 e ends.1) ∙ none) in
-      let values = its_values f source row v it.1 h in
-      sym (ap (remark_on row.row) (ends.1 ∙ ap (λ (us : List Unit). us ++ v ∷ []) top) ∙ ap (λ (x : Values). remark_if (lacks_essential x) (LacksEssential row.row)) values)
-    where
-      empty_of : (us : List Unit) → length (map (λ (u : Unit). u.id) us) ≡ 0 → us ≡ []
-      empty_of [] z = refl
-      empty_of (u ∷ us) z = absurd (omega (arith, z))
+module _ (f : Forest Unit) (source : Bytes) (row : Row) (v : Unit) (found : find (is_from source row.legacy) (nodes f) ≡ Some v) where
+  abbrev IsTop : Type 0
+  IsTop = HasItsUnit f source row → remark_if (lacks_essential row.values) (LacksEssential row.row) ≡ remark_on row.row (path (is_from source row.legacy) f)
 
   -- the unit right above
   pub record IsBelow (parent : ℕ) : Type 0 where
@@ -168,21 +127,49 @@ module _ (f : Forest Unit) (source : Bytes) (row : Row) (ids : List ℕ) (are : 
     pub found_above : find (has_id parent) (nodes f) ≡ Some above
     pub remarked : HasItsUnit f source row → remark_if (is_level_above (rank_of row.values.level) (rank_of above.values.level)) (LevelTooHigh row.row) ≡ remark_on row.row (path (is_from source row.legacy) f)
 
-  pub is_below : (n parent : ℕ) (above front : List ℕ) → HaveOwnNumbers (nodes f) → ids ≡ above ++ n ∷ [] → above ≡ front ++ parent ∷ [] → IsBelow parent
-  is_below n parent above front own e e2 =
-      let it = found above n e in
-      let v = it.0 in
-      let ends = path_ends (is_from source row.legacy) f v it.1 in
-      let last = ends_with ends.0 front parent (above_are above n v ends.0 e ends.1 ∙ e2) in
-      let way : path (is_from source row.legacy) f ≡ last.front ++ last.last ∷ v ∷ [] = ends.1 ∙ (ap (λ (us : List Unit). us ++ v ∷ []) last.are ∙ append_assoc last.front (last.last ∷ []) (v ∷ [])) in
-      let there : StandsIn last.last (nodes f) = on_path (is_from source row.legacy) f last.last (subst (StandsIn last.last) (sym way) (stands_right last.last last.front (last.last ∷ v ∷ []) (inl refl))) in
+  -- it is alone on its path
+  stands_alone : path (is_from source row.legacy) f ≡ v ∷ [] → IsTop
+  stands_alone way h =
+      sym (ap (remark_on row.row) way ∙ ap (λ (x : Values). remark_if (lacks_essential x) (LacksEssential row.row)) (its_values f source row v found h))
+
+  -- it has one above it
+  stands_below : (front : List Unit) (p : Unit) → HaveOwnNumbers (nodes f) → path (is_from source row.legacy) f ≡ front ++ p ∷ v ∷ [] → IsBelow p.id
+  stands_below front p own way =
+      let there : StandsIn p (nodes f) = on_path (is_from source row.legacy) f p (subst (StandsIn p) (sym way) (stands_right p front (p ∷ v ∷ []) (inl refl))) in
       record {
-        above = last.last;
-        found_above = subst (λ k. find (has_id k) (nodes f) ≡ Some last.last) last.number (by_number (nodes f) last.last own there);
+        above = p;
+        found_above = by_number (nodes f) p own there;
         remarked = λ h.
-            ap (λ (x : Values). remark_if (is_level_above (rank_of x.level) (rank_of last.last.values.level)) (LevelTooHigh row.row)) (sym (its_values f source row v it.1 h))
-            ∙ sym (ap (remark_on row.row) way ∙ last_two row.row last.front last.last v);
+            ap (λ (x : Values). remark_if (is_level_above (rank_of x.level) (rank_of p.values.level)) (LevelTooHigh row.row)) (sym (its_values f source row v found h))
+            ∙ sym (ap (remark_on row.row) way ∙ last_two row.row front p v);
       }
+
+  two_last : (ends front : List Unit) (p : Unit) → path (is_from source row.legacy) f ≡ ends ++ v ∷ [] → ends ≡ front ++ p ∷ [] → path (is_from source row.legacy) f ≡ front ++ p ∷ v ∷ []
+  two_last ends front p way is = way ∙ (ap (λ (us : List Unit). us ++ v ∷ []) is ∙ append_assoc front (p ∷ []) (v ∷ []))
+
+  above_is : (front : List Unit) (p : Unit) → path (is_from source row.legacy) f ≡ front ++ p ∷ v ∷ [] → last_but_one (map (λ (u : Unit). u.id) (path (is_from source row.legacy) f)) ≡ Some p.id
+  above_is front p way = ap (λ (us : List Unit). last_but_one (map (λ (u : Unit). u.id) us)) way ∙ last_but_two front p v
+
+  pub top_remark : last_but_one (map (λ (u : Unit). u.id) (path (is_from source row.legacy) f)) ≡ None → HasItsUnit f source row
+      → remark_if (lacks_essential row.values) (LacksEssential row.row) ≡ remark_on row.row (path (is_from source row.legacy) f)
+  top_remark none =
+      let ends = path_ends (is_from source row.legacy) f v found in
+      elim (ending ends.0) [
+        | Nothing e ↦ stands_alone (ends.1 ∙ ap (λ (us : List Unit). us ++ v ∷ []) e)
+        | With front p e ↦ absurd (let some : None ≡ Some p.id = sym none ∙ above_is front p (two_last ends.0 front p ends.1 e) in cc)
+      ]
+
+  pub is_below : (parent : ℕ) → HaveOwnNumbers (nodes f) → last_but_one (map (λ (u : Unit). u.id) (path (is_from source row.legacy) f)) ≡ Some parent → IsBelow parent
+  is_below parent own some =
+      let ends = path_ends (is_from source row.legacy) f v found in
+      elim (ending ends.0) [
+        | Nothing e ↦ absurd (let none : None ≡ Some parent = sym (ap (λ (us : List Unit). last_but_one (map (λ (u : Unit). u.id) us)) (ends.1 ∙ ap (λ (us : List Unit). us ++ v ∷ []) e)) ∙ some in cc)
+        | With front p e ↦
+            let way = two_last ends.0 front p ends.1 e in
+            let same : Some p.id ≡ Some parent = sym (above_is front p way) ∙ some in
+            let number : p.id ≡ parent = cc in
+            subst IsBelow number (stands_below front p own way)
+      ]
 
 -- ---- one row after another
 

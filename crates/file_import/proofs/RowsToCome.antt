@@ -261,11 +261,12 @@ next_comes source rows row rest next counts c d became h is =
         omega (arith, a, b, i, k)
 
 -- all rows are entered
-pub record AllCome (source : Bytes) (rows : List Row) (counts : Counts) (c d : Catalogue) : Type 0 where
+pub record AllCome (source : Bytes) (rows : List Row) (next : ℕ) (counts : Counts) (c d : Catalogue) : Type 0 where
   pub is : entered source rows c ≡ d
   pub counts_are : counts ≡ counts_of c.forest source rows
+  pub number : next + counts.new ≡ (entered source rows c).next
 
-pub all_come : (source : Bytes) (rows : List Row) (next : ℕ) (counts : Counts) (c d : Catalogue) → AreToCome source rows next c → HaveCome source rows [] next counts c d → AllCome source rows counts c d
+pub all_come : (source : Bytes) (rows : List Row) (next : ℕ) (counts : Counts) (c d : Catalogue) → AreToCome source rows next c → HaveCome source rows [] next counts c d → AllCome source rows next counts c d
 all_come source rows next counts c d it h =
     let done : with_rows source rows c ≡ Ok d = sym h.ends in
     let x = h.changed in
@@ -276,6 +277,7 @@ all_come source rows next counts c d it h =
     let same = same_counts c source rows it.units it.apart it.told.once d done in
     record {
       is = ap (or_as_before c) done;
+      number = h.come.number ∙ sym (ap (λ r. (or_as_before c r).next) done);
       counts_are = made (omega (arith, x, changed)) (omega (arith, y, new)) (omega (arith, z, same));
     }
   where

@@ -15,7 +15,7 @@ looked_crash : {X E : Type 0} (r : Result X E) (a b : State) → OnOk r (Looks a
 looked_crash (Ok x) a b looks cut = looks.goes.on.crash
 looked_crash (Err e) a b looks cut = cut.crash
 
-if_ok_then : {X E : Type 0} (r : Result X E) (P Q : X → Type 0) → ((x : X) → P x → Q x) → IfOk r P → IfOk r Q
+pub if_ok_then : {X E : Type 0} (r : Result X E) (P Q : X → Type 0) → ((x : X) → P x → Q x) → IfOk r P → IfOk r Q
 if_ok_then (Ok x) P Q f h = f x h
 if_ok_then (Err e) P Q f h = tt
 

@@ -20,7 +20,7 @@ use Rattle.catalogue_core.specs.RowByRow.{with_rows}
 use Rattle.catalogue_core.specs.Sources.{is_source}
 use Rattle.catalogue_core.specs.Units.{Unit}
 use Rattle.catalogue_rows.specs.Settings.{AreLegibleSettings}
-use Rattle.catalogue_rows.specs.Shows.{ShowsNumbered}
+use Rattle.catalogue_rows.specs.Shows.{ShowsCatalogue, ShowsNumbered}
 use Rattle.catalogue_rows.specs.declared.office.OfficeRow.{OfficeRow}
 use Rattle.file_import.specs.declared.entering.Counts.{Counts}
 
@@ -69,3 +69,8 @@ pub record CanEnter (source : Bytes) (rows : List Row) (c : Catalogue) : Type 0 
 pub record ShowsLegible (places : Trees → Forest ℕ → Type 0) (version : Version) (db : Database) (o : OfficeRow) (c : Catalogue) : Type 0 where
   pub tables : ShowsNumbered places version db o c
   pub settings : AreLegibleSettings o
+
+-- The same but for the places, which come by themselves; and the office's row has the number that was the next before any
+-- of the rows was entered.
+abbrev pub ShowsEntering : Version → Database → OfficeRow → Catalogue → Type 0
+ShowsEntering version db o c = ShowsCatalogue version db o (record c { next = o.next_unit })

@@ -1,5 +1,6 @@
 pub mod Entering
 pub mod Turns
+pub mod Arriving
 pub mod Planning
 pub mod Remarking
 pub mod Importing

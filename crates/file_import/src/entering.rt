@@ -1,34 +1,38 @@
 //! The rows of a file, entered into the tables of a catalogue.
 
-ghost use Rattle.std.specs.Prelude.{◌≡◌, ◌+◌, ◌<◌, ◌^◌, [], ◌∷◌, false, find, None, Some, IfOk, IfSome, ⊤};
+ghost use Rattle.std.specs.Prelude.{◌≡◌, ◌+◌, ◌<◌, ◌≤◌, ◌^◌, [], ◌∷◌, false, find, length, None, Some, IfOk, ⊤};
+ghost use Rattle.std.specs.List.{AllByRecursion};
 ghost use Rattle.sqlite.specs.Held.{state};
 ghost use Rattle.sqlite.specs.State.{HasCleanDisk};
 ghost use Rattle.isad_core.specs.Limits.{IsNumber};
 ghost use Rattle.tree_core.specs.Forest.{nodes};
 ghost use Rattle.catalogue_core.specs.Describing.{with_values};
-ghost use Rattle.catalogue_core.specs.GoodCatalogues.{AreGoodUnits};
 ghost use Rattle.catalogue_core.specs.Intake.{same_values, unit_of};
 ghost use Rattle.catalogue_core.specs.Merging.{Catalogue};
-ghost use Rattle.catalogue_core.specs.RowByRow.{new_at, number_there, with_new};
+ghost use Rattle.catalogue_core.specs.RowByRow.{with_new};
 ghost use Rattle.catalogue_core.specs.Units.{«Unit» as Described, has_id};
-ghost use Rattle.catalogue_rows.specs.Shows.{ShowsNumbered, catalogue_trees};
+ghost use Rattle.catalogue_rows.specs.Shows.{ShowsNumbered, catalogue_trees, described_trees};
 ghost use Rattle.catalogue_rows.specs.declared.office.OfficeRow.{OfficeRow};
+ghost use Rattle.catalogue_store.specs.Arrivals.{IsNumbered};
 ghost use Rattle.office_tables.specs.Calls.{Makes, Tells};
 ghost use Rattle.office_tables.specs.Step.{InTransaction};
-ghost use Rattle.file_import.specs.Entering.{CanEnter, ShowsLegible, counts_of, entered};
+ghost use Rattle.file_import.specs.Arriving.{BringUnits};
+ghost use Rattle.file_import.specs.Entering.{CanEnter, ShowsEntering, ShowsLegible, counts_of, entered};
 ghost use Rattle.file_import.specs.Turns.{AreToCome, IsTurn, MayChange, MayCome, boxes_named, counted, entry_of};
 
+use crate::arriving::arrivals;
+use crate::numbers::number_of;
 use atom_csv::Row;
-use catalogue_rows::office::office_rows;
-use catalogue_store::{NewUnit, Places, add_unit, known, replace_values, values as values_of};
+use catalogue_rows::office::{office_rows, set_next_unit};
+use catalogue_store::{NewUnit, Places, enter_unit, enter_values, values as values_of};
 use isad_core::{Text, Values};
 use office_tables::StoreFault;
-use office_tables::value::NO_NUMBER;
 use sqlite::{Alter, Connection};
 use std::alloc::Global;
+use tree_growth::Arrival;
 
-/// No unit has this number, so that each has a number after it.
-const LAST_NUMBER: u64 = NO_NUMBER - 1;
+/// The numbers of units stay far below this one.
+const LAST_NUMBER: u64 = 1 << 62;
 
 /// How many rows of a file changed a unit, made one, or left one as it was.
 #[derive(Clone, Copy, Debug, PartialEq, Eq)]
@@ -56,27 +60,6 @@ fn are_same(some: &Values, others: &Values) -> bool
     some == others
 }
 
-/// The number of the unit that has this number in the source.
-fn number_of<P: Places, S: Alter>(
-    alloc: Global,
-    conn: &mut Connection<S>,
-    source: &Text,
-    legacy: &Text,
-) -> Result<Option<u64>, StoreFault>
-    requires inside { InTransaction P.version (state S.Store conn.old) }
-    ensures tells { Tells S.Store (ShowsNumbered P.shows P.version) (λ _. ⊤) conn.old conn.new result AreGoodUnits
-        (λ _ c found. AreGoodUnits c → found ≡ number_there c source.now legacy.now) }
-    ensures small { IfOk result (λ found. IfSome found IsNumber) }
-{
-    let Some(unit) = known(alloc, conn, source, legacy)? else {
-        return Ok(None);
-    };
-    if unit >= NO_NUMBER {
-        return Err(StoreFault::Schema);
-    }
-    Ok(Some(unit))
-}
-
 /// Gives a unit the values of its row, where they differ.
 fn enter_known<P: Places, S: Alter>(
     alloc: Global,
@@ -86,10 +69,10 @@ fn enter_known<P: Places, S: Alter>(
 ) -> Result<Entry, StoreFault>
     requires inside { InTransaction P.version (state S.Store conn.old) }
     requires small { IsNumber unit }
-    ensures makes { Makes S.Store (ShowsNumbered P.shows P.version) (λ _. ⊤) conn.old conn.new result
-        (MayChange unit values.now) (with_values unit values.now) catalogue_trees }
+    ensures makes { Makes S.Store (ShowsEntering P.version) (λ _. ⊤) conn.old conn.new result
+        (MayChange unit values.now) (with_values unit values.now) described_trees }
     ensures told { HasCleanDisk (state S.Store conn.new) → (o : OfficeRow) (c : Catalogue)
-        → ShowsNumbered P.shows P.version (state S.Store conn.old).now o c → MayChange unit values.now c
+        → ShowsEntering P.version (state S.Store conn.old).now o c → MayChange unit values.now c
         → (u : Described) → find (has_id unit) (nodes c.forest) ≡ Some u
         → IfOk result (λ entry. entry ≡ entry_of (Some u) values.now) }
 {
@@ -99,26 +82,8 @@ fn enter_known<P: Places, S: Alter>(
     if are_same(&found.values, values) {
         return Ok(Entry::Same);
     }
-    replace_values::<P, S>(alloc, conn, unit, values)?;
+    enter_values(alloc, conn, unit, values)?;
     Ok(Entry::Changed)
-}
-
-/// The number of the parent that the row names, if it names one.
-fn parent_of<P: Places, S: Alter>(
-    alloc: Global,
-    conn: &mut Connection<S>,
-    source: &Text,
-    row: &Row,
-) -> Result<Option<u64>, StoreFault>
-    requires inside { InTransaction P.version (state S.Store conn.old) }
-    ensures tells { Tells S.Store (ShowsNumbered P.shows P.version) (λ _. ⊤) conn.old conn.new result AreGoodUnits
-        (λ _ c found. AreGoodUnits c → found ≡ (new_at c source.now row.now).parent) }
-    ensures small { IfOk result (λ found. IfSome found IsNumber) }
-{
-    match &row.parent {
-        None => Ok(None),
-        Some(parent) => number_of::<P, S>(alloc, conn, source, parent),
-    }
 }
 
 /// Makes the unit of a row.
@@ -130,14 +95,11 @@ fn enter_new<P: Places, S: Alter>(
     row: &Row,
 ) -> Result<Entry, StoreFault>
     requires inside { InTransaction P.version (state S.Store conn.old) }
-    ensures makes { Makes S.Store (ShowsNumbered P.shows P.version) (λ _. ⊤) conn.old conn.new result
-        (MayCome source.now row.now next) (with_new source.now row.now) catalogue_trees }
+    requires small { IsNumber next }
+    ensures makes { Makes S.Store (ShowsEntering P.version) (λ _. ⊤) conn.old conn.new result
+        (MayCome source.now row.now next) (with_new source.now row.now) described_trees }
     ensures told { IfOk result (λ entry. entry ≡ entry_of None row.now.values) }
 {
-    if next >= LAST_NUMBER {
-        return Err(StoreFault::Schema);
-    }
-    let parent = parent_of::<P, S>(alloc, conn, source, row)?;
     let unit = NewUnit {
         id: next,
         source,
@@ -145,7 +107,7 @@ fn enter_new<P: Places, S: Alter>(
         values: &row.values,
         draft: !row.published,
     };
-    add_unit::<P, S>(alloc, conn, parent, &unit)?;
+    enter_unit(alloc, conn, &unit)?;
     Ok(Entry::New)
 }
 
@@ -158,10 +120,11 @@ fn enter_row<P: Places, S: Alter>(
     row: &Row,
 ) -> Result<Entry, StoreFault>
     requires inside { InTransaction P.version (state S.Store conn.old) }
-    ensures makes { Makes S.Store (ShowsNumbered P.shows P.version) (λ _. ⊤) conn.old conn.new result
-        (IsTurn source.now row.now next) (entered source.now (row.now ∷ [])) catalogue_trees }
+    requires small { IsNumber next }
+    ensures makes { Makes S.Store (ShowsEntering P.version) (λ _. ⊤) conn.old conn.new result
+        (IsTurn source.now row.now next) (entered source.now (row.now ∷ [])) described_trees }
     ensures told { HasCleanDisk (state S.Store conn.new) → (o : OfficeRow) (c : Catalogue)
-        → ShowsNumbered P.shows P.version (state S.Store conn.old).now o c → IsTurn source.now row.now next c
+        → ShowsEntering P.version (state S.Store conn.old).now o c → IsTurn source.now row.now next c
         → IfOk result (λ entry. entry ≡ entry_of (unit_of c.forest source.now row.now) row.now.values) }
 {
     let found = number_of::<P, S>(alloc, conn, source, &row.legacy)?;
@@ -194,7 +157,8 @@ fn count(counts: Counts, became: Entry) -> Counts
     }
 }
 
-/// Enters rows one after another, where this is the next number.
+/// Enters rows one after another, where this is the next number. The places of new units have been
+/// entered, or will be.
 fn enter_each<P: Places, S: Alter>(
     alloc: Global,
     conn: &mut Connection<S>,
@@ -203,11 +167,14 @@ fn enter_each<P: Places, S: Alter>(
     rows: &[Row],
 ) -> Result<Counts, StoreFault>
     requires inside { InTransaction P.version (state S.Store conn.old) }
-    ensures makes { Makes S.Store (ShowsNumbered P.shows P.version) (λ _. ⊤) conn.old conn.new result
-        (AreToCome source.now rows.now next) (entered source.now rows.now) catalogue_trees }
+    requires room { next + length rows.now < 2 ^ 63 }
+    ensures makes { Makes S.Store (ShowsEntering P.version) (λ _. ⊤) conn.old conn.new result
+        (AreToCome source.now rows.now next) (entered source.now rows.now) described_trees }
     ensures counts { HasCleanDisk (state S.Store conn.new) → (o : OfficeRow) (c : Catalogue)
-        → ShowsNumbered P.shows P.version (state S.Store conn.old).now o c → AreToCome source.now rows.now next c
-        → IfOk result (λ counts. counts ≡ counts_of c.forest source.now rows.now) }
+        → ShowsEntering P.version (state S.Store conn.old).now o c → AreToCome source.now rows.now next c
+        → IfOk result (λ counts. (counts ≡ counts_of c.forest source.now rows.now)
+        × (next + counts.new ≡ (entered source.now rows.now c).next)) }
+    ensures few { IfOk result (λ counts. counts.new ≤ length rows.now) }
 {
     let mut counts = Counts {
         changed: 0,
@@ -215,8 +182,7 @@ fn enter_each<P: Places, S: Alter>(
         same: 0,
     };
     for row in rows {
-        let number = next.saturating_add(counts.new);
-        let became = enter_row::<P, S>(alloc, conn, source, number, row)?;
+        let became = enter_row::<P, S>(alloc, conn, source, next + counts.new, row)?;
         counts = count(counts, became);
     }
     Ok(counts)
@@ -238,8 +204,9 @@ fn next_number<P: Places, S: Alter>(
     Ok(office.next_unit)
 }
 
-/// No memory holds so many containers. Fewer can be numbered on top of those that an office has.
-const MOST_BOXES: u64 = 1 << 61;
+/// No memory holds so many rows or containers. Fewer can be numbered on top of those that an office
+/// has.
+const MOST_HELD: u64 = 1 << 61;
 
 /// Whether the rows name more containers than any memory holds.
 fn name_too_many(rows: &[Row]) -> bool
@@ -248,12 +215,37 @@ fn name_too_many(rows: &[Row]) -> bool
     let mut named: u64 = 0;
     for row in rows {
         let more = row.values.boxes.len() as u64;
-        if more >= MOST_BOXES - named {
+        if more >= MOST_HELD - named {
             return true;
         }
         named += more;
     }
     false
+}
+
+/// Enters rows, and the places of the units that they bring, all at once. This is the next number.
+fn enter_with_places<P: Places, S: Alter>(
+    alloc: Global,
+    conn: &mut Connection<S>,
+    source: &Text,
+    next: u64,
+    rows: &[Row],
+    arrivals: &[Arrival],
+) -> Result<Counts, StoreFault>
+    requires inside { InTransaction P.version (state S.Store conn.old) }
+    requires room { next + length rows.now < 2 ^ 63 }
+    requires numbered { AllByRecursion IsNumbered arrivals.now }
+    ensures makes { Makes S.Store (ShowsNumbered P.shows P.version) (λ _. ⊤) conn.old conn.new result
+        (BringUnits source.now rows.now next arrivals.now) (entered source.now rows.now) catalogue_trees }
+    ensures counts { HasCleanDisk (state S.Store conn.new) → (o : OfficeRow) (c : Catalogue)
+        → ShowsNumbered P.shows P.version (state S.Store conn.old).now o c
+        → BringUnits source.now rows.now next arrivals.now c
+        → IfOk result (λ counts. counts ≡ counts_of c.forest source.now rows.now) }
+{
+    P::add_all(alloc, conn, arrivals)?;
+    let counts = enter_each::<P, S>(alloc, conn, source, next, rows)?;
+    set_next_unit(conn, next + counts.new)?;
+    Ok(counts)
 }
 
 /// Enters the rows of a file from a source, one after another: the unit of a row takes its values, or comes with the
@@ -271,9 +263,13 @@ pub(crate) fn enter_rows<P: Places, S: Alter>(
         → ShowsLegible P.shows P.version (state S.Store conn.old).now o c → CanEnter source.now rows.now c
         → IfOk result (λ counts. counts ≡ counts_of c.forest source.now rows.now) }
 {
-    if name_too_many(rows) {
+    if name_too_many(rows) || rows.len() as u64 >= MOST_HELD {
         return Err(StoreFault::Memory);
     }
     let next = next_number::<P, S>(alloc, conn)?;
-    enter_each::<P, S>(alloc, conn, source, next, rows)
+    if next >= LAST_NUMBER {
+        return Err(StoreFault::Schema);
+    }
+    let arrivals = arrivals::<P, S>(alloc, conn, source, next, rows)?;
+    enter_with_places::<P, S>(alloc, conn, source, next, rows, &arrivals)
 }

@@ -1,8 +1,11 @@
 //! Files taken into the catalogue of an office, over its tables, within a transaction.
 #![tactic(auto)]
 
+mod arriving;
 mod entering;
 mod importing;
+mod legacy;
+mod numbers;
 mod paths;
 mod planning;
 mod remarks;

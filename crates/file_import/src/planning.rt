@@ -1,10 +1,8 @@
 //! What is known of a file's rows before any is entered.
 
-ghost use Rattle.std.specs.Prelude.{◌≡◌, if◌then◌else◌, List, OnOk, Some, ⊤};
+ghost use Rattle.std.specs.Prelude.{◌≡◌, List, ⊤};
 ghost use Rattle.std.specs.BTreeMap.{get_by_text};
-ghost use Rattle.std.specs.Str.{bytes_eq};
 ghost use Rattle.sqlite.specs.Held.{state};
-ghost use Rattle.isad_core.specs.Texts.{Bytes};
 ghost use Rattle.atom_csv.specs.declared.file.Row.{«Row» as RowTold};
 ghost use Rattle.catalogue_core.specs.Bounds.{IsKept};
 ghost use Rattle.catalogue_core.specs.GoodCatalogues.{AreGoodUnits};
@@ -14,14 +12,14 @@ ghost use Rattle.office_tables.specs.Step.{InTransaction};
 ghost use Rattle.catalogue_rows.specs.Shows.{Shows};
 ghost use Rattle.file_import.specs.Planning.{KnowsDepths, at_depth, placing_of, plan_of};
 
+use crate::legacy::{ByLegacy, remember};
 use crate::paths::path_of;
 use atom_csv::Row;
 use catalogue_store::{Places, known};
 use isad_core::Text;
 use office_tables::StoreFault;
 use sqlite::{Alter, Connection};
-use std::alloc::{AllocError, Global};
-use std::collections::BTreeMap;
+use std::alloc::Global;
 
 /// Why a row cannot be placed: its parent is not there.
 const NO_PARENT: u8 = 11;
@@ -52,26 +50,12 @@ enum Placing {
     Faulty { cause: u8 },
 }
 
-/// How deep a row right below each new row lies, by the row's number in its source.
-type Depths = BTreeMap<String, u64>;
-
-/// Keeps how deep a row right below this one lies.
-#[tactic(auto, using(std::proofs::lemmas::Map::Text::text_keys))]
-fn remember(depths: &mut Depths, alloc: Global, legacy: &Text, below: u64) -> Result<(), AllocError>
-    ensures { OnOk result ((q : Bytes) → get_by_text depths.new q
-        ≡ (if bytes_eq q legacy.now then Some below else get_by_text depths.old q)) }
-{
-    let key = String::from_str(alloc, legacy.as_str())?;
-    depths.insert(key, below)?;
-    Ok(())
-}
-
 /// How deep a new row lies, where a top is 1; none where its parent is not there.
 fn depth_of<P: Places, S: Alter>(
     alloc: Global,
     conn: &mut Connection<S>,
     source: &Text,
-    depths: &Depths,
+    depths: &ByLegacy,
     row: &Row,
 ) -> Result<Option<u64>, StoreFault>
     requires inside { InTransaction P.version (state S.Store conn.old) }
@@ -109,7 +93,7 @@ fn place<P: Places, S: Alter>(
     alloc: Global,
     conn: &mut Connection<S>,
     source: &Text,
-    depths: &Depths,
+    depths: &ByLegacy,
     row: &Row,
 ) -> Result<Placing, StoreFault>
     requires inside { InTransaction P.version (state S.Store conn.old) }
@@ -136,7 +120,7 @@ pub(crate) fn plan<P: Places, S: Alter>(
     ensures tells { Tells S.Store (Shows P.shows P.version) IsKept conn.old conn.new result (λ _. ⊤)
         (λ _ c told. AreGoodUnits c → told ≡ plan_of c.forest source.now rows.now) }
 {
-    let mut depths = BTreeMap::new(alloc);
+    let mut depths = ByLegacy::new(alloc);
     let mut new = 0;
     for row in rows {
         match place::<P, S>(alloc, conn, source, &depths, row)? {

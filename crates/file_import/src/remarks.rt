@@ -20,7 +20,7 @@ ghost use Rattle.office_tables.specs.Step.{InTransaction};
 ghost use Rattle.catalogue_rows.specs.Shows.{Shows};
 ghost use Rattle.file_import.specs.Remarking.{HasEntered, HasItsUnit};
 
-use crate::paths::path_of;
+use crate::numbers::number_of;
 use atom_csv::Row;
 use catalogue_rows::units::levels_of;
 use catalogue_store::Places;
@@ -131,14 +131,13 @@ fn remark_on<P: Places, S: Alter>(
         (λ _ c told. AreGoodUnits c → HasItsUnit c.forest source.now row.now
         → option_to_list told ≡ reply.remark_on row.now.row (path (is_from source.now row.now.legacy) c.forest)) }
 {
-    let path = path_of::<P, S>(alloc, conn, source, &row.legacy)?;
-    let Some((_, above)) = path.split_last() else {
+    let Some(unit) = number_of::<P, S>(alloc, conn, source, &row.legacy)? else {
         return Ok(None);
     };
-    let Some((parent, _)) = above.split_last() else {
+    let Some(parent) = P::parent(alloc, conn, unit)? else {
         return Ok(remark_on_top(row));
     };
-    remark_below::<P, S>(alloc, conn, *parent, row)
+    remark_below::<P, S>(alloc, conn, parent, row)
 }
 
 /// The remarks on the rows of a file from a source, in their order, after all of them were entered.

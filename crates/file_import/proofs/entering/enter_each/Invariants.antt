@@ -2,9 +2,10 @@ use Rattle.std.proofs.Common.{◌≤◌, drop}
 use Rattle.sqlite.specs.Held.{state}
 use Rattle.sqlite.specs.State.{HasCleanDisk}
 use Rattle.catalogue_core.specs.Merging.{Catalogue}
-use Rattle.catalogue_rows.specs.Shows.{ShowsNumbered, catalogue_trees}
+use Rattle.catalogue_rows.specs.Shows.{described_trees}
 use Rattle.catalogue_rows.specs.declared.office.OfficeRow.{OfficeRow}
 use Rattle.office_tables.specs.Step.{Goes, InTransaction, OnlyTouches}
+use Rattle.file_import.specs.Entering.{ShowsEntering}
 use Rattle.file_import.specs.Turns.{AreToCome}
 use Rattle.file_import.proofs.RowsToCome.{HaveCome}
 use Rattle.file_import.proofs.entering.enter_each.Given as goal
@@ -14,7 +15,7 @@ invariant-loop-row g l = record {
   inside : InTransaction g.P.Places.version (state g.S.Store l.initial.conn);
   few : (l.counts.changed ≤ l.row-index) × (l.counts.new ≤ l.row-index) × (l.counts.same ≤ l.row-index);
   goes : Goes (state g.S.Store l.initial.conn) (state g.S.Store l.conn);
-  only : HasCleanDisk (state g.S.Store l.conn) → OnlyTouches catalogue_trees (state g.S.Store l.initial.conn).now (state g.S.Store l.conn).now;
-  so_far : HasCleanDisk (state g.S.Store l.conn) → (o : OfficeRow) (c : Catalogue) → ShowsNumbered g.P.Places.shows g.P.Places.version (state g.S.Store l.initial.conn).now o c → AreToCome l.source l.rows l.next c
-      → (d : Catalogue) × ShowsNumbered g.P.Places.shows g.P.Places.version (state g.S.Store l.conn).now o d × HaveCome l.source l.rows (drop l.row-index l.rows) l.next l.counts c d;
+  only : HasCleanDisk (state g.S.Store l.conn) → OnlyTouches described_trees (state g.S.Store l.initial.conn).now (state g.S.Store l.conn).now;
+  so_far : HasCleanDisk (state g.S.Store l.conn) → (o : OfficeRow) (c : Catalogue) → ShowsEntering g.P.Places.version (state g.S.Store l.initial.conn).now o c → AreToCome l.source l.rows l.next c
+      → (d : Catalogue) × ShowsEntering g.P.Places.version (state g.S.Store l.conn).now o d × HaveCome l.source l.rows (drop l.row-index l.rows) l.next l.counts c d;
 }

@@ -1,16 +1,18 @@
-use Rattle.std.proofs.Common.{◌≡◌, refl, sym, subst}
+use Rattle.std.proofs.Common.{◌≡◌, ◌∙◌, arith, refl, sym, subst}
 use Rattle.std.specs.Prelude.{⊤}
 use Rattle.sqlite.specs.Effect.{Database}
 use Rattle.sqlite.specs.Held.{state}
 use Rattle.catalogue_rows.specs.Shows.{ShowsNumbered, catalogue_trees}
-use Rattle.office_tables.proofs.CallEnds.{makes_not, same_fault}
-use Rattle.office_tables.proofs.Calls.{cut_after, early, goes_nowhere, office_of, still}
+use Rattle.office_tables.proofs.CallEnds.{makes_cut, makes_not, same_fault}
+use Rattle.office_tables.proofs.Calls.{cut_after, early, goes_nowhere, looks_then, office_of, still}
 use Rattle.office_tables.proofs.Outcomes.{if_ok_by}
 use Rattle.office_tables.specs.Step.{Goes}
 use Rattle.office_tables.specs.declared.fault.StoreFault.TheVariants as fault
+use Rattle.file_import.specs.Arriving.{BringUnits}
 use Rattle.file_import.specs.Entering.{CanEnter, ShowsLegible, counts_of, entered}
 use Rattle.file_import.specs.Turns.{AreToCome}
 use Rattle.file_import.proofs.Afterwards.{makes_legible, makes_then}
+use Rattle.file_import.proofs.OneRow.{number_low}
 use Rattle.file_import.proofs.RowsToCome.{all_to_come}
 use Rattle.file_import.proofs.entering.enter_rows.Goals as goal
 
@@ -29,34 +31,79 @@ returns-in_err-next-clause-makes g c =
     (same_fault c.from_residual.result e handed.0 handed.1) told.cut
     (λ o k it may kept clean free. told.faults o k it tt tt clean free)
 
-pub enter_each-requires : goal.enter_each-requires
-enter_each-requires g c = record { inside = still g.P.Places.version (state g.S.Store c.args.conn.now) (state g.S.Store c.next_number.new.conn) c.requires.inside c.in_ok-next.ensures.tells.looks.goes }
+pub returns-then-next-ge-LAST_NUMBER-clause-makes : goal.returns-then-next-ge-LAST_NUMBER-clause-makes
+returns-then-next-ge-LAST_NUMBER-clause-makes g c =
+    let a = state g.S.Store c.args.conn.now in
+    let b = state g.S.Store c.next_number.new.conn in
+    let told = c.in_ok-next.ensures.tells in
+    makes_not g.S.Store (ShowsLegible g.P.Places.shows g.P.Places.version) (λ _. ⊤) (CanEnter c.args.source.now c.args.rows.now) c.args.conn.now c.next_number.new.conn _ (entered c.args.source.now c.args.rows.now) catalogue_trees fault.Schema
+    refl (cut_after a b told.looks.goes.on)
+    (λ o k it may kept clean free. let low = number_low k c.in_ok-next.next may.units (told.answers clean o k it) in absurd (omega (arith, low, c.if-next-ge-LAST_NUMBER.true)))
+
+pub arrivals-requires-clause-inside : goal.arrivals-requires-clause-inside
+arrivals-requires-clause-inside g c = still g.P.Places.version (state g.S.Store c.args.conn.now) (state g.S.Store c.next_number.new.conn) c.requires.inside c.in_ok-next.ensures.tells.looks.goes
+
+pub returns-in_err-arrivals-clause-makes : goal.returns-in_err-arrivals-clause-makes
+returns-in_err-arrivals-clause-makes g c =
+    let handed = c.from_residual-in_err-arrivals.ensures in
+    let e = c.in_err-arrivals.field-0.0 in
+    let looked = c.in_ok-next.ensures.tells.looks in
+    let told = c.in_err-arrivals.ensures.tells in
+    makes_cut g.S.Store (ShowsLegible g.P.Places.shows g.P.Places.version) (λ _. ⊤) (CanEnter c.args.source.now c.args.rows.now) c.args.conn.now c.next_number.new.conn c.arrivals.new.conn c.from_residual-in_err-arrivals.result (entered c.args.source.now c.args.rows.now) catalogue_trees e
+    (same_fault c.from_residual-in_err-arrivals.result e handed.0 handed.1) looked.goes.on told.cut
+    (λ o k it may kept at_b clean free.
+    told.faults (record o { next_unit = k.next }) k (subst (λ (db : Database). ShowsNumbered g.P.Places.shows g.P.Places.version db o k) (sym (looked.same at_b)) it.tables).catalogue may.units tt clean free)
+
+pub enter_with_places-requires-clause-inside : goal.enter_with_places-requires-clause-inside
+enter_with_places-requires-clause-inside g c =
+    let a = state g.S.Store c.args.conn.now in
+    let b = state g.S.Store c.next_number.new.conn in
+    let d = state g.S.Store c.arrivals.new.conn in
+    still g.P.Places.version a d c.requires.inside (looks_then a b d c.in_ok-next.ensures.tells.looks c.in_ok-arrivals.ensures.tells.looks).goes
 
 pub returns-clause-makes : goal.returns-clause-makes
 returns-clause-makes g c =
+    let a = state g.S.Store c.args.conn.now in
+    let b = state g.S.Store c.next_number.new.conn in
+    let d = state g.S.Store c.arrivals.new.conn in
+    let v = g.P.Places.version in
     let source = c.args.source.now in
     let rows = c.args.rows.now in
     let next = c.in_ok-next.next in
     let told = c.in_ok-next.ensures.tells in
-    makes_then g.S.Store (ShowsLegible g.P.Places.shows g.P.Places.version) (λ _. ⊤) (CanEnter source rows) (entered source rows) catalogue_trees c.args.conn.now c.next_number.new.conn told.looks c.enter_each.new.conn (λ _. ⊤) (AreToCome source rows next) (entered source rows) catalogue_trees refl c.enter_each.result
-    (makes_legible g.S.Store g.P.Places.shows g.P.Places.version (λ _. ⊤) (AreToCome source rows next) (entered source rows) catalogue_trees c.next_number.new.conn c.enter_each.new.conn c.enter_each.result c.enter_each.ensures.makes)
+    let units = c.in_ok-arrivals.ensures.tells in
+    let brought = c.deref.result.now in
+    makes_then g.S.Store (ShowsLegible g.P.Places.shows v) (λ _. ⊤) (CanEnter source rows) (entered source rows) catalogue_trees c.args.conn.now c.arrivals.new.conn (looks_then a b d told.looks units.looks) c.enter_with_places.new.conn (λ _. ⊤) (BringUnits source rows next brought) (entered source rows) catalogue_trees refl c.enter_with_places.result
+    (makes_legible g.S.Store g.P.Places.shows v (λ _. ⊤) (BringUnits source rows next brought) (entered source rows) catalogue_trees c.arrivals.new.conn c.enter_with_places.new.conn c.enter_with_places.result c.enter_with_places.ensures.makes)
     (λ o k it may clean.
+    let at_b = early b d _ units.looks.goes.on.crash clean in
     record {
       within = tt;
-      allowed = subst (λ n. AreToCome source rows n k) (sym (told.answers clean o k it)) (all_to_come source rows k may (c.name_too_many.ensures c.if-name_too_many.false));
+      allowed = record {
+        come = subst (λ n. AreToCome source rows n k) (sym (told.answers at_b o k it)) (all_to_come source rows k may (c.name_too_many.ensures c.if-name_too_many.false));
+        units = c.deref.ensures.value ∙ units.answers clean (record o { next_unit = k.next }) k (subst (λ (db : Database). ShowsNumbered g.P.Places.shows v db o k) (sym (told.looks.same at_b)) it.tables).catalogue may.units;
+      };
       same = refl;
     })
 
 pub returns-clause-counts : goal.returns-clause-counts
 returns-clause-counts g c clean o k it may =
+    let a = state g.S.Store c.args.conn.now in
+    let b = state g.S.Store c.next_number.new.conn in
+    let d = state g.S.Store c.arrivals.new.conn in
+    let e = state g.S.Store c.enter_with_places.new.conn in
+    let v = g.P.Places.version in
     let source = c.args.source.now in
     let rows = c.args.rows.now in
-    let b = state g.S.Store c.next_number.new.conn in
-    let d = state g.S.Store c.enter_each.new.conn in
     let told = c.in_ok-next.ensures.tells in
-    if_ok_by c.enter_each.result (Goes b d) (λ counts. counts ≡ counts_of k.forest source rows)
+    let units = c.in_ok-arrivals.ensures.tells in
+    if_ok_by c.enter_with_places.result (Goes d e) (λ counts. counts ≡ counts_of k.forest source rows)
     (λ went.
-    let at_b = early b d _ went.on.crash clean in
-    let come = subst (λ n. AreToCome source rows n k) (sym (told.answers at_b o k it)) (all_to_come source rows k may (c.name_too_many.ensures c.if-name_too_many.false)) in
-    c.enter_each.ensures.counts clean o k (subst (λ (db : Database). ShowsNumbered g.P.Places.shows g.P.Places.version db o k) (sym (told.looks.same at_b)) it.tables) come)
-    c.enter_each.ensures.makes.goes
+    let at_d = early d e _ went.on.crash clean in
+    let at_b = early b d _ units.looks.goes.on.crash at_d in
+    let shown = subst (λ (db : Database). ShowsNumbered g.P.Places.shows v db o k) (sym (told.looks.same at_b)) it.tables in
+    c.enter_with_places.ensures.counts clean o k (subst (λ (db : Database). ShowsNumbered g.P.Places.shows v db o k) (sym (units.looks.same at_d)) shown) (record {
+      come = subst (λ n. AreToCome source rows n k) (sym (told.answers at_b o k it)) (all_to_come source rows k may (c.name_too_many.ensures c.if-name_too_many.false));
+      units = c.deref.ensures.value ∙ units.answers at_d (record o { next_unit = k.next }) k shown.catalogue may.units;
+    }))
+    c.enter_with_places.ensures.makes.goes

@@ -66,7 +66,7 @@ loop-row-preserved g c =
                 (goes_known k.forest c.args.source.now (get_by_text c.loop-row.depths) c.loop-row.new rows (drop (i + 1) rows) item planned (sym w.in-Known.is ∙ is))
             | in-Fits+in_ok-remember-in-Fits w ↦
                 rw (w.depths-is, w.new-is)
-                (goes_new k.forest c.args.source.now (get_by_text c.loop-row.depths) (get_by_text w.remember.new.depths) c.loop-row.new rows (drop (i + 1) rows) item w.in-Fits.below planned (sym w.in-Fits.is ∙ is) w.in_ok-remember-in-Fits.ensures)
+                (goes_new k.forest c.args.source.now (get_by_text c.loop-row.depths) (get_by_text w.remember.new.kept) c.loop-row.new rows (drop (i + 1) rows) item w.in-Fits.below planned (sym w.in-Fits.is ∙ is) w.in_ok-remember-in-Fits.ensures)
           ];
     }
 
