@@ -1,6 +1,7 @@
 pub mod Founding
 pub mod Resting
 pub mod Opening
+pub mod Migrating
 pub mod Sight
 pub mod Rows
 pub mod Applying

@@ -6,6 +6,7 @@ mod faults;
 mod founding;
 pub mod laws;
 mod machine;
+mod migrating;
 mod names;
 mod offices;
 mod questions;

@@ -3,6 +3,8 @@
 ghost use Rattle.std.specs.Prelude.{◌≡◌, false, Err, IfErr, IfOk, IsErr, OnErr};
 ghost use Rattle.sqlite.specs.Held.{state};
 ghost use Rattle.sqlite.specs.State.{HasCleanDisk, Survives};
+ghost use Rattle.tree_core.specs.Versions.{Links, Spans};
+ghost use Rattle.catalogue_rows.specs.Shows.{ShowsLinkRows};
 ghost use Rattle.office_core.specs.Json.{reply_text};
 ghost use Rattle.office_core.specs.Queries.{answer};
 ghost use Rattle.office_core.specs.Rules.{step};
@@ -12,20 +14,24 @@ ghost use Rattle.office_tables.specs.Faults.{IsUnlimited};
 ghost use Rattle.office_tables.specs.Schema.{no_schema, schema};
 ghost use Rattle.running_office.specs.Applying.{HasBusyCause, MayFind, TakesStep};
 ghost use Rattle.running_office.specs.Founding.{founded};
+ghost use Rattle.running_office.specs.Migrating.{MayFindSpans};
 ghost use Rattle.running_office.specs.Opening.{HasOpenCause};
 ghost use Rattle.running_office.specs.Resting.{IsAsBefore, IsIn, is_clean, is_shown};
 ghost use Rattle.running_office.specs.Runs.{IsCall, answered, applied};
 ghost use Rattle.shown_office.specs.Shown.{ShowsState};
+ghost use Rattle.span_places.specs.Shows.{ShowsSpanRows};
 
 use crate::commands::apply_to;
 use crate::faults::{OpenFault, busy};
 use crate::founding::found;
+use crate::migrating::bring_to_spans;
 use crate::names::names_days_and_texts;
 use crate::questions::ask_in;
 use crate::settings::Settings;
-use catalogue_store::Places;
+use catalogue_store::{LinkPlaces, Places};
 use desk_store::is_blank;
 use office_core::{Answer, Busy, Command, Query, Reply};
+use span_places::SpanPlaces;
 use sqlite::{Alter, Connection};
 use std::alloc::Global;
 use std::marker::{Model, PhantomData};
@@ -147,5 +153,44 @@ impl<P: Places, S: Alter> Office<P, S> {
     {
         let Office { conn, places: _ } = self;
         conn
+    }
+}
+
+impl<S: Alter> Office<LinkPlaces, S> {
+    /// Brings the office from version 1 to version 2, in one transaction: its state stays, and the places of its units
+    /// become nested sets. Where that fails, the office is given back as it was; a crash finds version 1 or version 2,
+    /// whole.
+    pub fn migrate(
+        self,
+        alloc: Global,
+    ) -> Result<Office<SpanPlaces, S>, (OpenFault, Office<LinkPlaces, S>)>
+        ensures same { IfOk result (λ office. HasCleanDisk (state S.Store office)
+            → (s : State) → IsIn ShowsLinkRows Links s (state S.Store self)
+            → IsIn ShowsSpanRows Spans s (state S.Store office)) }
+        ensures back { IfErr result (λ e. HasCleanDisk (state S.Store e.1)
+            → IsAsBefore (state S.Store self) (state S.Store e.1)) }
+        ensures cause { IfErr result (λ e. HasCleanDisk (state S.Store e.1)
+            → (s : State) → IsSoundOffice s → IsIn ShowsLinkRows Links s (state S.Store self)
+            → HasOpenCause (state S.Store self) (state S.Store e.1) e.0) }
+        ensures crash { IfOk result (λ office. Survives (state S.Store self) (state S.Store office)
+            (MayFindSpans (state S.Store self))) }
+        ensures crash_back { IfErr result (λ e. Survives (state S.Store self) (state S.Store e.1)
+            (MayFindSpans (state S.Store self))) }
+    {
+        let Office { conn, places: _ } = self;
+        let mut conn = conn;
+        match bring_to_spans(alloc, &mut conn) {
+            Ok(()) => Ok(Office {
+                conn,
+                places: PhantomData,
+            }),
+            Err(fault) => Err((
+                OpenFault::from(fault),
+                Office {
+                    conn,
+                    places: PhantomData,
+                },
+            )),
+        }
     }
 }
