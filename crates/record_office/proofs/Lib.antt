@@ -1,4 +1,6 @@
+pub mod GivenSettings
 pub mod Needs
 pub mod PerformedLemmas
 pub mod Rows
 pub mod StreamLemmas
+pub mod Trials

@@ -1,5 +1,5 @@
 -- Lemmas on what a command did with its streams.
-use Rattle.std.proofs.Common.{◌≡◌, List, Result, Ok, Err, Option, inr, ℕ, IfErr, subst, sym}
+use Rattle.std.proofs.Common.{◌≡◌, List, [], Result, Ok, Err, Option, inr, ℕ, IfErr, subst, sym}
 use Rattle.std.specs.Prelude.{IsErrAnd}
 use Rattle.std.specs.Io.KnownBytes.{Appends, Consumes}
 use Rattle.std.proofs.KnownBytes.{Appends-nil}
@@ -14,9 +14,9 @@ use Rattle.record_office.specs.Performed.{Fails, FailsWith, Known, PreviewFails,
 use Rattle.record_office.specs.Streams.{IsFront}
 use Rattle.record_office.specs.Tasks.{IsTaskOf}
 use Rattle.record_office.specs.declared.faults.Fault.{Fault}
-use Rattle.record_office.specs.declared.faults.Fault.TheVariants.{Refused, Words, File, Memory}
+use Rattle.record_office.specs.declared.faults.Fault.TheVariants.{Refused, Words, Date, Settings, File, Store, Session, Memory}
 use Rattle.record_office.specs.declared.tasks.Task.{Task}
-use Rattle.record_office.specs.declared.tasks.Task.TheVariants.{Preview}
+use Rattle.record_office.specs.declared.tasks.Task.TheVariants.{Preview, Trial}
 
 -- a preview that was broken off while it printed
 pub broken_off : {X : Type 0} (country repo : Text) (path : Option Text) (left left_after held held_after : Known) (r : Result X Fault)
@@ -33,13 +33,15 @@ pub refused_fails : (country repo : Text) (path : Option Text) (left left_after 
     → PreviewFails country repo path left left_after held held fault
 refused_fails country repo path left left_after held file gone (files.Bad row cause) (Refused line) told reads refused front =
     (file, row, cause, reads, refused, told, Appends-nil held)
-refused_fails country repo path left left_after held file gone (files.Bad row cause) (Words text) told reads refused front = absurd told
-refused_fails country repo path left left_after held file gone (files.Bad row cause) File told reads refused front = absurd told
+refused_fails country repo path left left_after held file gone files.Memory Memory told reads refused front = (gone, front, Appends-nil held)
 refused_fails country repo path left left_after held file gone (files.Bad row cause) Memory told reads refused front = (gone, front, Appends-nil held)
 refused_fails country repo path left left_after held file gone files.Memory (Refused line) told reads refused front = absurd told
-refused_fails country repo path left left_after held file gone files.Memory (Words text) told reads refused front = absurd told
-refused_fails country repo path left left_after held file gone files.Memory File told reads refused front = absurd told
-refused_fails country repo path left left_after held file gone files.Memory Memory told reads refused front = (gone, front, Appends-nil held)
+refused_fails country repo path left left_after held file gone why (Words text) told reads refused front = absurd told
+refused_fails country repo path left left_after held file gone why Date told reads refused front = absurd told
+refused_fails country repo path left left_after held file gone why Settings told reads refused front = absurd told
+refused_fails country repo path left left_after held file gone why File told reads refused front = absurd told
+refused_fails country repo path left left_after held file gone why Store told reads refused front = absurd told
+refused_fails country repo path left left_after held file gone why (Session broken) told reads refused front = absurd told
 
 -- a fault that ended a task ended its words
 pub fails : (words : List Text) (task : Task) (left left_after held held_after : Known) (fault : Fault)
@@ -47,5 +49,13 @@ pub fails : (words : List Text) (task : Task) (left left_after held held_after :
     → Fails words left left_after held held_after fault
 fails words task left left_after held held_after (Refused line) is why = (task, is, why)
 fails words (Preview country repo path) left left_after held held_after (Words text) is why = absurd why
+fails words (Trial founding) left left_after held held_after (Words text) is why = absurd why
+fails words (Preview country repo path) left left_after held held_after Date is why = absurd why
+fails words (Trial founding) left left_after held held_after Date is why = absurd why
+fails words (Preview country repo path) left left_after held held_after Settings is why = absurd why
+fails words (Trial founding) left left_after held held_after Settings is why = absurd why
 fails words task left left_after held held_after File is why = (task, is, why)
+fails words task left left_after held held_after Store is why = (task, is, why)
+fails words task left left_after held held_after (Session broken) is why = (task, is, why)
 fails words (Preview country repo path) left left_after held held_after Memory is why = why
+fails words (Trial founding) left left_after held held_after Memory is why = ([], why.0, why.1)

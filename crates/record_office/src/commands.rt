@@ -1,18 +1,23 @@
 //! Does the task that the words name.
-ghost use Rattle.std.specs.Prelude.{ℕ, List, IfErr, IfOk, OnOk, map};
+ghost use Rattle.std.specs.Prelude.{◌≡◌, ℕ, List, IfErr, IfOk, OnOk, map};
 ghost use Rattle.std.specs.Io.KnownBytes.{Consumes};
 ghost use Rattle.std.specs.Option.{option_copied};
 ghost use Rattle.std.specs.String.{string_bytes};
 ghost use Rattle.record_office.specs.Faults.{RefusesFor};
 ghost use Rattle.record_office.specs.Performed.{Does, Fails, FailsWith, IsDone, PreviewDone, PreviewFails, Reads};
+ghost use Rattle.record_office.specs.Performed.{EndsWell, TrialDone, TrialFails, ended_by};
 
-use crate::faults::{Fault, bad_file};
+use crate::faults::{Break, Fault, bad_file};
 use crate::streams::{ReadFault, read_to_end, write_whole};
 use crate::tasks::Task;
 use crate::words::task;
 use atom_csv::FileFault;
+use catalogue_store::LinkPlaces;
+use http_desk::ended::Ended;
+use http_desk::session::talk;
 use isad_core::Text;
-use office::preview;
+use office::{Office, Settings, preview};
+use sqlite::{Connection, MemStore};
 use std::alloc::Global;
 use std::fs::File;
 use std::io::{Read, Write};
@@ -76,17 +81,53 @@ fn print_preview<F: Files, R: Read, W: Write>(
     }
 }
 
+// What comes after a session: nothing, or how it broke off.
+fn after(ended: Ended) -> Result<(), Fault>
+    ensures well { OnOk result (EndsWell ended) }
+    ensures broken { IfErr result (λ f. (broken : Break) × (f ≡ Fault.Session broken) × (ended ≡ ended_by broken)) }
+{
+    match ended {
+        Ended::End | Ended::Closed => Ok(()),
+        Ended::Cut => Err(Fault::Session(Break::Cut)),
+        Ended::ReadFault => Err(Fault::Session(Break::Read)),
+        Ended::WriteFault => Err(Fault::Session(Break::Write)),
+        Ended::Bound => Err(Fault::Session(Break::Bound)),
+    }
+}
+
+// Answers requests on a new office in memory.
+fn try_office<R: Read, W: Write>(
+    alloc: Global,
+    settings: Settings,
+    reader: &mut R,
+    out: &mut W,
+) -> Result<(), Fault>
+    ensures done { OnOk result (TrialDone settings (R.remaining reader.old) (R.remaining reader.new)
+        (W.contents out.old) (W.contents out.new)) }
+    ensures fault { IfErr result (TrialFails settings (R.remaining reader.old) (R.remaining reader.new)
+        (W.contents out.old) (W.contents out.new)) }
+{
+    let conn = Connection::open_in_memory(alloc)?;
+    let mut office = match Office::<LinkPlaces, MemStore>::create(conn, settings) {
+        Ok(office) => office,
+        Err((fault, _)) => return Err(Fault::from(fault)),
+    };
+    let ended = talk(alloc, reader, out, &mut office);
+    let _ = office.into_connection();
+    after(ended)
+}
+
 // Does a task.
 fn do_task<F: Files, R: Read, W: Write>(
     rt: &F,
     alloc: Global,
-    task: &Task,
+    task: Task,
     reader: &mut R,
     out: &mut W,
 ) -> Result<(), Fault>
-    ensures done { OnOk result (Does task.now
+    ensures done { OnOk result (Does task
         (R.remaining reader.old) (R.remaining reader.new) (W.contents out.old) (W.contents out.new)) }
-    ensures fault { IfErr result (FailsWith task.now
+    ensures fault { IfErr result (FailsWith task
         (R.remaining reader.old) (R.remaining reader.new) (W.contents out.old) (W.contents out.new)) }
 {
     match task {
@@ -94,7 +135,8 @@ fn do_task<F: Files, R: Read, W: Write>(
             country,
             repo,
             file,
-        } => print_preview(rt, alloc, country, repo, file.as_ref(), reader, out),
+        } => print_preview(rt, alloc, &country, &repo, file.as_ref(), reader, out),
+        Task::Trial { settings } => try_office(alloc, settings, reader, out),
     }
 }
 
@@ -112,5 +154,5 @@ pub fn run<F: Files, R: Read, W: Write>(
         (R.remaining reader.old) (R.remaining reader.new) (W.contents out.old) (W.contents out.new)) }
 {
     let task = task(alloc, words)?;
-    do_task(rt, alloc, &task, reader, out)
+    do_task(rt, alloc, task, reader, out)
 }

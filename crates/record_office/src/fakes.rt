@@ -117,6 +117,14 @@ impl Page {
         }
     }
 
+    /// Takes pieces of that length.
+    pub fn in_pieces(held: Vec<u8>, piece: usize) -> Page {
+        Page {
+            piece,
+            ..Page::new(held)
+        }
+    }
+
     /// Takes pieces of that length, each after an interruption.
     pub fn interrupted(held: Vec<u8>, piece: usize) -> Page {
         Page {

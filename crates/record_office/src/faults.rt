@@ -5,7 +5,21 @@ ghost use Rattle.record_office.specs.Faults.{bad_file_line, message_of, status_o
 use crate::streams::{ReadFault, WriteFault};
 use crate::tasks::TaskFault;
 use isad_core::Text;
+use office::OpenFault;
 use std::alloc::{AllocError, Global};
+
+/// How a session ended that was not closed after an answer, nor by the end of its input after one.
+#[derive(Clone, Copy, Debug, PartialEq, Eq, Drop)]
+pub enum Break {
+    /// The input ended inside a message.
+    Cut,
+    /// A read failed.
+    Read,
+    /// A write or a flush failed.
+    Write,
+    /// Too many calls were made for one message.
+    Bound,
+}
 
 /// Why a command was not done.
 #[derive(Debug, Drop)]
@@ -14,8 +28,16 @@ pub enum Fault {
     Refused(Text),
     /// The words name no task. This is what to tell their writer.
     Words(Text),
+    /// A day is none of the calendar.
+    Date,
+    /// A setting is not within its limits.
+    Settings,
     /// A file or a standard stream could not be read or written.
     File,
+    /// The store could not be opened, read or written.
+    Store,
+    /// A session broke off.
+    Session(Break),
     /// There was no memory.
     Memory,
 }
@@ -27,8 +49,8 @@ impl Fault {
     {
         match self {
             Fault::Refused(_) => 1,
-            Fault::Words(_) => 2,
-            Fault::File | Fault::Memory => 3,
+            Fault::Words(_) | Fault::Date | Fault::Settings => 2,
+            Fault::File | Fault::Store | Fault::Session(_) | Fault::Memory => 3,
         }
     }
 
@@ -39,7 +61,14 @@ impl Fault {
         match self {
             Fault::Refused(line) => line.as_str(),
             Fault::Words(text) => text.as_str(),
+            Fault::Date => "bad date\n",
+            Fault::Settings => "bad settings\n",
             Fault::File => "file fault\n",
+            Fault::Store => "store fault\n",
+            Fault::Session(Break::Cut) => "cut\n",
+            Fault::Session(Break::Read) => "read fault\n",
+            Fault::Session(Break::Write) => "write fault\n",
+            Fault::Session(Break::Bound) => "bound\n",
             Fault::Memory => "no memory\n",
         }
     }
@@ -71,6 +100,21 @@ impl From<TaskFault> for Fault {
         match fault {
             TaskFault::Memory => Fault::Memory,
             TaskFault::Words(text) => Fault::Words(text),
+            TaskFault::Date => Fault::Date,
+            TaskFault::Settings => Fault::Settings,
+        }
+    }
+}
+
+impl From<OpenFault> for Fault {
+    ghost use Rattle.record_office.specs.Faults.{fault_of_opening};
+
+    ghost from_gives = { λ f e. e ≡ fault_of_opening f };
+
+    fn from(fault: OpenFault) -> Fault {
+        match fault {
+            OpenFault::Memory => Fault::Memory,
+            OpenFault::Disk | OpenFault::Schema => Fault::Store,
         }
     }
 }

@@ -1,12 +1,20 @@
 //! The program: one command of a record office, from its words and streams to its exit status.
 #![tactic(auto)]
 
+#[cfg(test)]
+mod catalogue_days;
 mod command_line;
 mod commands;
 #[cfg(test)]
+mod desk_days;
+#[cfg(test)]
 mod fakes;
 mod faults;
+#[cfg(test)]
+mod office_messages;
 mod perform;
+#[cfg(test)]
+mod steps;
 mod streams;
 mod tasks;
 #[cfg(test)]

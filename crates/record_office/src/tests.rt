@@ -9,19 +9,31 @@ use std::test::Fail;
 use std::{env, fs};
 
 // The first of the worked files, and what its preview prints.
-const FONDS: &str =
+pub const FONDS: &str =
     "legacyId,parentId,identifier,title,levelOfDescription,publicationStatus\n1,,HUL,Hull Dock Company,Fonds,Published\n2,1,1,Minutes,Series,Published\n";
 
 const AIDS: &str = "GB 0999 HUL [Fonds] Hull Dock Company\n  GB 0999 HUL/1 [Series] Minutes\n";
 
-// What clap tells of no words, and of a preview.
+// What clap tells of no words, of each command, and of a number that is none or too great.
 const NO_COMMAND: &str =
-    "error: 'record_office' requires a subcommand but one was not provided\n  [subcommands: preview]\n\nUsage: record_office <COMMAND>\n\nFor more information, try '--help'.\n";
+    "error: 'record_office' requires a subcommand but one was not provided\n  [subcommands: preview, trial]\n\nUsage: record_office <COMMAND>\n\nFor more information, try '--help'.\n";
 
 const HELP: &str =
     "Prints the finding aids of a CSV file's published descriptions\n\nUsage: record_office preview --country <country> --repo <repo> [FILE]\n\nArguments:\n  [FILE]  The CSV file; standard input if it is left out\n\nOptions:\n      --country <country>  The country code, such as GB\n      --repo <repo>        The repository code, such as 0999\n  -h, --help               Print help\n";
 
+const TRIAL_HELP: &str =
+    "Answers requests from standard input on a new office in memory\n\nUsage: record_office trial --country <country> --repo <repo> --seats <seats> --daily <daily> --hands <hands> --run <run> --day <day>\n\nOptions:\n      --country <country>  The country code, such as GB\n      --repo <repo>        The repository code, such as 0999\n      --seats <seats>      How many seats the reading room has, 1 to 200\n      --daily <daily>      How many orders a ticket may place a day, 1 to 50\n      --hands <hands>      How many containers a reader may have at once, 1 to 10\n      --run <run>          How many containers a run takes at most, 1 to 100\n      --day <day>          The day on which the office opens, such as 2024-03-01\n  -h, --help               Print help\n";
+
+const NO_NUMBER: &str =
+    "error: invalid value 'two' for '--seats <seats>': invalid digit found in string\n\nFor more information, try '--help'.\n";
+
+const TOO_GREAT: &str =
+    "error: invalid value '4294967296' for '--seats <seats>': 4294967296 is not in 0..=4294967295\n\nFor more information, try '--help'.\n";
+
 const PREVIEW: &str = "preview --country GB --repo 0999";
+
+pub const TRIAL: &str =
+    "trial --country GB --repo 0999 --seats 2 --daily 3 --hands 1 --run 2 --day 2024-03-01";
 
 // The words of a text.
 fn words_of(alloc: Global, text: &str) -> Result<Vec<String>, Fail> {
@@ -33,7 +45,7 @@ fn words_of(alloc: Global, text: &str) -> Result<Vec<String>, Fail> {
 }
 
 // Performs the words over streams, and wants this exit status, this output and this told.
-fn expect<R: Abort + Files>(
+pub fn expect<R: Abort + Files>(
     rt: &R,
     alloc: Global,
     words: &str,
@@ -131,6 +143,68 @@ fn streams_fail(rt: HostRuntime) -> Result<(), Fail> {
     expect(&rt, alloc, PREVIEW, Pieces::of(file), out, unflushed)
 }
 
+// The day is judged before the settings, and both before anything is read.
+#[test]
+fn settings_are_judged(rt: HostRuntime) -> Result<(), Fail> {
+    let alloc = rt.alloc();
+    for (words, status, told) in [
+        (
+            "trial --country gb --repo 0999 --seats 2 --daily 3 --hands 1 --run 2 --day 2024-03-01",
+            2,
+            "bad settings\n",
+        ),
+        (
+            "trial --country GB --repo 0999 --seats 201 --daily 3 --hands 1 --run 2 --day 2024-03-01",
+            2,
+            "bad settings\n",
+        ),
+        (
+            "trial --country GB --repo 0999 --seats 2 --daily 0 --hands 1 --run 2 --day 2024-03-01",
+            2,
+            "bad settings\n",
+        ),
+        (
+            "trial --country GB --repo 0999 --seats 2 --daily 3 --hands 11 --run 2 --day 2024-03-01",
+            2,
+            "bad settings\n",
+        ),
+        (
+            "trial --country GB --repo 0999 --seats 2 --daily 3 --hands 1 --run 101 --day 9999-12-31",
+            2,
+            "bad settings\n",
+        ),
+        (
+            "trial --country GB --repo 0999 --seats 2 --daily 3 --hands 1 --run 2 --day 2024-02-30",
+            2,
+            "bad date\n",
+        ),
+        (
+            "trial --country gb --repo 0999 --seats 0 --daily 3 --hands 1 --run 2 --day today",
+            2,
+            "bad date\n",
+        ),
+        (
+            "trial --country GB --repo 0999 --seats 200 --daily 50 --hands 10 --run 100 --day 9999-12-31",
+            0,
+            "",
+        ),
+        (
+            "trial --country GB --repo r --seats +1 --daily 01 --hands 1 --run 001 --day 1900-01-01",
+            0,
+            "",
+        ),
+    ] {
+        let out = Page::new(Vec::new(alloc));
+        let reader = if status == 0 {
+            Pieces::of(b"")
+        } else {
+            Pieces::failing(b"")
+        };
+        expect(&rt, alloc, words, reader, out, (status, b"", told))?;
+    }
+    Ok(())
+}
+
 #[test]
 fn a_status_stands_without_its_text(rt: HostRuntime) -> Result<(), Fail> {
     let alloc = rt.alloc();
@@ -157,7 +231,19 @@ fn a_status_stands_without_its_text(rt: HostRuntime) -> Result<(), Fail> {
 #[test]
 fn words_name_no_task(rt: HostRuntime) -> Result<(), Fail> {
     let alloc = rt.alloc();
-    for (words, told) in [("", NO_COMMAND), ("preview --help", HELP)] {
+    for (words, told) in [
+        ("", NO_COMMAND),
+        ("preview --help", HELP),
+        ("trial --help", TRIAL_HELP),
+        (
+            "trial --country GB --repo 0999 --seats two --daily 3 --hands 1 --run 2 --day 2024-03-01",
+            NO_NUMBER,
+        ),
+        (
+            "trial --country GB --repo 0999 --seats 4294967296 --daily 3 --hands 1 --run 2 --day today",
+            TOO_GREAT,
+        ),
+    ] {
         let out = Page::new(Vec::new(alloc));
         let reader = Pieces::failing(b"");
         expect(&rt, alloc, words, reader, out, (2, b"", told))?;
@@ -175,6 +261,11 @@ fn words_name_no_task(rt: HostRuntime) -> Result<(), Fail> {
         "preview --count GB --repo 0999",
         "preview --country GB --repo 0999 a b",
         "-- preview --country GB --repo 0999",
+        "trial --country GB --repo 0999",
+        "trial --country GB --repo 0999 --seats 2 --daily 3 --hands 1 --run 2",
+        "trial --country GB --repo 0999 --seats -1 --daily 3 --hands 1 --run 2 --day 2024-03-01",
+        "trial --country GB --repo 0999 --seats 2 --daily 3 --hands 1 --run 2 --day 2024-03-01 a.csv",
+        "trial --country GB --repo 0999 --seats 2 --seats 2 --daily 3 --hands 1 --run 2 --day 2024-03-01",
     ] {
         let said = words_of(alloc, words)?;
         match task(alloc, said.as_slice()) {
@@ -209,7 +300,7 @@ fn words_name_a_preview(rt: HostRuntime) -> Result<(), Fail> {
                 let path = file.as_ref().map_or("none", |path| path.as_str());
                 assert_eq!(rt; path, wanted_file);
             }
-            Err(fault) => panic!(rt; "{words} gave {fault:?}"),
+            other => panic!(rt; "{words} gave {other:?}"),
         }
     }
     Ok(())

@@ -1,19 +1,21 @@
 //! Reads words as a task.
-ghost use Rattle.std.specs.Prelude.{◌≡◌, ◌∷◌, [], IfErr, IfOk, codes, false, map, true};
+ghost use Rattle.std.specs.Prelude.{◌≡◌, ◌∷◌, [], IfErr, IfOk, List, Option, Some, codes, false, map, true};
 ghost use Rattle.std.specs.String.{string_bytes};
 ghost use Rattle.clap.specs.Matches.{found_of};
 ghost use Rattle.clap.specs.Simple.{subcommand_of};
 ghost use Rattle.clap.specs.Takes.{takes};
 ghost use Rattle.clap.specs.Values.{kind_of};
-ghost use Rattle.clap.specs.Walk.{first_of, rows_of};
+ghost use Rattle.clap.specs.Walk.{Row, Text as Word, first_of, rows_of};
 ghost use Rattle.record_office.specs.CommandLine.{program};
-ghost use Rattle.record_office.specs.Tasks.{HasNeeds, HasText, IsTask, IsTaskOf, IsValue, IsWords};
+ghost use Rattle.record_office.specs.Tasks.{AreGiven, AreRefused, AreRefusedFor, HasNeeds, HasNumber, HasSettings};
+ghost use Rattle.record_office.specs.Tasks.{HasText, IsDay, IsNumber, IsTask, IsTaskOf, IsValue, IsWords};
 
 use crate::command_line::record_office;
 use crate::tasks::{Task, TaskFault};
 use clap::error::ErrorKind;
 use clap::{ArgMatches, Error};
-use isad_core::Text;
+use isad_core::{Day, Text};
+use office::Settings;
 use std::alloc::{AllocError, Global};
 use std::rt::Env;
 use std::{env, io};
@@ -21,12 +23,20 @@ use std::{env, io};
 // What `clap` tells of words that are no text.
 const NO_TEXT: &str = "error: invalid UTF-8 was detected in one or more arguments\n";
 
-// The value of an option that is there.
+// What was said for an option that is there.
+fn said<'a>(found: &ArgMatches<'a>, name: &str) -> &'a str
+    requires { HasText (rows_of (found_of found.now)) name.now }
+    ensures { IsValue (rows_of (found_of found.now)) name.now result.now }
+{
+    found.get_str(name).unwrap()
+}
+
+// The same as a text of its own.
 fn text(alloc: Global, found: &ArgMatches, name: &str) -> Result<Text, AllocError>
     requires { HasText (rows_of (found_of found.now)) name.now }
     ensures { IfOk result (IsValue (rows_of (found_of found.now)) name.now) }
 {
-    Text::new(alloc, found.get_str(name).unwrap())
+    Text::new(alloc, said(found, name))
 }
 
 // The value of what may be left out.
@@ -39,10 +49,59 @@ fn optional_text(alloc: Global, found: &ArgMatches, name: &str) -> Result<Option
     }
 }
 
+// The value of an option that is a number.
+fn number(found: &ArgMatches, name: &str) -> u32
+    requires { HasNumber (rows_of (found_of found.now)) name.now }
+    ensures { IsNumber (rows_of (found_of found.now)) name.now result }
+{
+    found.get_one(name).unwrap()
+}
+
+// The day of an option, where it is one of the calendar.
+fn day(found: &ArgMatches, name: &str) -> Option<Day>
+    requires { HasText (rows_of (found_of found.now)) name.now }
+    ensures { IsDay (rows_of (found_of found.now)) name.now result }
+{
+    Day::parse(said(found, name))
+}
+
+// With what an office begins. The day is judged first.
+#[tactic(auto, using(crate::proofs::GivenSettings::taken_are, crate::proofs::GivenSettings::refused_are))]
+fn settings(alloc: Global, found: &ArgMatches) -> Result<Settings, TaskFault>
+    requires { HasSettings (rows_of (found_of found.now)) }
+    ensures given { IfOk result (AreGiven (rows_of (found_of found.now))) }
+    ensures refused { IfErr result (AreRefused (rows_of (found_of found.now))) }
+{
+    let Some(day) = day(found, "day") else {
+        return Err(TaskFault::Date);
+    };
+    let country = text(alloc, found, "country")?;
+    let repo = text(alloc, found, "repo")?;
+    let seats = number(found, "seats");
+    let daily = number(found, "daily");
+    let hands = number(found, "hands");
+    let run = number(found, "run");
+    match Settings::new(
+        alloc,
+        country.as_str(),
+        repo.as_str(),
+        seats,
+        daily,
+        hands,
+        run,
+        day,
+    ) {
+        Ok(settings) => Ok(settings),
+        Err(fault) => Err(TaskFault::from(fault)),
+    }
+}
+
 // The task that a command and its matches name.
-fn named(alloc: Global, name: &str, found: &ArgMatches) -> Result<Task, AllocError>
+fn named(alloc: Global, name: &str, found: &ArgMatches) -> Result<Task, TaskFault>
     requires { HasNeeds name.now (rows_of (found_of found.now)) }
-    ensures { IfOk result (IsTask name.now (rows_of (found_of found.now))) }
+    ensures named { IfOk result (IsTask name.now (rows_of (found_of found.now))) }
+    ensures refused { IfErr result (λ f. AreRefusedFor (Some (name.now, rows_of (found_of found.now))) f) }
+    ensures taken { IfErr result (λ f. IsWords f → ⊥) }
 {
     match name {
         "preview" => Ok(Task::Preview {
@@ -50,13 +109,17 @@ fn named(alloc: Global, name: &str, found: &ArgMatches) -> Result<Task, AllocErr
             repo: text(alloc, found, "repo")?,
             file: optional_text(alloc, found, "FILE")?,
         }),
+        "trial" => Ok(Task::Trial {
+            settings: settings(alloc, found)?,
+        }),
         _ => unreachable!(),
     }
 }
 
 // Words that `clap` refused, with its text.
 fn refused(alloc: Global, error: &Error) -> TaskFault
-    ensures { IsWords result → kind_of error.now ≡ ErrorKind.OutOfMemory → ⊥ }
+    ensures words { IsWords result → kind_of error.now ≡ ErrorKind.OutOfMemory → ⊥ }
+    ensures others { (m : Option (Word × List Row)) → AreRefusedFor m result }
 {
     if error.kind() == ErrorKind::OutOfMemory {
         return TaskFault::Memory;
@@ -73,13 +136,15 @@ pub fn task(alloc: Global, words: &[String]) -> Result<Task, TaskFault>
     ensures named { IfOk result (IsTaskOf (subcommand_of program (map string_bytes words.now))) }
     // Words are refused only where the command does not take them.
     ensures refused { IfErr result (λ f. IsWords f → takes program (map string_bytes words.now) ≡ false) }
+    // A day or a setting is refused only where the words are taken, with such a value.
+    ensures values { IfErr result (AreRefusedFor (subcommand_of program (map string_bytes words.now))) }
 {
     let matches = match record_office(alloc)?.try_get_matches_from(words) {
         Ok(matches) => matches,
         Err(error) => return Err(refused(alloc, &error)),
     };
     match matches.subcommand() {
-        Some((name, found)) => Ok(named(alloc, name, found)?),
+        Some((name, found)) => named(alloc, name, found),
         None => unreachable!(),
     }
 }

@@ -11,4 +11,5 @@ returns c =
     let helpless = ap app_of_fields c.disable_help_subcommand.ensures ∙ ap (on_top (λ (s : Shape). record s { disable_help_subcommand = true })) wants in
     let told = ap app_of_fields c.about.ensures ∙ helpless in
     let start = ap app_of_fields c.in_ok-bin_name.ensures.0 ∙ told in
-    IfOk-weaker c.subcommand.result _ _ (λ x h. h.shape c.in_ok-preview.ensures.local ∙ ap₂ with_subcommand start c.in_ok-preview.ensures.shape) c.subcommand.ensures
+    let previews = c.in_ok-subcommand.ensures.shape c.in_ok-preview.ensures.local ∙ ap₂ with_subcommand start c.in_ok-preview.ensures.shape in
+    IfOk-weaker c.subcommand-2.result _ _ (λ x h. h.shape c.in_ok-trial.ensures.local ∙ ap₂ with_subcommand previews c.in_ok-trial.ensures.shape) c.subcommand-2.ensures

@@ -1,15 +1,12 @@
 use Rattle.std.proofs.Common.{◌∙◌, Some, ap, sym}
 use Rattle.std.specs.Prelude.{option_map}
-use Rattle.std.proofs.lemmas.Result.{IfOk-weaker}
 use Rattle.clap.specs.Matches.{found_of}
 use Rattle.clap.proofs.WalkLemmas.{first_value-rows}
 use Rattle.record_office.proofs.Needs.{some_of}
-use Rattle.record_office.proofs.words.text.Goals as goal
+use Rattle.record_office.proofs.words.said.Goals as goal
 
 pub unwrap-requires : goal.unwrap-requires
 unwrap-requires c = some_of (λ s. s.now) c.get_str.result _ (c.get_str.ensures ∙ first_value-rows (found_of c.args.found.now) c.args.name.now) c.requires
 
 pub returns : goal.returns
-returns c =
-    let is = sym (first_value-rows (found_of c.args.found.now) c.args.name.now) ∙ (sym c.get_str.ensures ∙ ap (option_map (λ s. s.now)) c.unwrap.ensures) in
-    IfOk-weaker c.new.result _ _ (λ s h. is ∙ ap Some (sym h)) c.new.ensures
+returns c = sym (first_value-rows (found_of c.args.found.now) c.args.name.now) ∙ (sym c.get_str.ensures ∙ ap (option_map (λ s. s.now)) c.unwrap.ensures)

@@ -1,0 +1,104 @@
+#!/usr/bin/env python3
+"""Writes requests for `record_office trial` on standard output: bench/trial/requests.py WHAT N
+
+import N   a file of N units, some 280 bytes each, in one fonds of up to 100 series
+twice N    the same file twice
+tops N     a file of N units, all of them tops
+grow N     N files of 20,000 units
+pages N    a file of N units, then 1,000 questions for the page of a unit, spread over all
+fonds N    a file of N units, 100 of them tops, then 100 questions for the list of tops
+aid N      a file of N units, then one question for the whole finding aid
+orders N   a file of N units, each in a box of its own, a ticket for each 50, then N orders, 50 of each ticket
+small N    N questions for what is out
+body N     a command whose body has N bytes, which are not looked at
+"""
+import sys
+
+TEXT = (
+    "Papers of the dock company on the building and the upkeep and the use of the locks and basins and quays; "
+    "with plans and letters and accounts of the engineers. "
+)
+HEADER = "legacyId,parentId,identifier,title,levelOfDescription,publicationStatus,scopeAndContent,eventDates,extentAndMedium"
+SERIES = 100
+QUESTIONS = 1000
+ROWS = 20000
+ORDERS = 50
+
+
+def row(unit, place, tops, boxed):
+    """A row of the file, where the first rows are the tops, and the next the series below them."""
+    first = unit - place
+    if place < tops:
+        parent, level = "", "Fonds"
+    elif place < tops * (1 + SERIES):
+        parent, level = str(first + place % tops), "Series"
+    else:
+        parent, level = str(first + tops + place % (tops * SERIES)), "File"
+    box = f",Box {unit}" if boxed else ""
+    text = TEXT + TEXT[:60]
+    return f"{unit},{parent},{unit},Unit number {unit},{level},Published,{text},1774-1893,{unit % 90 + 1} volumes{box}"
+
+
+def archive(units, first=1, tops=1, boxed=False):
+    header = HEADER + (",physicalObjectName" if boxed else "")
+    rows = (row(first + place, place, tops, boxed) for place in range(units))
+    return ("\n".join([header, *rows]) + "\n").encode()
+
+
+def post(path, body):
+    return b"POST %s HTTP/1.1\r\nHost: x\r\nContent-Length: %d\r\n\r\n" % (path.encode(), len(body)) + body
+
+
+def get(path):
+    return b"GET %s HTTP/1.1\r\nHost: x\r\n\r\n" % path.encode()
+
+
+def taken_in(*args, **kinds):
+    return post("/desk/import/a", archive(*args, **kinds))
+
+
+def requests(what, n):
+    if what == "import":
+        yield taken_in(n)
+    elif what == "twice":
+        yield 2 * taken_in(n)
+    elif what == "tops":
+        yield taken_in(n, tops=n)
+    elif what == "grow":
+        for k in range(n):
+            yield taken_in(ROWS, first=1 + ROWS * k)
+    elif what == "pages":
+        yield taken_in(n)
+        for i in range(QUESTIONS):
+            yield get(f"/public/units/{1 + i * 7919 % n}")
+    elif what == "fonds":
+        yield taken_in(n, tops=100)
+        for _ in range(100):
+            yield get("/public/fonds")
+    elif what == "aid":
+        yield taken_in(n)
+        yield get("/public/aid/1")
+    elif what == "orders":
+        yield taken_in(n, boxed=True)
+        for _ in range(0, n, ORDERS):
+            yield post("/desk/register", b'{"name":"Ann","until":"2024-12-31"}')
+        for i in range(n):
+            yield post("/public/orders", b'{"ticket":%d,"container":%d}' % (1 + i // ORDERS, 1 + i * 7919 % n))
+    elif what == "small":
+        for _ in range(n):
+            yield get("/desk/issued")
+    elif what == "body":
+        yield post("/desk/run", b"x" * n)
+    else:
+        sys.exit(__doc__)
+
+
+def main():
+    if len(sys.argv) != 3:
+        sys.exit(__doc__)
+    for request in requests(sys.argv[1], int(sys.argv[2])):
+        sys.stdout.buffer.write(request)
+
+
+if __name__ == "__main__":
+    main()
