@@ -1,0 +1,36 @@
+//! New offices, over a store in memory and over a file.
+
+use catalogue_store::Places;
+use isad_core::Day;
+use running_office::{Office, Settings};
+use sqlite::{Connection, MemStore};
+use std::alloc::Global;
+use std::test::Fail;
+
+// Four tops, each published in a box of its own.
+pub const BOXES: &str =
+    "legacyId,identifier,title,publicationStatus,physicalObjectName,physicalObjectLocation\n1,A,Plans,Published,Box 1,Strongroom 2\n2,B,Minutes,Published,Box 2,Strongroom 1\n3,C,Maps,Published,Box 3,Strongroom 1\n4,D,Deeds,Published,Box 4,Strongroom 1\n";
+
+/// The first of March 2024, and so many days later.
+pub fn day_after(days: u8) -> Result<Day, Fail> {
+    match Day::from_number(19783 + i32::from(days)) {
+        Some(day) => Ok(day),
+        None => Err(Fail::new("no day")),
+    }
+}
+
+/// The settings of the worked rows.
+pub fn settings(alloc: Global) -> Result<Settings, Fail> {
+    let day = day_after(0)?;
+    Ok(Settings::new(alloc, "GB", "0999", 2, 3, 1, 2, day)?)
+}
+
+/// A new office in memory.
+pub fn in_memory<P: Places>(alloc: Global) -> Result<Office<P, MemStore>, Fail> {
+    let settings = settings(alloc)?;
+    let conn = Connection::open_in_memory(alloc)?;
+    match Office::<P, MemStore>::create(conn, settings) {
+        Ok(office) => Ok(office),
+        Err((fault, _)) => Err(Fail::from(fault)),
+    }
+}

@@ -1,0 +1,103 @@
+//! Links as no call writes them.
+
+ghost use Rattle.std.specs.Prelude.{OnOk};
+ghost use Rattle.sqlite.specs.Held.{state};
+ghost use Rattle.tree_core.specs.Versions.{Links};
+ghost use Rattle.office_tables.specs.Step.{InTransaction};
+
+use crate::offices::{Row, new_office, told};
+use catalogue_store::{LinkPlaces, StoreFault};
+use office_tables::change;
+use sqlite::types::ValueRef::{Int, Null};
+use sqlite::{Alter, Connection};
+use std::alloc::Global;
+use std::process::Abort;
+use std::test::Fail;
+
+#[tactic(auto, using(crate::proofs::Going::went_on))]
+fn put_all<S: Alter>(conn: &mut Connection<S>, rows: &[Row]) -> Result<(), StoreFault>
+    requires inside { InTransaction Links (state S.Store conn.old) }
+    ensures inside { OnOk result (InTransaction Links (state S.Store conn.new)) }
+{
+    for row in rows {
+        change(
+            conn,
+            "INSERT INTO link (id, parent, ord) VALUES (?1, ?2, ?3)",
+            row,
+        )?;
+    }
+    Ok(())
+}
+
+/// What is told of a new office with these rows.
+fn told_of(alloc: Global, rows: &[Row]) -> Result<String, Fail> {
+    let mut conn = Connection::open_in_memory(alloc)?;
+    new_office::<LinkPlaces, _>(alloc, &mut conn)?;
+    put_all(&mut conn, rows)?;
+    told::<LinkPlaces, _>(alloc, &mut conn)
+}
+
+fn told_of_all(alloc: Global, cases: &[&'static [Row]]) -> Result<String, Fail> {
+    let mut text = String::new(alloc);
+    for &rows in cases {
+        let told = told_of(alloc, rows)?;
+        text.push_str(&told)?;
+    }
+    Ok(text)
+}
+
+const TOP: Row = [Int(1), Null, Int(1)];
+
+/// No units; one; two below one another beside a top; the deepest in the second tree, the greatest number first.
+#[test]
+fn links_of_forests(rt: HostRuntime) -> Result<(), Fail> {
+    let cases: [&'static [Row]; 5] = [
+        &[],
+        &[TOP],
+        &[
+            [Int(4), Null, Int(2)],
+            [Int(3), Int(2), Int(1)],
+            [Int(2), Int(1), Int(1)],
+            TOP,
+        ],
+        &[
+            TOP,
+            [Int(9), Null, Int(2)],
+            [Int(3), Int(9), Int(1)],
+            [Int(2), Int(3), Int(1)],
+            [Int(7), Int(9), Int(2)],
+        ],
+        &[[Int(100000000), Null, Int(1)]],
+    ];
+    let told = told_of_all(rt.alloc(), &cases)?;
+    assert_eq!(&rt;
+        told.as_str(),
+        "to 0;1 to 1;1 2 3 4 to 3;1 2 3 7 9 to 3;100000000 to 1;"
+    );
+    Ok(())
+}
+
+/// Numbers that no unit has, and places of none; a parent without a row; a place twice, left out, and one too low; a
+/// way that leads round.
+#[test]
+fn doubtful_links(rt: HostRuntime) -> Result<(), Fail> {
+    let cases: [&'static [Row]; 14] = [
+        &[[Int(0), Null, Int(1)]],
+        &[[Int(-1), Null, Int(1)]],
+        &[[Int(100000001), Null, Int(1)]],
+        &[TOP, [Int(2), Int(0), Int(1)]],
+        &[TOP, [Int(2), Int(-1), Int(1)]],
+        &[TOP, [Int(2), Int(9), Int(1)]],
+        &[TOP, [Int(2), Null, Int(4294967298)]],
+        &[[Int(1), Null, Int(4294967297)]],
+        &[TOP, [Int(2), Null, Int(-2)]],
+        &[TOP, [Int(2), Null, Int(1)]],
+        &[TOP, [Int(2), Null, Int(3)]],
+        &[TOP, [Int(2), Null, Int(0)]],
+        &[[Int(1), Int(1), Int(1)]],
+        &[TOP, [Int(2), Int(3), Int(1)], [Int(3), Int(2), Int(1)]],
+    ];
+    let told = told_of_all(rt.alloc(), &cases)?;
+    assert_eq!(&rt; told.as_str(), "--------------");
+    Ok(())
+}
