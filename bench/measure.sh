@@ -1,5 +1,6 @@
 #!/usr/bin/env bash
-# Measures the calls of a crate: bench/measure.sh desk, forests, tables, or reading_room (the desk's tables).
+# Measures the calls of a crate: bench/measure.sh desk, forests, tables, reading_room (the desk's tables), or office
+# (commands and questions in a file).
 # The program is built beside a copy of the crates, so that nothing is left behind here.
 set -euo pipefail
 top=$(cd "$(dirname "$0")/.." && pwd)
@@ -8,7 +9,8 @@ desk) needs="isad_core desk_core anyhow" ;;
 forests) needs="tree_core" ;;
 tables) needs="isad_core tree_core catalogue_core office_tables catalogue_rows catalogue_store desk_store sqlite" ;;
 reading_room) needs="isad_core tree_core desk_core catalogue_core office_tables catalogue_rows catalogue_store desk_checks desk_store sqlite" ;;
-*) echo "usage: bench/measure.sh desk|forests|tables|reading_room" >&2; exit 2 ;;
+office) needs="isad_core desk_core catalogue_store span_places office_core running_office sqlite" ;;
+*) echo "usage: bench/measure.sh desk|forests|tables|reading_room|office" >&2; exit 2 ;;
 esac
 copy=$(mktemp -d)
 trap 'rm -rf "$copy"' EXIT
