@@ -1,6 +1,5 @@
 pub mod Ascending
 pub mod Depths
-pub mod Said
 pub mod GoodRows
 pub mod LinkTables
 pub mod SpanTables

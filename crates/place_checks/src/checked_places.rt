@@ -3,11 +3,13 @@
 ghost use Rattle.std.specs.Prelude.{◌≡◌, IfOk, IfSome, is_none};
 ghost use Rattle.sqlite.specs.Held.{state};
 ghost use Rattle.sqlite.specs.State.{HasCleanDisk};
+ghost use Rattle.sqlite.specs.Tree.{Trees};
 ghost use Rattle.catalogue_core.specs.Moves.{height as height_of};
 ghost use Rattle.catalogue_core.specs.CatalogueRows.{places_said};
 ghost use Rattle.office_tables.specs.Asking.{Reads};
 ghost use Rattle.office_tables.specs.Faults.{Excused};
 ghost use Rattle.office_tables.specs.Step.{InTransaction};
+ghost use Rattle.whole_rows.specs.Places.{ShowsWhatItSays};
 ghost use Rattle.place_checks.specs.Places.{AreUnitsPlaced, places_are_doubtful, places_in};
 
 use catalogue_store::Places;
@@ -40,4 +42,7 @@ pub trait CheckedPlaces: Places {
         ensures height { HasCleanDisk (state S.Store conn.new) → IfOk result (λ found. IfSome found (λ placed.
             placed.height ≡ height_of (places_said (places_in Self.version (state S.Store conn.old).now.trees)))) }
         ensures faults { Excused (state S.Store conn.old) (state S.Store conn.new) result };
+
+    /// Rows that are whole, and such as an office can have, show the forest that they say.
+    ghost shows_said: { (db : Trees) → ShowsWhatItSays Self.shows Self.version db };
 }

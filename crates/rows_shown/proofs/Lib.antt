@@ -1,0 +1,4 @@
+pub mod catalogue
+pub mod tables
+pub mod desk
+pub mod WholeTables

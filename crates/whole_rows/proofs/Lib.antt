@@ -1,0 +1,4 @@
+pub mod KeptRows
+pub mod KeptPlaces
+pub mod UniqueRows
+pub mod Said
