@@ -1,10 +1,10 @@
 -- A unit that is closed, or whose closure ends, by the rules and in the tables.
-use Rattle.std.proofs.Common.{◌≡◌, ℕ, ℤ, Bool, true, false, cond, [], ◌∷◌, Option, refl}
+use Rattle.std.proofs.Common.{◌≡◌, ℕ, ℤ, Bool, true, false, cond, [], ◌∷◌, Option, refl, sym, ap}
 use Rattle.std.specs.Prelude.{⊤}
 use Rattle.sqlite.specs.State as store
 use Rattle.sqlite.specs.State.{HasCleanDisk}
 use Rattle.sqlite.specs.Tree.{Trees}
-use Rattle.tree_core.specs.Forest.{Forest, each, nodes}
+use Rattle.tree_core.specs.Forest.{Forest, cut, each, nodes}
 use Rattle.tree_core.specs.Versions.{Version}
 use Rattle.catalogue_core.specs.Finding.{has_unit}
 use Rattle.catalogue_core.specs.GoodCatalogues.{IsSomeDay}
@@ -26,10 +26,12 @@ use Rattle.office_core.specs.declared.command.Command.TheVariants as command
 use Rattle.office_core.specs.declared.done.Done.TheVariants as done
 use Rattle.office_tables.specs.Schema as tables
 use Rattle.office_tables.specs.Step.{OnlyTouches}
+use Rattle.shown_office.specs.Gate.{OthersAreOpen}
 use Rattle.shown_office.specs.Judging.{CanBeJudged}
 use Rattle.shown_office.specs.Shown.{office_of}
 use Rattle.shown_office.proofs.Changed.{shown_with}
-use Rattle.shown_office.proofs.Judged.{judged_with}
+use Rattle.shown_office.proofs.Judged.{distinct_ids, judged_with}
+use Rattle.shown_office.proofs.OpenElsewhere.{none_left, others_open, stays_changed}
 use Rattle.shown_office.proofs.Passing.{IsChange}
 
 module _ (u : ℕ) (until : Option ℤ) where
@@ -62,3 +64,20 @@ module _ (u : ℕ) (until : Option ℤ) where
     last = λ s so. (let there = so.1 in rw there refl);
     tells = λ clean s so it. refl;
   }
+
+  same_id : (b : Bool) (unit : Unit) → (let new : Unit = cond b (record unit { until = until }) unit in new.id) ≡ unit.id
+  same_id true unit = refl
+  same_id false unit = refl
+
+  same_boxes : (b : Bool) (unit : Unit) → (let new : Unit = cond b (record unit { until = until }) unit in new.values.boxes) ≡ unit.values.boxes
+  same_boxes true unit = refl
+  same_boxes false unit = refl
+
+  -- of what is out only what is near the unit can be withheld by it
+  pub closes_near : (s : State) → IsSoundOffice s → IsSomeDay until → OthersAreOpen u (after s (command.SetClosure u until))
+  closes_near s sound day =
+      let f = s.catalogue.forest in
+      let judged = judged_after s sound day in
+      others_open s sound (each change f) u judged
+      (stays_changed change u f (λ unit. same_id (has_id u unit) unit) (λ unit. same_boxes (has_id u unit) unit) (distinct_ids s.catalogue sound.sound.units) judged.units
+      (all_so (λ (unit : Unit). has_id u unit ≡ false) (λ (unit : Unit). change unit ≡ unit) (λ unit other. ap (λ b. cond b (record unit { until = until }) unit) other) (nodes (cut (has_id u) f)) (none_left u f)))

@@ -1,5 +1,6 @@
 pub mod Closed
 pub mod MarkHeights
+pub mod CutMoved
 pub mod Moved
 pub mod PermitsLeft
 pub mod ReadMarks

@@ -8,33 +8,41 @@ use Rattle.sqlite.specs.State.{HasCleanDisk}
 use Rattle.sqlite.specs.Tree.{Trees}
 use Rattle.isad_core.specs.Days.{is_day_number}
 use Rattle.tree_core.specs.Bearing.{MayCut}
-use Rattle.tree_core.specs.Forest.{Forest, branch, cut, each}
+use Rattle.tree_core.specs.Forest.{Forest, branch, cut, each, nodes}
 use Rattle.tree_core.specs.Versions.{Version}
 use Rattle.tree_core.proofs.EachLemmas.{branch-each}
 use Rattle.desk_core.specs.DeskRows.{Desk, PermitRow}
+use Rattle.desk_store.specs.Holdings.{issued_of}
+use Rattle.desk_store.specs.declared.holdings.Loan.{Loan}
 use Rattle.desk_store.specs.Shows.{IsNumberOf, ShowsDesk}
 use Rattle.catalogue_core.specs.Finding.{has_unit}
 use Rattle.catalogue_core.specs.GoodCatalogues.{IsSomeDay}
 use Rattle.catalogue_core.specs.LegibleCatalogues.{HasLegibleTexts, IsLegibleCatalogue}
 use Rattle.catalogue_core.specs.Merging.{Catalogue}
 use Rattle.catalogue_core.specs.Units.{Unit, has_id}
+use Rattle.catalogue_core.proofs.DistinctLists.{all_so}
 use Rattle.catalogue_core.proofs.EachAfter.{all_cut}
 use Rattle.catalogue_core.proofs.EachOf.{all_filtered}
 use Rattle.catalogue_core.proofs.GoodChanges.{cut_good}
+use Rattle.catalogue_core.proofs.UnitsAfter.{each_there}
 use Rattle.catalogue_rows.specs.Shows.{Shows}
 use Rattle.catalogue_rows.specs.declared.office.OfficeRow.{OfficeRow}
 use Rattle.catalogue_store.specs.Removing.{HasNoBranch, tables_of_units}
 use Rattle.office_core.specs.Rules.{removed}
 use Rattle.office_core.specs.SoundOffice.{IsSoundOffice}
-use Rattle.office_core.specs.State.{Permit, State}
+use Rattle.office_core.specs.State.{Permit, State, is_permitted}
 use Rattle.office_core.specs.declared.command.Command.TheVariants as command
 use Rattle.office_core.specs.declared.done.Done.TheVariants as done
 use Rattle.office_rows.specs.DeskShown.{permit_rows}
 use Rattle.office_rows.specs.Reading.{tables}
 use Rattle.office_rows.proofs.LegibleRows.{desk_legible}
+use Rattle.shown_office.specs.Gate.{AreAsked, AreEnough}
 use Rattle.shown_office.specs.Judging.{CanBeJudged}
 use Rattle.shown_office.specs.Shown.{office_of}
+use Rattle.shown_office.proofs.Gates.{enough_of}
 use Rattle.shown_office.proofs.Judged.{distinct_ids, judged_with}
+use Rattle.shown_office.proofs.OpenByPermits.{IsAlike, permitted_left}
+use Rattle.shown_office.proofs.OpenElsewhere.{stays_permitted, still_open}
 use Rattle.shown_office.proofs.Passing.{IsChange}
 use Rattle.shown_office.proofs.PermitFrames.{desk_with_permits}
 use Rattle.catalogue_commands.proofs.PermitsLeft.{permits_left}
@@ -72,11 +80,11 @@ module _ (u : ℕ) where
         orders = base.orders;
       }
 
-  pub removes : (places : Trees → Forest ℕ → Type 0) (version : Version) (old new : store.State) (today : ℤ) (n : ℕ)
+  pub removes : (version : Version) (loans : List Loan) (places : Trees → Forest ℕ → Type 0) (old new : store.State) (today : ℤ) (n : ℕ)
       → (HasCleanDisk new → (o : OfficeRow) (k : Catalogue) → Shows places version old.now o k → MayCut has_id u k.forest → HasNoBranch places version u o k old.now new.now)
       → (HasCleanDisk new → (f : Forest ℕ) → places old.now.trees f → n ≡ length (branch (nat_eq u) f))
-      → IsChange places version (λ s. (today ≡ s.day) × (has_unit s.catalogue.forest u ≡ true)) (command.Remove u) today (done.Remove n) old new
-  removes places version old new today n takes count = record {
+      → IsChange places version (λ s. (today ≡ s.day) × (has_unit s.catalogue.forest u ≡ true) × AreAsked u s (issued_of (tables version s).desk) loans) (command.Remove u) today (done.Remove n) old new
+  removes version loans places old new today n takes count = record {
     shows = λ clean s sound so it.
         let left = takes clean (office_of s) s.catalogue it.catalogue so.1 in
         let d : Desk = (tables version s).desk in
@@ -95,3 +103,19 @@ module _ (u : ℕ) where
         ap done.Remove (count clean (each (λ (unit : Unit). unit.id) f) it.catalogue.shown
         ∙ ap length (branch-each (nat_eq u) (λ (unit : Unit). unit.id) f) ∙ length-map (branch (has_id u) f) (λ (unit : Unit). unit.id));
   }
+
+  abbrev left : State → ℕ → List Permit
+  left s t = filter (λ permit. has_unit (cut (has_id u) s.catalogue.forest) permit.unit) (s.permits t)
+
+  -- of what is out only what is near the unit can be withheld by its removal
+  pub removes_near : (version : Version) (loans : List Loan) (s : State) → IsSoundOffice s → has_unit s.catalogue.forest u ≡ true → AreAsked u s (issued_of (tables version s).desk) loans → AreEnough loans (removed s u)
+  removes_near version loans s sound there asked =
+      let rest = cut (has_id u) s.catalogue.forest in
+      enough_of version (removed s u) (judged_after s sound there) asked.test
+      (λ c out. still_open s sound rest (left s) c (λ t box is was.
+      let permitted = is_permitted s.day (s.permits t) in
+      let permitted_now = is_permitted s.day (left s t) in
+      sym (stays_permitted s sound u c (asked.near c out) box is permitted permitted_now
+      (all_so (λ (unit : Unit). has_unit rest unit.id ≡ true) (IsAlike permitted permitted_now) (λ unit there. sym (permitted_left (has_unit rest) s.day (s.permits t) unit.id there)) (nodes rest)
+      (each_there (nodes rest) (nodes rest) (λ v h. h)))) ∙ was))
+      loans asked.are

@@ -1,22 +1,28 @@
 -- Units that become drafts or are published, by the rules and in the tables.
-use Rattle.std.proofs.Common.{◌≡◌, ℕ, ℤ, Bool, true, false, cond, List, [], ◌∷◌, length, refl, ap}
-use Rattle.std.specs.Prelude.{⊤}
+use Rattle.std.proofs.Common.{◌≡◌, ℕ, ℤ, Bool, true, false, not, cond, List, [], ◌∷◌, length, inl, inr, refl, sym, ap, ◌∙◌, nat_eq}
+use Rattle.std.specs.Prelude.{◌||◌, ⊤}
+use Rattle.std.specs.List.{AllByRecursion, list_any}
+use Rattle.std.proofs.lemmas.Bool.{cases_Bool, false≢true}
 use Rattle.sqlite.specs.State as store
 use Rattle.sqlite.specs.State.{HasCleanDisk}
 use Rattle.sqlite.specs.Tree.{Trees}
-use Rattle.tree_core.specs.Forest.{Forest, each, nodes}
+use Rattle.tree_core.specs.Forest.{Forest, HasDistinctIds, branch, cut, each, has, nodes}
+use Rattle.tree_core.proofs.EachLemmas.{cut-each, has-each, nodes-each}
+use Rattle.tree_core.proofs.Lists.{any_agree, eqb_comm}
+use Rattle.tree_core.proofs.SpanShifts.{tree_apart}
 use Rattle.tree_core.specs.Versions.{Version}
 use Rattle.catalogue_core.specs.Finding.{has_unit}
 use Rattle.catalogue_core.specs.GoodCatalogues.{IsSomeDay}
 use Rattle.catalogue_core.specs.LegibleCatalogues.{IsLegibleCatalogue}
 use Rattle.catalogue_core.specs.Merging.{Catalogue}
 use Rattle.catalogue_core.specs.Statuses.{chosen, chosen_units, is_chosen, with_status}
-use Rattle.catalogue_core.specs.Units.{Unit}
+use Rattle.catalogue_core.specs.Units.{Unit, has_id}
 use Rattle.catalogue_core.proofs.DistinctLists.{all_so}
 use Rattle.catalogue_core.proofs.GoodChanges.{each_good}
 use Rattle.catalogue_core.proofs.ImportedAgain.{all_each}
 use Rattle.catalogue_core.proofs.KeptUnits.{status_keeps}
 use Rattle.catalogue_core.proofs.LegibleMerges.{each_legible}
+use Rattle.catalogue_core.proofs.UnitsAfter.{each_there}
 use Rattle.catalogue_rows.specs.Shows.{Shows}
 use Rattle.catalogue_rows.specs.declared.office.OfficeRow.{OfficeRow}
 use Rattle.office_core.specs.Rules.{after}
@@ -26,11 +32,20 @@ use Rattle.office_core.specs.declared.command.Command.TheVariants as command
 use Rattle.office_core.specs.declared.done.Done.TheVariants as done
 use Rattle.office_tables.specs.Schema as tables
 use Rattle.office_tables.specs.Step.{OnlyTouches}
+use Rattle.shown_office.specs.Gate.{OthersAreOpen}
 use Rattle.shown_office.specs.Judging.{CanBeJudged}
 use Rattle.shown_office.specs.Shown.{office_of}
 use Rattle.shown_office.proofs.Changed.{shown_with}
-use Rattle.shown_office.proofs.Judged.{judged_with}
+use Rattle.shown_office.proofs.Judged.{distinct_ids, judged_with}
+use Rattle.shown_office.proofs.OpenElsewhere.{none_left, others_open, stays_changed}
 use Rattle.shown_office.proofs.Passing.{IsChange}
+
+abbrev id_of : Unit → ℕ
+id_of unit = unit.id
+
+-- each unit is there, by its number
+all_here : (f : Forest Unit) → AllByRecursion (λ (unit : Unit). has (nat_eq unit.id) (each id_of f) ≡ true) (nodes f)
+all_here f = all_so (λ (unit : Unit). has_unit f unit.id ≡ true) (λ (unit : Unit). has (nat_eq unit.id) (each id_of f) ≡ true) (λ unit there. has-each (nat_eq unit.id) id_of f ∙ there) (nodes f) (each_there (nodes f) (nodes f) (λ v h. h))
 
 module _ (u : ℕ) (draft whole : Bool) where
   abbrev change : List ℕ → Unit → Unit
@@ -64,3 +79,37 @@ module _ (u : ℕ) (draft whole : Bool) where
     last = λ s so. (let there = so.1 in rw there refl);
     tells = λ clean s so it. ap done.SetStatus (count clean (each (λ (unit : Unit). unit.id) s.catalogue.forest) it.catalogue.shown);
   }
+
+  same_id : (b : Bool) (unit : Unit) → (let new : Unit = cond b (record unit { draft = draft }) unit in new.id) ≡ unit.id
+  same_id true unit = refl
+  same_id false unit = refl
+
+  same_boxes : (b : Bool) (unit : Unit) → (let new : Unit = cond b (record unit { draft = draft }) unit in new.values.boxes) ≡ unit.values.boxes
+  same_boxes true unit = refl
+  same_boxes false unit = refl
+
+  -- what is left beside the branch is not chosen
+  not_chosen : (b : Bool) (f : Forest Unit) → HasDistinctIds (each id_of f) → has_unit f u ≡ true → AllByRecursion (λ (unit : Unit). is_chosen (chosen_units b u (each id_of f)) unit ≡ false) (nodes (cut (has_id u) f))
+  not_chosen false f once there = all_so (λ (unit : Unit). has_id u unit ≡ false) (λ (unit : Unit). is_chosen (u ∷ []) unit ≡ false) (λ unit other. ap (λ b. b || false) other) (nodes (cut (has_id u) f)) (none_left u f)
+  not_chosen true f once there =
+      all_so (λ (unit : Unit). has (nat_eq unit.id) (each id_of (cut (has_id u) f)) ≡ true) (λ (unit : Unit). is_chosen (branch (nat_eq u) (each id_of f)) unit ≡ false) apart (nodes (cut (has_id u) f))
+      (all_here (cut (has_id u) f))
+    where
+      apart : (unit : Unit) → has (nat_eq unit.id) (each id_of (cut (has_id u) f)) ≡ true → is_chosen (branch (nat_eq u) (each id_of f)) unit ≡ false
+      apart unit left = elim (cases_Bool (list_any (nat_eq unit.id) (branch (nat_eq u) (each id_of f)))) [
+        | inl taken ↦
+            let gone = tree_apart u unit.id (each id_of f) once (has-each (nat_eq u) id_of f ∙ there) taken in
+            absurd (false≢true (sym gone ∙ ap (has (nat_eq unit.id)) (sym (cut-each (nat_eq u) id_of f)) ∙ left))
+        | inr other ↦ any_agree (λ id. has_id id unit) (nat_eq unit.id) (branch (nat_eq u) (each id_of f)) (λ id. eqb_comm id unit.id) ∙ other
+      ]
+
+  -- of what is out only what is near the unit can be withheld by it
+  pub sets_near : (s : State) → IsSoundOffice s → has_unit s.catalogue.forest u ≡ true → OthersAreOpen u (after s (command.SetStatus u draft whole))
+  sets_near s sound there =
+      let f = s.catalogue.forest in
+      let ids = chosen whole u s.catalogue in
+      let judged = judged_after s sound in
+      let once = distinct_ids s.catalogue sound.sound.units in
+      others_open s sound (each (change ids) f) u judged
+      (stays_changed (change ids) u f (λ unit. same_id (is_chosen ids unit) unit) (λ unit. same_boxes (is_chosen ids unit) unit) once judged.units
+      (all_so (λ (unit : Unit). is_chosen ids unit ≡ false) (λ (unit : Unit). change ids unit ≡ unit) (λ unit other. ap (λ b. cond b (record unit { draft = draft }) unit) other) (nodes (cut (has_id u) f)) (not_chosen whole f once there)))

@@ -13,7 +13,7 @@ use catalogue_store::{Places, is_unit, set_closure};
 use isad_core::Day;
 use office_core::{Done, Refusal};
 use office_tables::StoreFault;
-use shown_office::pass;
+use shown_office::pass_near;
 use sqlite::{Alter, Connection};
 use std::alloc::Global;
 
@@ -41,7 +41,7 @@ fn close_known<P: Places, S: Alter>(
         (command.SetClosure unit until) (state S.Store conn.old) (state S.Store conn.new) result }
 {
     set_closure::<P, S>(conn, unit, until)?;
-    pass::<P, S>(alloc, conn, today, Done::SetClosure { unit })
+    pass_near::<P, S>(alloc, conn, today, unit, Done::SetClosure { unit })
 }
 
 /// Closes a unit until a day, or ends its closure. The day of the office is known.

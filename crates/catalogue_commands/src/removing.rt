@@ -4,17 +4,41 @@ ghost use Rattle.std.specs.Prelude.{◌≡◌, true};
 ghost use Rattle.sqlite.specs.Held.{state};
 ghost use Rattle.isad_core.specs.Limits.{IsNumber};
 ghost use Rattle.catalogue_core.specs.Finding.{has_unit};
+ghost use Rattle.desk_store.specs.Holdings.{issued_of};
 ghost use Rattle.office_core.specs.declared.command.Command.TheVariants as command;
+ghost use Rattle.office_rows.specs.Reading.{tables};
 ghost use Rattle.office_tables.specs.Step.{InTransaction};
 ghost use Rattle.shown_office.specs.Doing.{Does};
+ghost use Rattle.shown_office.specs.Gate.{AreAsked};
 
 use catalogue_store::{Places, is_unit, remove_branch};
+use desk_store::Loan;
 use isad_core::Day;
 use office_core::{Done, Refusal};
 use office_tables::StoreFault;
-use shown_office::pass;
+use shown_office::{loans_near, pass_of};
 use sqlite::{Alter, Connection};
 use std::alloc::Global;
+
+/// Takes a unit that is there away with all below it, unless that withholds what is out. What is out that it may withhold
+/// is known.
+fn remove_beside<P: Places, S: Alter>(
+    alloc: Global,
+    conn: &mut Connection<S>,
+    today: Day,
+    unit: u64,
+    loans: &[Loan],
+) -> Result<Result<Done, Refusal>, StoreFault>
+    requires inside { InTransaction P.version (state S.Store conn.old) }
+    requires small { IsNumber unit }
+    ensures { Does P.shows P.version
+        (λ s. (today ≡ s.day) × (has_unit s.catalogue.forest unit ≡ true)
+        × AreAsked unit s (issued_of (tables P.version s).desk) loans.now)
+        (command.Remove unit) (state S.Store conn.old) (state S.Store conn.new) result }
+{
+    let units = remove_branch::<P, S>(alloc, conn, unit)?;
+    pass_of::<P, S>(alloc, conn, today, loans, Done::Remove { units })
+}
 
 /// Takes a unit that is there away with all below it, unless that withholds what is out.
 fn remove_known<P: Places, S: Alter>(
@@ -28,8 +52,9 @@ fn remove_known<P: Places, S: Alter>(
     ensures { Does P.shows P.version (λ s. (today ≡ s.day) × (has_unit s.catalogue.forest unit ≡ true))
         (command.Remove unit) (state S.Store conn.old) (state S.Store conn.new) result }
 {
-    let units = remove_branch::<P, S>(alloc, conn, unit)?;
-    pass::<P, S>(alloc, conn, today, Done::Remove { units })
+    // Once the units are away, nothing tells which containers they named.
+    let loans = loans_near::<P, S>(alloc, conn, unit)?;
+    remove_beside::<P, S>(alloc, conn, today, unit, &loans)
 }
 
 /// Takes a unit away with all below it, and with the permits for these units. The day of the office is known.

@@ -12,7 +12,7 @@ use catalogue_store::{Places, is_unit, set_status};
 use isad_core::Day;
 use office_core::{Done, Refusal};
 use office_tables::StoreFault;
-use shown_office::pass;
+use shown_office::pass_near;
 use sqlite::{Alter, Connection};
 use std::alloc::Global;
 
@@ -31,7 +31,7 @@ fn set_known<P: Places, S: Alter>(
         (command.SetStatus unit draft whole) (state S.Store conn.old) (state S.Store conn.new) result }
 {
     let units = set_status::<P, S>(alloc, conn, unit, draft, whole)?;
-    pass::<P, S>(alloc, conn, today, Done::SetStatus { units })
+    pass_near::<P, S>(alloc, conn, today, unit, Done::SetStatus { units })
 }
 
 /// Makes a unit a draft, or publishes it, alone or with all below it. The day of the office is known.

@@ -1,12 +1,15 @@
 -- A permit that is taken back, in the rows of the desk.
-use Rattle.std.proofs.Common.{◌≡◌, ℕ, Bool, true, false, not, cond, List, [], ◌∷◌, filter, Some, inl, inr, refl, sym, ap, subst, ◌∙◌}
+use Rattle.std.proofs.Common.{◌≡◌, ℕ, Bool, true, false, not, cond, List, [], ◌∷◌, filter, Some, inl, inr, refl, sym, ap, subst, ◌∙◌, nat_eq}
 use Rattle.std.specs.List.{AllByRecursion}
-use Rattle.std.proofs.lemmas.Bool.{cases_eq}
+use Rattle.std.proofs.lemmas.Bool.{cases_eq, eqb-true}
 use Rattle.sqlite.specs.Effect.{Database}
 use Rattle.sqlite.specs.Tree.{Trees}
 use Rattle.isad_core.specs.Days.{is_day_number}
 use Rattle.catalogue_core.specs.Finding.{has_unit}
-use Rattle.tree_core.specs.Forest.{Forest}
+use Rattle.catalogue_core.specs.Units.{Unit, has_id}
+use Rattle.catalogue_core.proofs.DistinctLists.{all_so}
+use Rattle.tree_core.specs.Forest.{Forest, cut, nodes}
+use Rattle.tree_core.proofs.Lists.{eqb_comm}
 use Rattle.tree_core.specs.Versions.{Version}
 use Rattle.desk_core.specs.DeskRows.{PermitRow}
 use Rattle.desk_core.specs.LegibleDesks.{IsLegible}
@@ -16,7 +19,7 @@ use Rattle.desk_store.specs.Permits.{is_permit, revoked as without_it}
 use Rattle.desk_store.specs.Shows.{ShowsDesk}
 use Rattle.office_core.specs.Rules.{after, gate, refusal}
 use Rattle.office_core.specs.SoundOffice.{AreTexts, IsSoundOffice}
-use Rattle.office_core.specs.State.{State, has_permit, is_ticket, revoked}
+use Rattle.office_core.specs.State.{Permit, State, has_permit, is_permitted, is_ticket, revoked}
 use Rattle.office_core.specs.Words.{put}
 use Rattle.office_core.specs.declared.command.Command.TheVariants as command
 use Rattle.office_core.proofs.Words.{put_here, put_there}
@@ -24,10 +27,13 @@ use Rattle.office_rows.specs.DeskShown.{permit_rows}
 use Rattle.office_rows.specs.Reading.{tables}
 use Rattle.office_tables.specs.Schema as schema
 use Rattle.office_tables.specs.Step.{OnlyTouches}
+use Rattle.shown_office.specs.Gate.{OthersAreOpen}
 use Rattle.shown_office.specs.Judging.{CanBeJudged}
 use Rattle.shown_office.specs.Shown.{ShowsState}
 use Rattle.shown_office.proofs.DeskSteps.{desk_step}
 use Rattle.shown_office.proofs.Judged.{judged_now}
+use Rattle.shown_office.proofs.OpenByPermits.{IsAlike, permitted_left}
+use Rattle.shown_office.proofs.OpenElsewhere.{none_left, stays_permitted, still_open}
 use Rattle.shown_office.proofs.PermitsShown.{revoked_rows}
 use Rattle.desk_commands.specs.Revoking.{HasPermit}
 
@@ -102,3 +108,30 @@ module _ (s : State) (sound : IsSoundOffice s) (t u : ℕ) where
   shows places same version before now it schema_is only shown =
       desk_step places same version s next before now (schema.permit.tree ∷ []) refl schema_is only it (without_it t u (tables version s).desk) shown
       (ap (λ (rows : List PermitRow). record (tables version s).desk { permits = rows }) (revoked_rows t u s)) refl refl (texts it.texts)
+
+  -- ---- the gate
+
+  abbrev left : ℕ → List Permit
+  left = put s.permits t (revoked u (s.permits t))
+
+  -- for other units the permits are those that there were
+  for_others : (n v : ℕ) → nat_eq u v ≡ false → is_permitted s.day (s.permits n) v ≡ is_permitted s.day (left n) v
+  for_others n v other = at (nat_eq t n) refl
+    where
+      at : (b : Bool) → nat_eq t n ≡ b → is_permitted s.day (s.permits n) v ≡ is_permitted s.day (cond b (revoked u (s.permits t)) (s.permits n)) v
+      at false e = refl
+      at true e =
+          ap (λ k. is_permitted s.day (s.permits k) v) (sym (eqb-true t n e))
+          ∙ sym (permitted_left (λ w. not (nat_eq w u)) s.day (s.permits t) v (ap not (eqb_comm v u ∙ other)))
+
+  -- of what is out only what is near the unit can be withheld by that
+  pub revokes_near : OthersAreOpen u next
+  revokes_near c far =
+      let f = s.catalogue.forest in
+      let rest = cut (has_id u) f in
+      still_open s sound f left c (λ n box is was.
+      let permitted = is_permitted s.day (s.permits n) in
+      let permitted_now = is_permitted s.day (left n) in
+      stays_permitted s sound u c far box is permitted_now permitted_now (all_so (λ (unit : Unit). has_id u unit ≡ false) (IsAlike permitted_now permitted_now) (λ unit other. refl) (nodes rest) (none_left u f))
+      ∙ sym (stays_permitted s sound u c far box is permitted permitted_now (all_so (λ (unit : Unit). has_id u unit ≡ false) (IsAlike permitted permitted_now) (λ unit other. for_others n unit.id other) (nodes rest) (none_left u f)))
+      ∙ was)

@@ -16,7 +16,7 @@ use desk_store::{permits, reader, revoke};
 use isad_core::Day;
 use office_core::{Done, Refusal};
 use office_tables::StoreFault;
-use shown_office::pass;
+use shown_office::pass_near;
 use sqlite::{Alter, Connection};
 use std::alloc::Global;
 
@@ -35,7 +35,7 @@ fn take_back<P: Places, S: Alter>(
         (state S.Store conn.old) (state S.Store conn.new) result }
 {
     revoke(conn, ticket, unit)?;
-    pass::<P, S>(alloc, conn, today, Done::Revoke { unit })
+    pass_near::<P, S>(alloc, conn, today, unit, Done::Revoke { unit })
 }
 
 /// Takes back a permit that may be there or not. The ticket and the unit are there.

@@ -1,6 +1,6 @@
 -- The gate as it is read from tables, and as the rules have it.
-use Rattle.std.proofs.Common.{◌≡◌, ℕ, zero, suc, ◌+◌, ◌<◌, Bool, true, false, not, cond, List, [], ◌∷◌, length, map, take, Option, Some, None, refl, sym, ap, subst, ◌∙◌, arith, nat_eq}
-use Rattle.std.specs.Prelude.{slice_index_or, find, filter_map, option_map, is_some}
+use Rattle.std.proofs.Common.{◌≡◌, ℕ, zero, suc, ◌+◌, ◌<◌, Bool, true, false, not, cond, List, [], ◌∷◌, length, take, Option, Some, None, refl, sym, ap, subst, ◌∙◌, arith}
+use Rattle.std.specs.Prelude.{slice_index_or, filter, filter_map, option_map, is_some}
 use Rattle.std.specs.List.{cons_option}
 use Rattle.desk_core.specs.DeskRows.{HoldingRow, OrderRow}
 use Rattle.desk_core.specs.declared.reader.Place.{Place}
@@ -13,7 +13,7 @@ use Rattle.office_core.specs.State.{Order, State, containers, opens, order_out}
 use Rattle.office_core.specs.Words.{first_that, numbered, some_and}
 use Rattle.office_rows.specs.DeskShown.{holding_row, order_row, order_rows}
 use Rattle.office_rows.specs.Reading.{tables}
-use Rattle.shown_office.specs.Gate.{first_closed, is_closed_to}
+use Rattle.shown_office.specs.Gate.{AreEnough, first_closed, is_closed_to}
 use Rattle.shown_office.specs.Judging.{CanBeJudged}
 use Rattle.shown_office.proofs.RowsOfLists.{found_row}
 
@@ -42,7 +42,7 @@ module _ (version : Version) (s : State) where
   orders = order_rows s
 
   -- the ticket of an order
-  ticket_is : (o : ℕ) → ticket_of orders o ≡ option_map (λ (order : Order). order.ticket) (numbered s.orders o)
+  pub ticket_is : (o : ℕ) → ticket_of orders o ≡ option_map (λ (order : Order). order.ticket) (numbered s.orders o)
   ticket_is o = ap (option_map (λ (row : OrderRow). row.ticket)) (found_row (order_row s) (λ (row : OrderRow). row.id) (λ n x. refl) o s.orders) ∙ at (numbered s.orders o)
     where
       at : (x : Option Order) → option_map (λ (row : OrderRow). row.ticket) (option_map (order_row s o) x) ≡ option_map (λ (order : Order). order.ticket) x
@@ -85,3 +85,52 @@ module _ (version : Version) (s : State) where
 
   pub kept_is : CanBeJudged s → kept s ≡ first_closed s (issued_of (tables version s).desk)
   kept_is judged = kept_among judged.orders (containers s)
+
+  -- ---- where only some of those that are out can be closed to who has them
+
+  abbrev asked : (ℕ → Bool) → Loan → Bool
+  asked q loan = q loan.container
+
+  kept_where : (q : ℕ → Bool) → ((c o : ℕ) → order_out (s.place c) ≡ Some o → is_some (numbered s.orders o) ≡ true) → ((c : ℕ) → q c ≡ false → is_kept_from_holder s c ≡ false) → (cs : List ℕ)
+      → first_that (is_kept_from_holder s) cs ≡ first_closed s (filter (asked q) (rows_of cs))
+  kept_where q there others [] = refl
+  kept_where q there others (c ∷ cs) = at (s.place c) refl (kept_where q there others cs)
+    where
+      rest : List HoldingRow
+      rest = filter_map (λ c. holding_row c (s.place c)) cs
+
+      issued_is : (o : ℕ) (order : Order) → numbered s.orders o ≡ Some order → issued_by orders (record { container = c; place = 2; held_by = Some o }) ≡ Some (record { container = c; order = o; ticket = order.ticket })
+      issued_is o order e = ap (option_map (λ t. record { container = c; order = o; ticket = t })) (ticket_is o ∙ ap (option_map (λ (order : Order). order.ticket)) e)
+
+      kept_is_closed : (o : ℕ) (order : Order) → s.place c ≡ Out o → numbered s.orders o ≡ Some order → is_kept_from_holder s c ≡ is_closed_to s (record { container = c; order = o; ticket = order.ticket })
+      kept_is_closed o order e known =
+          ap (λ p. some_and (λ o. some_and (λ order. not (opens s order.ticket c)) (numbered s.orders o)) (order_out p)) e
+          ∙ ap (some_and (λ order. not (opens s order.ticket c))) known
+
+      by_tests : (near closed : Bool) (loan : Loan) → loan.container ≡ c → is_closed_to s loan ≡ closed → (near ≡ false → closed ≡ false) → first_that (is_kept_from_holder s) cs ≡ first_closed s (filter (asked q) (rows_of cs))
+          → cond closed (Some c) (first_that (is_kept_from_holder s) cs) ≡ first_closed s (cond near (loan ∷ filter (asked q) (rows_of cs)) (filter (asked q) (rows_of cs)))
+      by_tests true true loan e is other later = ap Some (sym e) ∙ sym (ap (λ b. option_map (λ (l : Loan). l.container) (cond b (Some loan) (first_that (is_closed_to s) (filter (asked q) (rows_of cs))))) is)
+      by_tests true false loan e is other later = later ∙ sym (ap (λ b. option_map (λ (l : Loan). l.container) (cond b (Some loan) (first_that (is_closed_to s) (filter (asked q) (rows_of cs))))) is)
+      by_tests false true loan e is other later = absurd (let bad = other refl in cc)
+      by_tests false false loan e is other later = later
+
+      out_with : (o : ℕ) → s.place c ≡ Out o → (x : Option Order) → numbered s.orders o ≡ x → is_some x ≡ true → first_that (is_kept_from_holder s) cs ≡ first_closed s (filter (asked q) (rows_of cs))
+          → first_that (is_kept_from_holder s) (c ∷ cs) ≡ first_closed s (filter (asked q) (rows_of (c ∷ cs)))
+      out_with o e None known there later = absurd (cc)
+      out_with o e (Some order) known there later =
+          let loan : Loan = record { container = c; order = o; ticket = order.ticket } in
+          let is = kept_is_closed o order e known in
+          ap (λ b. cond b (Some c) (first_that (is_kept_from_holder s) cs)) is
+          ∙ by_tests (q c) (is_closed_to s loan) loan refl refl (λ far. sym is ∙ others c far) later
+          ∙ sym (ap (λ x. first_closed s (filter (asked q) (cons_option x (rows_of cs)))) (issued_is o order known))
+          ∙ sym (ap (λ p. first_closed s (filter (asked q) (filter_map (issued_by orders) (cons_option (holding_row c p) rest)))) e)
+
+      at : (place : Place) → s.place c ≡ place → first_that (is_kept_from_holder s) cs ≡ first_closed s (filter (asked q) (rows_of cs)) → first_that (is_kept_from_holder s) (c ∷ cs) ≡ first_closed s (filter (asked q) (rows_of (c ∷ cs)))
+      at Shelf e later = rw e later
+      at Desk e later = rw e later
+      at (Out o) e later = out_with o e (numbered s.orders o) refl (there c o (ap order_out e)) later
+
+  -- those whose containers pass a test, where all others are open to who has them
+  pub enough_of : CanBeJudged s → (test : ℕ → Bool) → ((c : ℕ) → test c ≡ false → is_kept_from_holder s c ≡ false)
+      → (loans : List Loan) → loans ≡ filter (λ (loan : Loan). test loan.container) (issued_of (tables version s).desk) → AreEnough loans s
+  enough_of judged test others loans are = kept_where test judged.orders others (containers s) ∙ ap (first_closed s) (sym are)

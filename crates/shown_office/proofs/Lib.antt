@@ -1,4 +1,5 @@
 pub mod Answerings
+pub mod BranchesApart
 pub mod Changed
 pub mod CleanMarks
 pub mod Crashes
@@ -17,9 +18,14 @@ pub mod PermitsShown
 pub mod OrdersShown
 pub mod Frames
 pub mod Gates
+pub mod DayRules
+pub mod Standing
 pub mod Judged
 pub mod NamedContainers
+pub mod NearRows
 pub mod OpenByRows
+pub mod OpenByPermits
+pub mod OpenElsewhere
 pub mod Passing
 pub mod PermitFrames
 pub mod RowsOfLists

@@ -1,5 +1,5 @@
 -- Which units name the container with a number.
-use Rattle.std.proofs.Common.{◌≡◌, ℕ, zero, suc, Bool, true, false, List, [], ◌∷◌, Option, Some, None, inl, inr, refl, sym, ap, ap₂, cond, subst, ◌∙◌, nat_eq, arith}
+use Rattle.std.proofs.Common.{◌≡◌, ℕ, zero, suc, Bool, true, List, [], ◌∷◌, Option, Some, None, inl, inr, refl, sym, ap, ap₂, cond, ◌∙◌, nat_eq, arith}
 use Rattle.std.specs.Prelude.{◌&&◌, ◌||◌, filter, slice_get}
 use Rattle.std.specs.List.{AllByRecursion, list_all, list_any}
 use Rattle.std.specs.Str.{bytes_eq}
@@ -68,7 +68,7 @@ has_number cs apart b known n =
 abbrev pub names_it : Option BoxKey → Unit → Bool
 names_it o unit = list_any (λ b. some_and (λ box. is_same_box box b) o) unit.values.boxes
 
-names_one : (cs : List BoxKey) → distinct cs ≡ cs → (n : ℕ) (boxes : List BoxKey) → list_all (λ b. list_any (is_same_box b) cs) boxes ≡ true
+pub names_one : (cs : List BoxKey) → distinct cs ≡ cs → (n : ℕ) (boxes : List BoxKey) → list_all (λ b. list_any (is_same_box b) cs) boxes ≡ true
     → list_any (λ b. nat_eq n (box_number cs b)) boxes ≡ list_any (λ b. some_and (λ box. is_same_box box b) (numbered cs n)) boxes
 names_one cs apart n [] known = refl
 names_one cs apart n (b ∷ boxes) known =

@@ -6,4 +6,5 @@ pub mod Sitters
 pub mod Judging
 pub mod Openness
 pub mod Gate
+pub mod DayRules
 pub mod DeskChecked

@@ -18,7 +18,7 @@ use sqlite::{Alter, Connection};
 use std::alloc::Global;
 
 /// The first of these containers that is not open on this day to the reader who has it.
-fn first_closed<P: Places, S: Alter>(
+pub(crate) fn first_closed<P: Places, S: Alter>(
     alloc: Global,
     conn: &mut Connection<S>,
     loans: &[Loan],

@@ -5,10 +5,11 @@ use Rattle.office_core.specs.declared.command.Command.TheVariants as command
 use Rattle.office_core.specs.declared.done.Done.TheVariants as done
 use Rattle.office_core.proofs.KeptOffices.{office_kept}
 use Rattle.office_tables.proofs.CallEnds.{same_fault}
+use Rattle.shown_office.specs.Gate.{OthersAreOpen}
 use Rattle.shown_office.specs.Shown.{office_of}
 use Rattle.shown_office.proofs.Doings.{does_not}
-use Rattle.shown_office.proofs.Passing.{passed}
-use Rattle.catalogue_commands.proofs.Closed.{closes}
+use Rattle.shown_office.proofs.Passing.{passed_where}
+use Rattle.catalogue_commands.proofs.Closed.{closes, closes_near}
 use Rattle.catalogue_commands.proofs.closing.close_known.Goals as goal
 
 pub returns-in_err-set_closure : goal.returns-in_err-set_closure
@@ -27,6 +28,6 @@ returns g c =
     let b = state g.S.Store c.set_closure.new.conn in
     let u = c.args.unit in
     let made = c.in_ok-set_closure.ensures.makes in
-    passed g.S.Store g.P.Places.shows g.P.Places.version (λ s. (c.args.today ≡ s.day) × (has_unit s.catalogue.forest u ≡ true)) (command.SetClosure u c.args.until) c.args.today (done.SetClosure u) a c.set_closure.new.conn c.pass.new.conn c.pass.result
+    passed_where g.S.Store g.P.Places.shows g.P.Places.version (λ s. (c.args.today ≡ s.day) × (has_unit s.catalogue.forest u ≡ true)) (command.SetClosure u c.args.until) c.args.today (done.SetClosure u) a c.set_closure.new.conn c.pass_near.new.conn c.pass_near.result (OthersAreOpen u)
     (closes u c.args.until g.P.Places.shows g.P.Places.version a b c.args.today c.requires.calendar made.shows_made made.only)
-    made.goes c.pass.ensures.tells
+    (λ s sound so. closes_near u c.args.until s sound c.requires.calendar) made.goes c.pass_near.ensures.tells

@@ -5,10 +5,11 @@ use Rattle.office_core.specs.declared.command.Command.TheVariants as command
 use Rattle.office_core.specs.declared.done.Done.TheVariants as done
 use Rattle.office_core.proofs.KeptOffices.{office_kept}
 use Rattle.office_tables.proofs.CallEnds.{same_fault}
+use Rattle.shown_office.specs.Gate.{OthersAreOpen}
 use Rattle.shown_office.specs.Shown.{office_of}
 use Rattle.shown_office.proofs.Doings.{does_not}
-use Rattle.shown_office.proofs.Passing.{passed}
-use Rattle.catalogue_commands.proofs.Statused.{sets}
+use Rattle.shown_office.proofs.Passing.{passed_where}
+use Rattle.catalogue_commands.proofs.Statused.{sets, sets_near}
 use Rattle.catalogue_commands.proofs.statuses.set_known.Goals as goal
 
 pub returns-in_err-units : goal.returns-in_err-units
@@ -27,6 +28,6 @@ returns g c =
     let b = state g.S.Store c.set_status.new.conn in
     let u = c.args.unit in
     let made = c.in_ok-units.ensures.makes in
-    passed g.S.Store g.P.Places.shows g.P.Places.version (λ s. (c.args.today ≡ s.day) × (has_unit s.catalogue.forest u ≡ true)) (command.SetStatus u c.args.draft c.args.whole) c.args.today (done.SetStatus c.in_ok-units.units) a c.set_status.new.conn c.pass.new.conn c.pass.result
+    passed_where g.S.Store g.P.Places.shows g.P.Places.version (λ s. (c.args.today ≡ s.day) × (has_unit s.catalogue.forest u ≡ true)) (command.SetStatus u c.args.draft c.args.whole) c.args.today (done.SetStatus c.in_ok-units.units) a c.set_status.new.conn c.pass_near.new.conn c.pass_near.result (OthersAreOpen u)
     (sets u c.args.draft c.args.whole g.P.Places.shows g.P.Places.version a b c.args.today c.in_ok-units.units made.shows_made made.only c.in_ok-units.ensures.count)
-    made.goes c.pass.ensures.tells
+    (λ s sound so. sets_near u c.args.draft c.args.whole s sound so.1) made.goes c.pass_near.ensures.tells

@@ -4,9 +4,10 @@ use Rattle.office_rows.specs.Reading.{tables}
 use Rattle.office_rows.proofs.LegibleRows.{desk_legible}
 use Rattle.office_tables.proofs.CallEnds.{same_fault}
 use Rattle.office_tables.proofs.Calls.{office_of}
+use Rattle.shown_office.specs.Gate.{OthersAreOpen}
 use Rattle.shown_office.proofs.Doings.{does_not}
-use Rattle.shown_office.proofs.Passing.{passed}
-use Rattle.desk_commands.proofs.Revoked.{gate_is_left, judged, shows}
+use Rattle.shown_office.proofs.Passing.{passed_where}
+use Rattle.desk_commands.proofs.Revoked.{gate_is_left, judged, revokes_near, shows}
 use Rattle.desk_commands.proofs.revoking.take_back.Goals as goal
 use Rattle.std.proofs.Common.{refl}
 use Rattle.office_core.specs.declared.done.Done.TheVariants as done
@@ -33,7 +34,7 @@ returns g c =
     let a = state g.S.Store c.args.conn.now in
     let b = state g.S.Store c.revoke.new.conn in
     let made = c.in_ok-revoke.ensures.makes in
-    passed g.S.Store g.P.Places.shows g.P.Places.version _ (command.Revoke c.args.ticket c.args.unit) c.args.today (done.Revoke c.args.unit) a c.revoke.new.conn c.pass.new.conn c.pass.result
+    passed_where g.S.Store g.P.Places.shows g.P.Places.version _ (command.Revoke c.args.ticket c.args.unit) c.args.today (done.Revoke c.args.unit) a c.revoke.new.conn c.pass_near.new.conn c.pass_near.result (OthersAreOpen c.args.unit)
     (record {
       shows = λ clean s sound so it. shows s sound c.args.ticket c.args.unit g.P.Places.shows g.met.P.Places.shows_same g.P.Places.version a.now b.now it (made.goes.schema clean) (made.only clean)
           (made.shows_made clean tt (tables g.P.Places.version s).desk it.desk tt);
@@ -42,4 +43,4 @@ returns g c =
       last = λ s so. gate_is_left s c.args.ticket c.args.unit so.1;
       tells = λ clean s so it. refl;
     })
-    made.goes c.pass.ensures.tells
+    (λ s sound so. revokes_near s sound c.args.ticket c.args.unit) made.goes c.pass_near.ensures.tells

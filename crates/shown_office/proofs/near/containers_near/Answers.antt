@@ -1,0 +1,104 @@
+use Rattle.std.proofs.Common.{◌≡◌, ℕ, List, ◌++◌, nat_eq, ap, ap₂, sym, subst, ◌∙◌}
+use Rattle.std.specs.Prelude.{⊤}
+use Rattle.std.specs.List.{AllByRecursion, list_any}
+use Rattle.std.proofs.lemmas.List.{map-append}
+use Rattle.std.proofs.lemmas.Result.{IfOk-weaker}
+use Rattle.sqlite.specs.Effect.{Database}
+use Rattle.sqlite.specs.Held.{state}
+use Rattle.isad_core.specs.Limits.{IsNumber}
+use Rattle.tree_core.specs.Forest.{branch, each, path}
+use Rattle.tree_core.proofs.EachLemmas.{branch-each}
+use Rattle.catalogue_core.specs.Units.{Unit, has_id}
+use Rattle.catalogue_core.proofs.EachOf.{all_append}
+use Rattle.catalogue_rows.specs.Rows.{housing_row}
+use Rattle.catalogue_store.proofs.MarkForests.{path_ids}
+use Rattle.desk_store.proofs.ToldCalls.{ends_not, shown_on}
+use Rattle.office_tables.specs.Numbered.{HasNumbered}
+use Rattle.office_tables.specs.Schema as tables
+use Rattle.office_tables.specs.Step.{IsCut, Looks}
+use Rattle.office_tables.proofs.CallEnds.{excused_then, same_fault, tells_not}
+use Rattle.office_tables.proofs.Calls.{cut_then, early, looks_then, office_of, on_err_then, on_ok_then, still}
+use Rattle.office_tables.proofs.Outcomes.{if_ok_by}
+use Rattle.shown_office.specs.Gate.{is_named_near, is_one_of, says_so}
+use Rattle.shown_office.specs.Judging.{CanBeJudged, ShowsWhole}
+use Rattle.shown_office.proofs.NearRows.{all_branch, all_path, near_named}
+use Rattle.shown_office.proofs.near.containers_near.Goals as goal
+
+pub returns-in_err-units : goal.returns-in_err-units
+returns-in_err-units g c =
+    let v = g.P.Places.version in
+    let e = c.from_residual.ensures in
+    let told = c.in_err-units.ensures.tells in
+    record {
+      tells = tells_not g.S.Store (ShowsWhole g.P.Places.shows v) CanBeJudged (λ _. ⊤) c.args.conn.now c.path.new.conn c.from_residual.result (λ _ s found. (n : ℕ) → is_one_of n found.items ≡ is_named_near c.args.unit s n) c.in_err-units.field-0.0
+          (same_fault c.from_residual.result c.in_err-units.field-0.0 e.0 e.1) told.cut
+          (λ beside s it may judged clean free. told.faults tt (each (λ (u : Unit). u.id) s.catalogue.forest) it.catalogue.shown tt judged.catalogue.places clean free);
+    }
+
+pub returns-in_err-branch : goal.returns-in_err-branch
+returns-in_err-branch g c =
+    let v = g.P.Places.version in
+    let e = c.from_residual-in_err-branch.ensures in
+    let told = c.in_err-branch.ensures.tells in
+    record {
+      tells = ends_not (ShowsWhole g.P.Places.shows v) CanBeJudged (λ _. ⊤) g.S.Store c.args.conn.now c.path.new.conn c.branch-alloc.new.conn (λ _ s found. (n : ℕ) → is_one_of n found.items ≡ is_named_near c.args.unit s n)
+          c.in_ok-units.ensures.tells.looks c.in_err-branch.field-0.0 told.cut
+          (λ s it may judged clean free. told.faults tt (each (λ (u : Unit). u.id) s.catalogue.forest) it.catalogue.shown tt judged.catalogue.places clean free)
+          c.from_residual-in_err-branch.result (same_fault c.from_residual-in_err-branch.result c.in_err-branch.field-0.0 e.0 e.1);
+    }
+
+pub containers_of_each-requires : goal.containers_of_each-requires
+containers_of_each-requires g c =
+    let v = g.P.Places.version in
+    let a = state g.S.Store c.args.conn.now in
+    let b = state g.S.Store c.path.new.conn in
+    let d = state g.S.Store c.branch-alloc.new.conn in
+    record { inside = office_of v d (still v b d (still v a b c.requires.inside c.in_ok-units.ensures.tells.looks.goes) c.in_ok-branch.ensures.tells.looks.goes) }
+
+pub returns : goal.returns
+returns g c =
+    let v = g.P.Places.version in
+    let shows = ShowsWhole g.P.Places.shows v in
+    let a = state g.S.Store c.args.conn.now in
+    let b = state g.S.Store c.path.new.conn in
+    let d = state g.S.Store c.branch-alloc.new.conn in
+    let z = state g.S.Store c.containers_of_each.new.conn in
+    let u = c.args.unit in
+    let one = c.in_ok-units.ensures.tells in
+    let two = c.in_ok-branch.ensures.tells in
+    let looked = looks_then a b d one.looks two.looks in
+    let last = c.containers_of_each.ensures in
+    let units_are = c.deref-2.ensures.value ∙ c.in_ok-extend_from_slice.ensures.items ∙ ap (λ (l : List ℕ). c.in_ok-units.units.items ++ l) c.deref.ensures.value in
+    record {
+      tells = record {
+        answers = λ clean beside s it.
+            let f = s.catalogue.forest in
+            let housings = it.catalogue.catalogue.housings in
+            if_ok_by c.containers_of_each.result (Looks d z) (λ found. (n : ℕ) → is_one_of n found.items ≡ is_named_near u s n)
+            (λ went.
+            let at_d = early d z _ went.goes.on.crash clean in
+            let at_b = early b d _ two.looks.goes.on.crash at_d in
+            let shown_b = shown_on shows a b one.looks at_b s it in
+            let ids = units_are
+            ∙ ap₂ ◌++◌ (one.answers at_b tt (each (λ (u : Unit). u.id) f) it.catalogue.shown ∙ path_ids u f) (two.answers at_d tt (each (λ (u : Unit). u.id) f) shown_b.catalogue.shown ∙ branch-each (nat_eq u) (λ (u : Unit). u.id) f)
+            ∙ sym (map-append (λ (u : Unit). u.id) (path (has_id u) f) (branch (has_id u) f)) in
+            let stored = subst (λ (db : Database). HasNumbered housing_row (db.trees tables.housing.tree) housings.housings) (sym (looked.same at_d)) housings.rows in
+            IfOk-weaker c.containers_of_each.result _ (λ found. (n : ℕ) → is_one_of n found.items ≡ is_named_near u s n)
+            (λ found told n. told n ∙ ap (list_any (λ unit. list_any (says_so n unit) housings.housings)) ids ∙ near_named a.now.trees f s.catalogue.containers housings n u)
+            (last.rows clean housings.housings stored))
+            last.reads.looks;
+        looks = on_ok_then c.containers_of_each.result (Looks d z) (Looks a z) (looks_then a d z looked) last.reads.looks;
+        cut = on_err_then c.containers_of_each.result (IsCut d z) (IsCut a z) (cut_then a d z looked.goes.on) last.reads.cut;
+        faults = λ beside s it may judged. excused_then a d z looked.goes.on c.containers_of_each.result last.reads.cut
+            (λ at_d.
+            let F = each (λ (u : Unit). u.id) s.catalogue.forest in
+            let housings = it.catalogue.catalogue.housings in
+            let at_b = early b d _ two.looks.goes.on.crash at_d in
+            let shown_b = shown_on shows a b one.looks at_b s it in
+            let ids = units_are ∙ ap₂ ◌++◌ (one.answers at_b tt F it.catalogue.shown) (two.answers at_d tt F shown_b.catalogue.shown) in
+            let stored = subst (λ (db : Database). HasNumbered housing_row (db.trees tables.housing.tree) housings.housings) (sym (looked.same at_d)) housings.rows in
+            let low = judged.catalogue.places.low in
+            last.faults housings.housings stored
+            (subst (AllByRecursion IsNumber) (sym ids) (all_append IsNumber (path (nat_eq u) F) (branch (nat_eq u) F) (all_path IsNumber (nat_eq u) F low) (all_branch IsNumber (nat_eq u) F low))));
+      };
+    }
