@@ -6,3 +6,4 @@ pub mod Applied
 pub mod Known
 pub mod Machines
 pub mod MachineRuns
+pub mod Adoptions

@@ -6,3 +6,4 @@ pub mod Sight
 pub mod Rows
 pub mod Applying
 pub mod Runs
+pub mod Adopting

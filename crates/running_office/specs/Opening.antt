@@ -29,8 +29,12 @@ open_fault_of store.Memory = fault.Memory
 open_fault_of store.Disk = fault.Disk
 open_fault_of store.Schema = fault.Schema
 
--- memory may be wanting at any time, the disk is blamed for its own failures, and the tables never are
+-- memory may be wanting at any time, the disk is blamed for its own failures, and tables that are there never are
 abbrev pub HasOpenCause : State → State → OpenFault → Type 0
 HasOpenCause old new fault.Memory = HasCause old new store.Memory
 HasOpenCause old new fault.Disk = HasCause old new store.Disk
 HasOpenCause old new fault.Schema = HasCause old new store.Schema
+HasOpenCause old new fault.NoOffice = ⊥
+HasOpenCause old new fault.OldVersion = ⊥
+HasOpenCause old new fault.NewVersion = ⊥
+HasOpenCause old new (fault.Unsound cause) = ⊥

@@ -1,6 +1,7 @@
 //! An office over its tables: one command, one transaction, one step.
 #![tactic(auto)]
 
+mod adopting;
 mod commands;
 mod faults;
 mod founding;
@@ -16,4 +17,4 @@ mod transactions;
 
 pub use faults::OpenFault;
 pub use offices::Office;
-pub use settings::{Settings, SettingsFault};
+pub use settings::{Settings, SettingsFault, is_country, is_repository};

@@ -1,6 +1,6 @@
 //! An office over its tables.
 
-ghost use Rattle.std.specs.Prelude.{◌≡◌, false, Err, IfErr, IfOk, IsErr, OnErr};
+ghost use Rattle.std.specs.Prelude.{◌≡◌, false, Err, IfErr, IfOk, IsErr, IsTrue, OnErr};
 ghost use Rattle.sqlite.specs.Held.{state};
 ghost use Rattle.sqlite.specs.State.{HasCleanDisk, Survives};
 ghost use Rattle.tree_core.specs.Versions.{Links, Spans};
@@ -10,8 +10,10 @@ ghost use Rattle.office_core.specs.Queries.{answer};
 ghost use Rattle.office_core.specs.Rules.{step};
 ghost use Rattle.office_core.specs.SoundOffice.{IsSoundOffice};
 ghost use Rattle.office_core.specs.State.{State};
+ghost use Rattle.rows_shown.specs.Whole.{AreWholeTables};
 ghost use Rattle.office_tables.specs.Faults.{IsUnlimited};
 ghost use Rattle.office_tables.specs.Schema.{no_schema, schema};
+ghost use Rattle.running_office.specs.Adopting.{HasAdoptCause, IsAdopted, state_in};
 ghost use Rattle.running_office.specs.Applying.{HasBusyCause, MayFind, TakesStep};
 ghost use Rattle.running_office.specs.Founding.{founded};
 ghost use Rattle.running_office.specs.Migrating.{MayFindSpans};
@@ -21,8 +23,9 @@ ghost use Rattle.running_office.specs.Runs.{IsCall, answered, applied};
 ghost use Rattle.shown_office.specs.Shown.{ShowsState};
 ghost use Rattle.span_places.specs.Shows.{ShowsSpanRows};
 
+use crate::adopting::look_over;
 use crate::commands::apply_to;
-use crate::faults::{OpenFault, busy};
+use crate::faults::{OpenFault, busy, refusal};
 use crate::founding::found;
 use crate::migrating::bring_to_spans;
 use crate::names::names_days_and_texts;
@@ -31,6 +34,7 @@ use crate::settings::Settings;
 use catalogue_store::{LinkPlaces, Places};
 use desk_store::is_blank;
 use office_core::{Answer, Busy, Command, Query, Reply};
+use place_checks::CheckedPlaces;
 use span_places::SpanPlaces;
 use sqlite::{Alter, Connection};
 use std::alloc::Global;
@@ -146,10 +150,11 @@ impl<P: Places, S: Alter> Office<P, S> {
         }
     }
 
-    /// The connection. No transaction is open.
+    /// The connection. No transaction is open, and no limit is set on the steps of a statement.
     pub fn into_connection(self) -> Connection<S>
         ensures same { result ≡ self }
         ensures ended { HasCleanDisk (state S.Store result) → (state S.Store result).in_transaction ≡ false }
+        ensures unlimited { IsUnlimited (state S.Store result) }
     {
         let Office { conn, places: _ } = self;
         conn
@@ -191,6 +196,49 @@ impl<S: Alter> Office<LinkPlaces, S> {
                     places: PhantomData,
                 },
             )),
+        }
+    }
+}
+
+impl<P: CheckedPlaces, S: Alter> Office<P, S> {
+    /// Opens an office over tables of any origin, where they are a sound office's. Otherwise the connection is given
+    /// back, with its tables as they were; nothing is changed in either case.
+    pub fn adopt(
+        alloc: Global,
+        conn: Connection<S>,
+    ) -> Result<Office<P, S>, (OpenFault, Connection<S>)>
+        requires outside { HasCleanDisk (state S.Store conn) → (state S.Store conn).in_transaction ≡ false }
+        requires unlimited { IsUnlimited (state S.Store conn) }
+        ensures opens { IfOk result (λ office. HasCleanDisk (state S.Store office)
+            → IsAdopted P.version (state S.Store conn) (state S.Store office)) }
+        ensures sound { IfOk result (λ office. HasCleanDisk (state S.Store office)
+            → IsTrue (state S.Store office).is_open → AreWholeTables (state S.Store conn).now
+            → IsSoundOffice (state_in P.version (state S.Store conn).now.trees)) }
+        ensures shows { IfOk result (λ office. HasCleanDisk (state S.Store office)
+            → AreWholeTables (state S.Store conn).now
+            → IsIn P.shows P.version (state_in P.version (state S.Store conn).now.trees) (state S.Store office)) }
+        ensures back { IfErr result (λ e. HasCleanDisk (state S.Store e.1)
+            → IsAsBefore (state S.Store conn) (state S.Store e.1)) }
+        ensures cause { IfErr result (λ e. HasCleanDisk (state S.Store e.1)
+            → HasAdoptCause P.version (state S.Store conn) (state S.Store e.1) e.0) }
+        ensures crash { IfOk result (λ office. Survives (state S.Store conn) (state S.Store office) (λ _. ⊥)) }
+        ensures crash_back { IfErr result (λ e. Survives (state S.Store conn) (state S.Store e.1) (λ _. ⊥)) }
+    {
+        let mut conn = conn;
+        // Outside a transaction a connection that is open shows what was committed.
+        let _ = conn.is_autocommit();
+        // Its rows keep the rules of its tables.
+        let _ = conn.schema();
+        let verdict = match look_over::<P, S>(alloc, &mut conn) {
+            Ok(verdict) => verdict,
+            Err(fault) => return Err((OpenFault::from(fault), conn)),
+        };
+        match refusal(verdict) {
+            Some(fault) => Err((fault, conn)),
+            None => Ok(Office {
+                conn,
+                places: PhantomData,
+            }),
         }
     }
 }

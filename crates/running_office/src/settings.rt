@@ -85,7 +85,7 @@ impl From<AllocError> for SettingsFault {
 }
 
 /// Whether the code is two capital letters.
-fn is_country(code: &str) -> bool
+pub fn is_country(code: &str) -> bool
     ensures { result ≡ is_country_code code.now }
 {
     code.len() == 2 && code.bytes().all(|b| b >= b'A' && b <= b'Z')
@@ -99,7 +99,7 @@ fn are_seen(code: &str) -> bool
 }
 
 /// Whether the code is 1 to 32 bytes that are seen.
-fn is_repository(code: &str) -> bool
+pub fn is_repository(code: &str) -> bool
     ensures { result ≡ is_repository_code code.now }
 {
     is_up_to(32, code.len()) && are_seen(code)

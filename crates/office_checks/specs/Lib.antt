@@ -1,0 +1,5 @@
+pub mod Versions
+pub mod Verdicts
+pub mod Plain
+pub mod OwnRows
+pub mod Causes
