@@ -1,6 +1,8 @@
 pub mod GivenSettings
-pub mod Needs
+pub mod Judgments
+pub mod Named
 pub mod PerformedLemmas
-pub mod Rows
 pub mod StreamLemmas
+pub mod RefusalLines
+pub mod ServedLemmas
 pub mod Trials

@@ -32,6 +32,10 @@ not_opened founding left held old new opening.Memory why = (Consumes-nil left, A
 not_opened founding left held old new opening.Disk (inl more) = absurd (omega arith)
 not_opened founding left held old new opening.Disk (inr shut) = absurd cc
 not_opened founding left held old new opening.Schema why = absurd why
+not_opened founding left held old new opening.NoOffice why = absurd why
+not_opened founding left held old new opening.OldVersion why = absurd why
+not_opened founding left held old new opening.NewVersion why = absurd why
+not_opened founding left held old new (opening.Unsound n) why = absurd why
 
 module _ (places : Trees → Forest ℕ → Type 0) (version : Version) (founding : Founding) (left left_after held held_after : Known) (before after : Held MemStore) (end : Ended) where
   -- what was said to a new office is a session with it

@@ -1,5 +1,5 @@
-pub mod CommandLine
 pub mod Faults
 pub mod Performed
+pub mod Served
 pub mod Streams
 pub mod Tasks

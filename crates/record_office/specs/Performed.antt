@@ -1,6 +1,7 @@
 -- What a command did with its streams: left and left_after are the bytes that standard input has before and
 -- after it, held and held_after those that standard output holds.
-use Rattle.std.specs.Prelude.{◌≡◌, ◌⊎◌, [], List, Option, Some, None, Result, Ok, Err, ℕ, false}
+use Rattle.std.specs.Prelude.{◌≡◌, ◌⊎◌, ◌++◌, [], List, Option, Some, None, Result, Ok, Err, ℕ, codes, false}
+use Rattle.std.specs.Fmt.{decimal}
 use Rattle.std.specs.Io.KnownBytes.{Appends, Consumes, IsAtEnd}
 use Rattle.clap.specs.Simple.{subcommand_of}
 use Rattle.clap.specs.Takes.{takes}
@@ -13,16 +14,23 @@ use Rattle.http_desk.specs.Talking.{AtEndIf}
 use Rattle.http_desk.specs.declared.ended.Ended.{Ended}
 use Rattle.http_desk.specs.declared.ended.Ended.TheVariants as ended
 use Rattle.http_desk.specs.declared.ended.Next.TheVariants.{Ends}
-use Rattle.record_office.specs.CommandLine.{program}
-use Rattle.record_office.specs.Faults.{bad_file_line, message_of, status_of}
+use Rattle.office_core.specs.Json.{reply_text}
+use Rattle.office_core.specs.Rules.{Reply}
+use Rattle.desk_core.specs.declared.refusal.Refusal.{Refusal}
+use Rattle.desk_core.specs.declared.refusal.Refusal.TheVariants.{BadFile}
+use Rattle.office_words.specs.CommandLine.{program}
+use Rattle.running_office.specs.declared.faults.OpenFault.{OpenFault}
+use Rattle.running_office.specs.declared.faults.OpenFault.TheVariants as opening
+use Rattle.record_office.specs.Faults.{IsUnopened, Refuses, fault_of_opening, line_of, message_of, status_of}
 use Rattle.record_office.specs.Streams.{IsFront}
 use Rattle.record_office.specs.Tasks.{IsRefusedIn, IsTaskOf}
 use Rattle.record_office.specs.declared.faults.Break.{Break}
 use Rattle.record_office.specs.declared.faults.Break.TheVariants as break
 use Rattle.record_office.specs.declared.faults.Fault.{Fault}
-use Rattle.record_office.specs.declared.faults.Fault.TheVariants.{Refused, Words, Date, Settings, File, Session, Memory}
+use Rattle.record_office.specs.declared.faults.Fault.TheVariants.{Refused, NotSound, Words, Date, Settings, File, Store}
+use Rattle.record_office.specs.declared.faults.Fault.TheVariants.{Net, Session, Memory}
 use Rattle.record_office.specs.declared.tasks.Task.{Task}
-use Rattle.record_office.specs.declared.tasks.Task.TheVariants.{Preview, Trial}
+use Rattle.record_office.specs.declared.tasks.Task.TheVariants.{Preview, Init, Trial, Import, Talk, Serve, Check, Migrate}
 use Rattle.record_office.specs.declared.tasks.TaskFault.TheVariants as tasks
 
 abbrev pub Known : Type 0
@@ -57,7 +65,7 @@ PreviewDone country repo path left left_after held held_after =
 abbrev pub PreviewFails : Text → Text → Option Text → Known → Known → Known → Known → Fault → Type 0
 PreviewFails country repo path left left_after held held_after (Refused line) =
     (file : List ℕ) × (row cause : ℕ) × Reads path left left_after file
-    × (previewed country repo file ≡ Err (row, cause)) × (line ≡ bad_file_line row cause) × Appends held held_after []
+    × (previewed country repo file ≡ Err (row, cause)) × (line ≡ line_of (BadFile row cause)) × Appends held held_after []
 PreviewFails country repo path left left_after held held_after File =
     PrintsNothing left left_after held held_after
     ⊎ ((file aids front : List ℕ) × Reads path left left_after file × (previewed country repo file ≡ Ok aids)
@@ -97,15 +105,156 @@ TrialFails founding left left_after held held_after (Session broken) =
 TrialFails founding left left_after held held_after Memory = DoesNothing left left_after held held_after
 TrialFails founding left left_after held held_after _ = ⊥
 
+-- ---- offices in files. No clause ties an office to its file: that the tables are the file's is the store's part.
+
+-- nothing was printed
+abbrev pub IsSilent : Known → Known → Type 0
+IsSilent held held_after = Appends held held_after []
+
+-- a front of the text was printed: all of it, or as much as standard output took
+abbrev pub PrintsFront : List ℕ → Known → Known → Type 0
+PrintsFront text held held_after = (front : List ℕ) × IsFront front text × Appends held held_after front
+
+-- an office is busy: there is no memory, or its store fails
+abbrev pub IsBusy : Fault → Type 0
+IsBusy Store = Unit {0}
+IsBusy Memory = Unit {0}
+IsBusy _ = ⊥
+
+abbrev pub line_feed : List ℕ
+line_feed = codes "\n"
+
+-- what was done was printed, as a line
+abbrev pub ReplyPrinted : Reply → Known → Known → Type 0
+ReplyPrinted (Ok done) held held_after = Appends held held_after (reply_text (Ok done) ++ line_feed)
+ReplyPrinted (Err why) held held_after = ⊥
+
+-- it was refused, with that line; or standard output failed
+abbrev pub ReplyFails : Reply → Known → Known → Fault → Type 0
+ReplyFails (Ok done) held held_after File = PrintsFront (reply_text (Ok done) ++ line_feed) held held_after
+ReplyFails (Ok done) held held_after _ = ⊥
+ReplyFails (Err why) held held_after fault = Refuses why fault × IsSilent held held_after
+
+-- an import that is done: its reply was printed
+abbrev pub ImportDone : Known → Known → Type 0
+ImportDone held held_after = (reply : Reply) × ReplyPrinted reply held held_after
+
+-- an import that a fault ended: the office was not opened or is busy, or the reply was not printed
+abbrev pub ImportFails : Known → Known → Fault → Type 0
+ImportFails held held_after fault =
+    (IsUnopened fault × IsSilent held held_after) ⊎ ((reply : Reply) × ReplyFails reply held held_after fault)
+
+-- what was read was heard, and what was written told; where a session ends with its input, all of standard input was read
+abbrev pub Heard : Known → Known → Known → Known → Ended → Type 0
+Heard left left_after held held_after end =
+    (input output : List ℕ) × Consumes left left_after input × AtEndIf left_after (Ends end)
+    × Appends held held_after output
+
+-- a talk that is done ended after an answer
+abbrev pub TalkDone : Known → Known → Known → Known → Type 0
+TalkDone left left_after held held_after = (end : Ended) × EndsWell end × Heard left left_after held held_after end
+
+-- a talk that a fault ended: it broke off, or the office was not opened
+abbrev pub TalkFails : Known → Known → Known → Known → Fault → Type 0
+TalkFails left left_after held held_after (Session broken) = Heard left left_after held held_after (ended_by broken)
+TalkFails left left_after held held_after fault = IsUnopened fault × DoesNothing left left_after held held_after
+
+abbrev pub listening : ℕ → List ℕ
+listening port = codes "listening " ++ decimal port ++ line_feed
+
+-- a server has said that it listens
+abbrev pub ServeDone : ℕ → Known → Known → Type 0
+ServeDone port held held_after = Appends held held_after (listening port)
+
+-- it had no port or no memory, or standard output failed; or a connection could not be taken
+abbrev pub ServerFails : ℕ → Known → Known → Fault → Type 0
+ServerFails port held held_after Net = IsSilent held held_after ⊎ ServeDone port held held_after
+ServerFails port held held_after File = PrintsFront (listening port) held held_after
+ServerFails port held held_after Memory = IsSilent held held_after
+ServerFails port held held_after _ = ⊥
+
+abbrev pub ServeFails : ℕ → Known → Known → Fault → Type 0
+ServeFails port held held_after fault =
+    (IsUnopened fault × IsSilent held held_after) ⊎ ServerFails port held held_after fault
+
+-- what is told of an office that is not sound, or of the other version
+abbrev pub complaint_of : OpenFault → Option (List ℕ)
+complaint_of opening.OldVersion = Some (codes "old version\n")
+complaint_of (opening.Unsound cause) = Some (codes "not sound " ++ decimal cause ++ line_feed)
+complaint_of _ = None
+
+-- no fault was found, and that was printed
+abbrev pub JudgmentPrinted : Option OpenFault → Known → Known → Type 0
+JudgmentPrinted None held held_after = Appends held held_after (codes "sound\n")
+JudgmentPrinted (Some why) held held_after = ⊥
+
+-- a line that there is to print was not printed whole: there was no memory for it, or standard output failed
+abbrev pub LineFails : List ℕ → Known → Known → Fault → Type 0
+LineFails line held held_after File = PrintsFront line held held_after
+LineFails line held held_after Memory = IsSilent held held_after
+LineFails line held held_after _ = ⊥
+
+-- what was found was printed as a complaint, or not whole; where there is none, the fault is that of opening
+abbrev pub ComplaintFails : OpenFault → Option (List ℕ) → Known → Known → Fault → Type 0
+ComplaintFails why (Some line) held held_after NotSound = Appends held held_after line
+ComplaintFails why (Some line) held held_after fault = LineFails line held held_after fault
+ComplaintFails why None held held_after fault = (fault ≡ fault_of_opening why) × IsSilent held held_after
+
+abbrev pub JudgmentFails : Option OpenFault → Known → Known → Fault → Type 0
+JudgmentFails None held held_after fault = LineFails (codes "sound\n") held held_after fault
+JudgmentFails (Some why) held held_after fault = ComplaintFails why (complaint_of why) held held_after fault
+
+-- a check that is done: it was printed that the office is sound
+abbrev pub CheckDone : Known → Known → Type 0
+CheckDone held held_after = JudgmentPrinted None held held_after
+
+-- a check that a fault ended: no store was opened, or the office is not sound or not of this version
+abbrev pub CheckFails : Known → Known → Fault → Type 0
+CheckFails held held_after fault =
+    (IsUnopened fault × IsSilent held held_after) ⊎ ((judged : Option OpenFault) × JudgmentFails judged held held_after fault)
+
+-- a migration that is done was told
+abbrev pub MigrateDone : Known → Known → Type 0
+MigrateDone held held_after = Appends held held_after (codes "migrated\n")
+
+-- a migration that a fault ended: the office was not opened or not brought over, or standard output failed
+abbrev pub MigrateFails : Known → Known → Fault → Type 0
+MigrateFails held held_after fault =
+    (IsUnopened fault × IsSilent held held_after) ⊎ LineFails (codes "migrated\n") held held_after fault
+
+-- nothing was read of standard input
+abbrev pub Unread : Known → Known → Type 0
+Unread left left_after = Consumes left left_after []
+
 -- a task that is done
 abbrev pub Does : Task → Known → Known → Known → Known → Type 0
-Does (Preview country repo path) = PreviewDone country repo path
-Does (Trial founding) = TrialDone founding
+Does (Preview country repo path) left left_after held held_after =
+    PreviewDone country repo path left left_after held held_after
+Does (Init store founding) left left_after held held_after = DoesNothing left left_after held held_after
+Does (Trial founding) left left_after held held_after = TrialDone founding left left_after held held_after
+Does (Import store source path) left left_after held held_after = Unread left left_after × ImportDone held held_after
+Does (Talk store) left left_after held held_after = TalkDone left left_after held held_after
+Does (Serve store port connections) left left_after held held_after =
+    Unread left left_after × ServeDone port held held_after
+Does (Check store) left left_after held held_after = Unread left left_after × CheckDone held held_after
+Does (Migrate store) left left_after held held_after = Unread left left_after × MigrateDone held held_after
 
 -- a task that a fault ended
 abbrev pub FailsWith : Task → Known → Known → Known → Known → Fault → Type 0
-FailsWith (Preview country repo path) = PreviewFails country repo path
-FailsWith (Trial founding) = TrialFails founding
+FailsWith (Preview country repo path) left left_after held held_after fault =
+    PreviewFails country repo path left left_after held held_after fault
+FailsWith (Init store founding) left left_after held held_after fault =
+    IsUnopened fault × DoesNothing left left_after held held_after
+FailsWith (Trial founding) left left_after held held_after fault =
+    TrialFails founding left left_after held held_after fault
+FailsWith (Import store source path) left left_after held held_after fault =
+    Unread left left_after × ImportFails held held_after fault
+FailsWith (Talk store) left left_after held held_after fault = TalkFails left left_after held held_after fault
+FailsWith (Serve store port connections) left left_after held held_after fault =
+    Unread left left_after × ServeFails port held held_after fault
+FailsWith (Check store) left left_after held held_after fault = Unread left left_after × CheckFails held held_after fault
+FailsWith (Migrate store) left left_after held held_after fault =
+    Unread left left_after × MigrateFails held held_after fault
 
 -- words whose task is done
 abbrev pub IsDone : List Text → Known → Known → Known → Known → Type 0

@@ -1,125 +1,144 @@
 //! Does the task that the words name.
-ghost use Rattle.std.specs.Prelude.{◌≡◌, ℕ, List, IfErr, IfOk, OnOk, map};
-ghost use Rattle.std.specs.Io.KnownBytes.{Consumes};
-ghost use Rattle.std.specs.Option.{option_copied};
+ghost use Rattle.std.specs.Prelude.{◌≡◌, IfErr, OnOk, map};
 ghost use Rattle.std.specs.String.{string_bytes};
-ghost use Rattle.record_office.specs.Faults.{RefusesFor};
-ghost use Rattle.record_office.specs.Performed.{Does, Fails, FailsWith, IsDone, PreviewDone, PreviewFails, Reads};
-ghost use Rattle.record_office.specs.Performed.{EndsWell, TrialDone, TrialFails, ended_by};
+ghost use Rattle.record_office.specs.Faults.{IsUnopened};
+ghost use Rattle.record_office.specs.Performed.{CheckDone, CheckFails, Does, Fails, FailsWith, ImportDone, ImportFails};
+ghost use Rattle.record_office.specs.Performed.{IsDone, MigrateDone, MigrateFails, ServeDone, ServeFails};
+ghost use Rattle.record_office.specs.Performed.{ServerFails, TalkDone, TalkFails};
 
-use crate::faults::{Break, Fault, bad_file};
-use crate::streams::{ReadFault, read_to_end, write_whole};
+use crate::checking::{judge, tell_judgment};
+use crate::faults::Fault;
+use crate::importing::{take_in, tell_reply};
+use crate::migrating::bring_over;
+use crate::previewing::{file_bytes, print_preview};
+use crate::serving::serve;
+use crate::stores::{close_office, make_office, open_office};
+use crate::streams::write_whole;
+use crate::talking::{talk_with, try_office};
 use crate::tasks::Task;
 use crate::words::task;
-use atom_csv::FileFault;
-use catalogue_store::LinkPlaces;
-use http_desk::ended::Ended;
-use http_desk::session::talk;
 use isad_core::Text;
-use office::{Office, Settings, preview};
-use sqlite::{Connection, MemStore};
+use office::Machine;
+use office_files::{close, find};
+use sqlite::Wary;
 use std::alloc::Global;
-use std::fs::File;
 use std::io::{Read, Write};
-use std::rt::Files;
+use std::net::{Ipv4Addr, SocketAddr, SocketAddrV4, TcpListener};
 
-// The bytes of the file of that name, or of standard input where there is no name.
-fn read_file<F: Files, R: Read>(
-    rt: &F,
+// Takes a file into the office in a file. The descriptions are read before the office is opened.
+fn import<W: Write>(
+    rt: &HostRuntime,
     alloc: Global,
-    path: Option<&Text>,
-    reader: &mut R,
-) -> Result<Vec<u8>, ReadFault>
-    ensures reads { IfOk result (λ v.
-        Reads (option_copied path.entry) (R.remaining reader.old) (R.remaining reader.new) v.items) }
-    ensures front { (gone : List ℕ) × Consumes (R.remaining reader.old) (R.remaining reader.new) gone }
+    store: &Text,
+    source: Text,
+    file: &Text,
+    out: &mut W,
+) -> Result<(), Fault>
+    ensures done { OnOk result (ImportDone (W.contents out.old) (W.contents out.new)) }
+    ensures fault { IfErr result (ImportFails (W.contents out.old) (W.contents out.new)) }
 {
-    match path {
-        Some(path) => match File::open(rt, path.as_str()) {
-            Ok(mut file) => read_to_end(alloc, &mut file),
-            Err(_) => Err(ReadFault::Failed),
-        },
-        None => read_to_end(alloc, reader),
-    }
+    let bytes = file_bytes(rt, alloc, file)?;
+    let mut office = open_office(rt, alloc, store)?;
+    let taken = take_in(alloc, &mut office, source, bytes);
+    close_office(office);
+    tell_reply(alloc, taken?, out)
 }
 
-// The fault of a file that gives no finding aids.
-fn refused(alloc: Global, fault: FileFault) -> Fault
-    ensures { RefusesFor fault result }
-{
-    match fault {
-        FileFault::Memory => Fault::Memory,
-        FileFault::Bad { row, cause } => match bad_file(alloc, row, cause) {
-            Ok(line) => Fault::Refused(line),
-            Err(_) => Fault::Memory,
-        },
-    }
-}
-
-// Prints the finding aids of a file.
-fn print_preview<F: Files, R: Read, W: Write>(
-    rt: &F,
+// Answers requests on the office in a file.
+fn talk<R: Read, W: Write>(
+    rt: &HostRuntime,
     alloc: Global,
-    country: &Text,
-    repo: &Text,
-    path: Option<&Text>,
+    store: &Text,
     reader: &mut R,
     out: &mut W,
 ) -> Result<(), Fault>
-    ensures done { OnOk result (PreviewDone country.now repo.now (option_copied path.entry)
-        (R.remaining reader.old) (R.remaining reader.new) (W.contents out.old) (W.contents out.new)) }
-    ensures fault { IfErr result (PreviewFails country.now repo.now (option_copied path.entry)
-        (R.remaining reader.old) (R.remaining reader.new) (W.contents out.old) (W.contents out.new)) }
+    ensures done { OnOk result (TalkDone (R.remaining reader.old) (R.remaining reader.new)
+        (W.contents out.old) (W.contents out.new)) }
+    ensures fault { IfErr result (TalkFails (R.remaining reader.old) (R.remaining reader.new)
+        (W.contents out.old) (W.contents out.new)) }
 {
-    let file = read_file(rt, alloc, path, reader)?;
-    match preview(alloc, file.as_slice(), country.as_str(), repo.as_str()) {
-        Ok(aids) => {
-            write_whole(out, aids.as_slice())?;
-            Ok(())
-        }
-        Err(fault) => Err(refused(alloc, fault)),
-    }
+    let mut office = open_office(rt, alloc, store)?;
+    let talked = talk_with(alloc, &mut office, reader, out);
+    close_office(office);
+    talked
 }
 
-// What comes after a session: nothing, or how it broke off.
-fn after(ended: Ended) -> Result<(), Fault>
-    ensures well { OnOk result (EndsWell ended) }
-    ensures broken { IfErr result (λ f. (broken : Break) × (f ≡ Fault.Session broken) × (ended ≡ ended_by broken)) }
-{
-    match ended {
-        Ended::End | Ended::Closed => Ok(()),
-        Ended::Cut => Err(Fault::Session(Break::Cut)),
-        Ended::ReadFault => Err(Fault::Session(Break::Read)),
-        Ended::WriteFault => Err(Fault::Session(Break::Write)),
-        Ended::Bound => Err(Fault::Session(Break::Bound)),
-    }
-}
-
-// Answers requests on a new office in memory.
-fn try_office<R: Read, W: Write>(
+// Serves an office on a port of this machine, and says so once the port is there.
+fn serve_on_port<M: Machine, W: Write>(
+    rt: &HostRuntime,
     alloc: Global,
-    settings: Settings,
-    reader: &mut R,
+    port: u16,
+    connections: u32,
+    office: &mut M,
     out: &mut W,
 ) -> Result<(), Fault>
-    ensures done { OnOk result (TrialDone settings (R.remaining reader.old) (R.remaining reader.new)
-        (W.contents out.old) (W.contents out.new)) }
-    ensures fault { IfErr result (TrialFails settings (R.remaining reader.old) (R.remaining reader.new)
-        (W.contents out.old) (W.contents out.new)) }
+    ensures done { OnOk result (ServeDone port (W.contents out.old) (W.contents out.new)) }
+    ensures fault { IfErr result (ServerFails port (W.contents out.old) (W.contents out.new)) }
+    ensures intact { M.is_intact office.new → M.is_intact office.old }
 {
-    let conn = Connection::open_in_memory(alloc)?;
-    let mut office = match Office::<LinkPlaces, MemStore>::create(conn, settings) {
-        Ok(office) => office,
-        Err((fault, _)) => return Err(Fault::from(fault)),
+    let here = SocketAddr::V4(SocketAddrV4::new(Ipv4Addr::LOCALHOST, port));
+    let Ok(listener) = TcpListener::bind(rt, here) else {
+        return Err(Fault::Net);
     };
-    let ended = talk(alloc, reader, out, &mut office);
-    let _ = office.into_connection();
-    after(ended)
+    let line = format!(in alloc; "listening {port}\n")?;
+    write_whole(out, line.as_bytes())?;
+    if serve(alloc, &listener, connections, office) {
+        Ok(())
+    } else {
+        Err(Fault::Net)
+    }
+}
+
+// Serves the office in a file.
+fn serve_store<W: Write>(
+    rt: &HostRuntime,
+    alloc: Global,
+    store: &Text,
+    port: u16,
+    connections: u32,
+    out: &mut W,
+) -> Result<(), Fault>
+    ensures done { OnOk result (ServeDone port (W.contents out.old) (W.contents out.new)) }
+    ensures fault { IfErr result (ServeFails port (W.contents out.old) (W.contents out.new)) }
+{
+    let mut office = open_office(rt, alloc, store)?;
+    let served = serve_on_port(rt, alloc, port, connections, &mut office, out);
+    close_office(office);
+    served
+}
+
+// Tells whether the office in a file is sound.
+fn check<W: Write>(rt: &HostRuntime, alloc: Global, store: &Text, out: &mut W) -> Result<(), Fault>
+    ensures done { OnOk result (CheckDone (W.contents out.old) (W.contents out.new)) }
+    ensures fault { IfErr result (CheckFails (W.contents out.old) (W.contents out.new)) }
+{
+    let conn = find(rt, store.as_str(), Wary)?;
+    let (judged, conn) = judge(alloc, conn);
+    close(conn);
+    tell_judgment(alloc, judged, out)
+}
+
+// Brings the office in a file from version 1 to version 2.
+fn migrate<W: Write>(
+    rt: &HostRuntime,
+    alloc: Global,
+    store: &Text,
+    out: &mut W,
+) -> Result<(), Fault>
+    ensures done { OnOk result (MigrateDone (W.contents out.old) (W.contents out.new)) }
+    ensures fault { IfErr result (MigrateFails (W.contents out.old) (W.contents out.new)) }
+{
+    let conn = find(rt, store.as_str(), Wary)?;
+    let (brought, conn) = bring_over(alloc, conn);
+    close(conn);
+    brought?;
+    write_whole(out, b"migrated\n")?;
+    Ok(())
 }
 
 // Does a task.
-fn do_task<F: Files, R: Read, W: Write>(
-    rt: &F,
+fn do_task<R: Read, W: Write>(
+    rt: &HostRuntime,
     alloc: Global,
     task: Task,
     reader: &mut R,
@@ -136,13 +155,27 @@ fn do_task<F: Files, R: Read, W: Write>(
             repo,
             file,
         } => print_preview(rt, alloc, &country, &repo, file.as_ref(), reader, out),
+        Task::Init { store, settings } => make_office(rt, &store, settings),
         Task::Trial { settings } => try_office(alloc, settings, reader, out),
+        Task::Import {
+            store,
+            source,
+            file,
+        } => import(rt, alloc, &store, source, &file, out),
+        Task::Talk { store } => talk(rt, alloc, &store, reader, out),
+        Task::Serve {
+            store,
+            port,
+            connections,
+        } => serve_store(rt, alloc, &store, port, connections, out),
+        Task::Check { store } => check(rt, alloc, &store, out),
+        Task::Migrate { store } => migrate(rt, alloc, &store, out),
     }
 }
 
 /// Does the task that the words name, with these as standard input and output.
-pub fn run<F: Files, R: Read, W: Write>(
-    rt: &F,
+pub fn run<R: Read, W: Write>(
+    rt: &HostRuntime,
     alloc: Global,
     words: &[String],
     reader: &mut R,

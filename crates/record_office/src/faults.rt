@@ -1,11 +1,12 @@
 //! Why a command was not done, with its exit status and its message.
 ghost use Rattle.std.specs.Prelude.{◌≡◌, IfOk};
-ghost use Rattle.record_office.specs.Faults.{bad_file_line, message_of, status_of};
+ghost use Rattle.record_office.specs.Faults.{Refuses, line_of, message_of, status_of};
 
 use crate::streams::{ReadFault, WriteFault};
 use crate::tasks::TaskFault;
 use isad_core::Text;
-use office::OpenFault;
+use office::{Busy, OpenFault, Refusal};
+use office_files::FileFault;
 use std::alloc::{AllocError, Global};
 
 /// How a session ended that was not closed after an answer, nor by the end of its input after one.
@@ -26,6 +27,8 @@ pub enum Break {
 pub enum Fault {
     /// It was refused. This is the line that says so.
     Refused(Text),
+    /// A check has found no sound office of this version, and has said so on standard output.
+    NotSound,
     /// The words name no task. This is what to tell their writer.
     Words(Text),
     /// A day is none of the calendar.
@@ -36,6 +39,8 @@ pub enum Fault {
     File,
     /// The store could not be opened, read or written.
     Store,
+    /// A port could not be had, or a connection not be taken.
+    Net,
     /// A session broke off.
     Session(Break),
     /// There was no memory.
@@ -48,9 +53,9 @@ impl Fault {
         ensures { result ≡ status_of self.now }
     {
         match self {
-            Fault::Refused(_) => 1,
+            Fault::Refused(_) | Fault::NotSound => 1,
             Fault::Words(_) | Fault::Date | Fault::Settings => 2,
-            Fault::File | Fault::Store | Fault::Session(_) | Fault::Memory => 3,
+            Fault::File | Fault::Store | Fault::Net | Fault::Session(_) | Fault::Memory => 3,
         }
     }
 
@@ -60,11 +65,13 @@ impl Fault {
     {
         match self {
             Fault::Refused(line) => line.as_str(),
+            Fault::NotSound => "",
             Fault::Words(text) => text.as_str(),
             Fault::Date => "bad date\n",
             Fault::Settings => "bad settings\n",
             Fault::File => "file fault\n",
             Fault::Store => "store fault\n",
+            Fault::Net => "net fault\n",
             Fault::Session(Break::Cut) => "cut\n",
             Fault::Session(Break::Read) => "read fault\n",
             Fault::Session(Break::Write) => "write fault\n",
@@ -74,11 +81,31 @@ impl Fault {
     }
 }
 
-/// The line that refuses a file for a cause in a row.
-pub fn bad_file(alloc: Global, row: u32, cause: u8) -> Result<Text, AllocError>
-    ensures { IfOk result (λ t. t ≡ bad_file_line row cause) }
+/// The line that tells a refusal: its number and name, and where it is.
+pub fn refusal_line(alloc: Global, why: Refusal) -> Result<Text, AllocError>
+    ensures { IfOk result (λ t. t ≡ line_of why) }
 {
-    Ok(Text(format!(in alloc; "refused 22 BadFile row {row} cause {cause}\n")?))
+    let code = why.code();
+    let name = why.name();
+    match why {
+        Refusal::BadFile { row, cause } => Ok(Text(format!(in alloc;
+            "refused {code} {name} row {row} cause {cause}\n"
+        )?)),
+        Refusal::WithReader { container } => Ok(Text(format!(in alloc;
+            "refused {code} {name} container {container}\n"
+        )?)),
+        _ => Ok(Text(format!(in alloc; "refused {code} {name}\n")?)),
+    }
+}
+
+/// What is refused, with its line where there is memory for it.
+pub fn refused(alloc: Global, why: Refusal) -> Fault
+    ensures { Refuses why result }
+{
+    match refusal_line(alloc, why) {
+        Ok(line) => Fault::Refused(line),
+        Err(_) => Fault::Memory,
+    }
 }
 
 impl From<AllocError> for Fault {
@@ -114,7 +141,34 @@ impl From<OpenFault> for Fault {
     fn from(fault: OpenFault) -> Fault {
         match fault {
             OpenFault::Memory => Fault::Memory,
-            OpenFault::Disk | OpenFault::Schema => Fault::Store,
+            _ => Fault::Store,
+        }
+    }
+}
+
+impl From<FileFault> for Fault {
+    ghost use Rattle.record_office.specs.Faults.{fault_of_file};
+
+    ghost from_gives = { λ f e. e ≡ fault_of_file f };
+
+    fn from(fault: FileFault) -> Fault {
+        match fault {
+            FileFault::Memory => Fault::Memory,
+            FileFault::Absent => Fault::File,
+            FileFault::Unopened => Fault::Store,
+        }
+    }
+}
+
+impl From<Busy> for Fault {
+    ghost use Rattle.record_office.specs.Faults.{fault_of_busy};
+
+    ghost from_gives = { λ f e. e ≡ fault_of_busy f };
+
+    fn from(busy: Busy) -> Fault {
+        match busy {
+            Busy::Memory => Fault::Memory,
+            Busy::Disk | Busy::Schema => Fault::Store,
         }
     }
 }

@@ -3,19 +3,27 @@
 
 #[cfg(test)]
 mod catalogue_days;
-mod command_line;
+mod checking;
 mod commands;
 #[cfg(test)]
 mod desk_days;
 #[cfg(test)]
 mod fakes;
 mod faults;
+mod importing;
+mod migrating;
 #[cfg(test)]
 mod office_messages;
 mod perform;
+mod previewing;
+mod serving;
 #[cfg(test)]
 mod steps;
+#[cfg(test)]
+mod store_tests;
+mod stores;
 mod streams;
+mod talking;
 mod tasks;
 #[cfg(test)]
 mod tests;

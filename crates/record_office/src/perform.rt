@@ -9,11 +9,10 @@ use crate::faults::Fault;
 use crate::streams::write_whole;
 use std::alloc::Global;
 use std::io::{Read, Write};
-use std::rt::Files;
 
 /// Does one command with these as standard input, output and error, and gives the exit status.
-pub fn perform<F: Files, R: Read, W: Write, E: Write>(
-    rt: &F,
+pub fn perform<R: Read, W: Write, E: Write>(
+    rt: &HostRuntime,
     alloc: Global,
     words: &[String],
     reader: &mut R,

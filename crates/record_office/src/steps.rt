@@ -1,10 +1,9 @@
 //! Steps of an office's day, as a program over a session: what is asked, and the bytes that it is answered with.
 
 use crate::fakes::{Page, Pieces};
-use crate::tests::{TRIAL, expect};
+use crate::tests::{Host, TRIAL, expect};
 use std::alloc::Global;
 use std::process::Abort;
-use std::rt::Files;
 use std::test::Fail;
 
 /// A request, and what it is answered.
@@ -88,7 +87,7 @@ impl Session {
     }
 
     /// Tries a new office with it, byte by byte and whole.
-    pub fn is_held<R: Abort + Files>(&self, rt: &R, alloc: Global) -> Result<(), Fail> {
+    pub fn is_held<R: Abort + Host>(&self, rt: &R, alloc: Global) -> Result<(), Fail> {
         for piece in [1usize, 1_000_000] {
             let reader = Pieces::interrupted(self.asked.as_bytes(), piece);
             let out = Page::in_pieces(Vec::new(alloc), piece);
@@ -100,7 +99,7 @@ impl Session {
 }
 
 /// Tries a new office with these steps.
-pub fn goes<R: Abort + Files>(rt: &R, alloc: Global, steps: &[Step<'_>]) -> Result<(), Fail> {
+pub fn goes<R: Abort + Host>(rt: &R, alloc: Global, steps: &[Step<'_>]) -> Result<(), Fail> {
     let mut session = Session::new(alloc);
     for step in steps {
         session.goes_on(alloc, *step)?;

@@ -3,7 +3,7 @@
 //! At most 4294967295 reads are made of a stream, and as many writes: an interrupted one counts and
 //! is tried again, and where one more would be needed the stream has failed. Flushes are counted by
 //! themselves.
-ghost use Rattle.std.specs.Prelude.{◌≡◌, ℕ, List, [], IfOk, OnOk};
+ghost use Rattle.std.specs.Prelude.{◌≡◌, ◌++◌, ℕ, List, [], IfOk, OnOk, codes};
 ghost use Rattle.std.specs.Io.KnownBytes.{Appends, Consumes, IsAtEnd};
 ghost use Rattle.record_office.specs.Streams.{IsFront};
 
@@ -84,6 +84,16 @@ pub fn write_whole<W: Write>(writer: &mut W, bytes: &[u8]) -> Result<(), WriteFa
     }
     write_within(writer, bytes, CALLS)?;
     flush(writer)
+}
+
+/// Writes the bytes and a line feed, and flushes.
+pub fn write_line<W: Write>(writer: &mut W, bytes: &[u8]) -> Result<(), WriteFault>
+    ensures whole { OnOk result (Appends (W.contents writer.old) (W.contents writer.new) (bytes.now ++ codes "\n")) }
+    ensures front { (written : List ℕ) × IsFront written (bytes.now ++ codes "\n")
+        × Appends (W.contents writer.old) (W.contents writer.new) written }
+{
+    write_whole(writer, bytes)?;
+    write_whole(writer, b"\n")
 }
 
 // Writes the bytes, in at most so many writes.

@@ -5,7 +5,7 @@ use isad_core::Text;
 use office::{Settings, SettingsFault};
 use std::alloc::AllocError;
 
-/// A command of the program, with its values. The other commands come with what they do.
+/// A command of the program, with its values.
 #[derive(Debug, Drop)]
 pub enum Task {
     /// Prints the finding aids of a file's published descriptions.
@@ -17,10 +17,50 @@ pub enum Task {
         /// The file's path. Where it is left out, standard input is read.
         file: Option<Text>,
     },
+    /// Makes a new office in a file that is not there yet.
+    Init {
+        /// The path of the file that keeps the office.
+        store: Text,
+        /// With what the office begins.
+        settings: Settings,
+    },
     /// Answers requests on a new office in memory, which is gone at the end.
     Trial {
         /// With what the office begins.
         settings: Settings,
+    },
+    /// Takes the descriptions of a file into the office.
+    Import {
+        /// The path of the file that keeps the office.
+        store: Text,
+        /// The name of where the file comes from.
+        source: Text,
+        /// The file's path.
+        file: Text,
+    },
+    /// Answers requests from standard input.
+    Talk {
+        /// The path of the file that keeps the office.
+        store: Text,
+    },
+    /// Serves connections on 127.0.0.1, one after the other.
+    Serve {
+        /// The path of the file that keeps the office.
+        store: Text,
+        /// The port.
+        port: u16,
+        /// How many connections are served.
+        connections: u32,
+    },
+    /// Tells whether the office is sound.
+    Check {
+        /// The path of the file that keeps the office.
+        store: Text,
+    },
+    /// Brings an office of version 1 to version 2.
+    Migrate {
+        /// The path of the file that keeps the office.
+        store: Text,
     },
 }
 

@@ -4,7 +4,6 @@ use crate::tasks::{Task, TaskFault};
 use crate::words::{given, task};
 use std::alloc::Global;
 use std::process::Abort;
-use std::rt::Files;
 use std::test::Fail;
 use std::{env, fs};
 
@@ -16,13 +15,22 @@ const AIDS: &str = "GB 0999 HUL [Fonds] Hull Dock Company\n  GB 0999 HUL/1 [Seri
 
 // What clap tells of no words, of each command, and of a number that is none or too great.
 const NO_COMMAND: &str =
-    "error: 'record_office' requires a subcommand but one was not provided\n  [subcommands: preview, trial]\n\nUsage: record_office <COMMAND>\n\nFor more information, try '--help'.\n";
+    "error: 'record_office' requires a subcommand but one was not provided\n  [subcommands: preview, init, trial, import, talk, serve, check, migrate]\n\nUsage: record_office <COMMAND>\n\nFor more information, try '--help'.\n";
 
 const HELP: &str =
     "Prints the finding aids of a CSV file's published descriptions\n\nUsage: record_office preview --country <country> --repo <repo> [FILE]\n\nArguments:\n  [FILE]  The CSV file; standard input if it is left out\n\nOptions:\n      --country <country>  The country code, such as GB\n      --repo <repo>        The repository code, such as 0999\n  -h, --help               Print help\n";
 
 const TRIAL_HELP: &str =
     "Answers requests from standard input on a new office in memory\n\nUsage: record_office trial --country <country> --repo <repo> --seats <seats> --daily <daily> --hands <hands> --run <run> --day <day>\n\nOptions:\n      --country <country>  The country code, such as GB\n      --repo <repo>        The repository code, such as 0999\n      --seats <seats>      How many seats the reading room has, 1 to 200\n      --daily <daily>      How many orders a ticket may place a day, 1 to 50\n      --hands <hands>      How many containers a reader may have at once, 1 to 10\n      --run <run>          How many containers a run takes at most, 1 to 100\n      --day <day>          The day on which the office opens, such as 2024-03-01\n  -h, --help               Print help\n";
+
+const IMPORT_HELP: &str =
+    "Takes the descriptions of a CSV file into the office\n\nUsage: record_office import --store <store> --source <source> <FILE>\n\nArguments:\n  <FILE>  The CSV file\n\nOptions:\n      --store <store>    The file that keeps the office\n      --source <source>  The name of where the file comes from\n  -h, --help             Print help\n";
+
+const SERVE_HELP: &str =
+    "Serves connections on 127.0.0.1, one after the other\n\nUsage: record_office serve --store <store> --port <port> --connections <connections>\n\nOptions:\n      --store <store>              The file that keeps the office\n      --port <port>                The port on 127.0.0.1, 1 to 65535\n      --connections <connections>  How many connections are served, 1 to 10000\n  -h, --help                       Print help\n";
+
+const NO_PORT: &str =
+    "error: invalid value '0' for '--port <port>': 0 is not in 1..=65535\n\nFor more information, try '--help'.\n";
 
 const NO_NUMBER: &str =
     "error: invalid value 'two' for '--seats <seats>': invalid digit found in string\n\nFor more information, try '--help'.\n";
@@ -35,6 +43,17 @@ const PREVIEW: &str = "preview --country GB --repo 0999";
 pub const TRIAL: &str =
     "trial --country GB --repo 0999 --seats 2 --daily 3 --hands 1 --run 2 --day 2024-03-01";
 
+// The runtime of a test.
+pub trait Host {
+    fn host(&self) -> &HostRuntime;
+}
+
+impl Host for HostRuntime {
+    fn host(&self) -> &HostRuntime {
+        self
+    }
+}
+
 // The words of a text.
 fn words_of(alloc: Global, text: &str) -> Result<Vec<String>, Fail> {
     let mut words = Vec::new(alloc);
@@ -45,7 +64,7 @@ fn words_of(alloc: Global, text: &str) -> Result<Vec<String>, Fail> {
 }
 
 // Performs the words over streams, and wants this exit status, this output and this told.
-pub fn expect<R: Abort + Files>(
+pub fn expect<R: Abort + Host>(
     rt: &R,
     alloc: Global,
     words: &str,
@@ -55,7 +74,14 @@ pub fn expect<R: Abort + Files>(
 ) -> Result<(), Fail> {
     let mut err = Page::new(Vec::new(alloc));
     let said = words_of(alloc, words)?;
-    let status = perform(rt, alloc, said.as_slice(), &mut reader, &mut out, &mut err);
+    let status = perform(
+        rt.host(),
+        alloc,
+        said.as_slice(),
+        &mut reader,
+        &mut out,
+        &mut err,
+    );
     let (wanted_status, wanted_out, wanted_err) = wanted;
     assert_eq!(rt; status, wanted_status, "status of {words}");
     assert_eq!(rt; out.held.as_slice(), wanted_out, "output of {words}");
@@ -235,6 +261,9 @@ fn words_name_no_task(rt: HostRuntime) -> Result<(), Fail> {
         ("", NO_COMMAND),
         ("preview --help", HELP),
         ("trial --help", TRIAL_HELP),
+        ("import --help", IMPORT_HELP),
+        ("serve --help", SERVE_HELP),
+        ("serve --store f --port 0 --connections 1", NO_PORT),
         (
             "trial --country GB --repo 0999 --seats two --daily 3 --hands 1 --run 2 --day 2024-03-01",
             NO_NUMBER,
@@ -249,7 +278,17 @@ fn words_name_no_task(rt: HostRuntime) -> Result<(), Fail> {
         expect(&rt, alloc, words, reader, out, (2, b"", told))?;
     }
     for words in [
-        "check --store f",
+        "check --store",
+        "check --store f g",
+        "talk",
+        "init --store f",
+        "import --store f --source a",
+        "serve --store f --port 0 --connections 1",
+        "serve --store f --port 65536 --connections 1",
+        "serve --store f --port 8080 --connections 0",
+        "serve --store f --port 8080 --connections 10001",
+        "serve --store f --port 8080",
+        "migrate f",
         "help",
         "--help",
         "preview -h",
@@ -281,7 +320,12 @@ fn words_name_a_preview(rt: HostRuntime) -> Result<(), Fail> {
     let alloc = rt.alloc();
     for (words, wanted_country, wanted_repo, wanted_file) in [
         (PREVIEW, "GB", "0999", "none"),
-        ("preview --country= --repo=x=y a.csv", "", "x=y", "a.csv"),
+        (
+            "preview --country=FR --repo=x=y a.csv",
+            "FR",
+            "x=y",
+            "a.csv",
+        ),
         ("preview a.csv --repo 1 --country FR", "FR", "1", "a.csv"),
         ("preview --country GB --repo 1 -- -h", "GB", "1", "-h"),
         ("preview --country GB --repo 1 -", "GB", "1", "-"),

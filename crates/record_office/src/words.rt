@@ -5,65 +5,23 @@ ghost use Rattle.clap.specs.Matches.{found_of};
 ghost use Rattle.clap.specs.Simple.{subcommand_of};
 ghost use Rattle.clap.specs.Takes.{takes};
 ghost use Rattle.clap.specs.Values.{kind_of};
-ghost use Rattle.clap.specs.Walk.{Row, Text as Word, first_of, rows_of};
-ghost use Rattle.record_office.specs.CommandLine.{program};
-ghost use Rattle.record_office.specs.Tasks.{AreGiven, AreRefused, AreRefusedFor, HasNeeds, HasNumber, HasSettings};
-ghost use Rattle.record_office.specs.Tasks.{HasText, IsDay, IsNumber, IsTask, IsTaskOf, IsValue, IsWords};
+ghost use Rattle.clap.specs.Walk.{Row, Text as Word, rows_of};
+ghost use Rattle.office_words.specs.CommandLine.{program};
+ghost use Rattle.office_words.specs.Given.{HasImport, HasNeeds, HasServer, HasSettings, HasText};
+ghost use Rattle.record_office.specs.Tasks.{AreGiven, AreNoCodes, AreRefused, AreRefusedFor, IsTask, IsTaskOf, IsWords};
 
-use crate::command_line::record_office;
 use crate::tasks::{Task, TaskFault};
 use clap::error::ErrorKind;
 use clap::{ArgMatches, Error};
-use isad_core::{Day, Text};
-use office::Settings;
+use isad_core::Text;
+use office::{Settings, is_country, is_repository};
+use office_words::{connections, day, number, optional_text, port, record_office, said, text};
 use std::alloc::{AllocError, Global};
 use std::rt::Env;
 use std::{env, io};
 
 // What `clap` tells of words that are no text.
 const NO_TEXT: &str = "error: invalid UTF-8 was detected in one or more arguments\n";
-
-// What was said for an option that is there.
-fn said<'a>(found: &ArgMatches<'a>, name: &str) -> &'a str
-    requires { HasText (rows_of (found_of found.now)) name.now }
-    ensures { IsValue (rows_of (found_of found.now)) name.now result.now }
-{
-    found.get_str(name).unwrap()
-}
-
-// The same as a text of its own.
-fn text(alloc: Global, found: &ArgMatches, name: &str) -> Result<Text, AllocError>
-    requires { HasText (rows_of (found_of found.now)) name.now }
-    ensures { IfOk result (IsValue (rows_of (found_of found.now)) name.now) }
-{
-    Text::new(alloc, said(found, name))
-}
-
-// The value of what may be left out.
-fn optional_text(alloc: Global, found: &ArgMatches, name: &str) -> Result<Option<Text>, AllocError>
-    ensures { IfOk result (λ o. first_of name.now (rows_of (found_of found.now)) ≡ o) }
-{
-    match found.get_str(name) {
-        Some(text) => Ok(Some(Text::new(alloc, text)?)),
-        None => Ok(None),
-    }
-}
-
-// The value of an option that is a number.
-fn number(found: &ArgMatches, name: &str) -> u32
-    requires { HasNumber (rows_of (found_of found.now)) name.now }
-    ensures { IsNumber (rows_of (found_of found.now)) name.now result }
-{
-    found.get_one(name).unwrap()
-}
-
-// The day of an option, where it is one of the calendar.
-fn day(found: &ArgMatches, name: &str) -> Option<Day>
-    requires { HasText (rows_of (found_of found.now)) name.now }
-    ensures { IsDay (rows_of (found_of found.now)) name.now result }
-{
-    Day::parse(said(found, name))
-}
 
 // With what an office begins. The day is judged first.
 #[tactic(auto, using(crate::proofs::GivenSettings::taken_are, crate::proofs::GivenSettings::refused_are))]
@@ -96,6 +54,61 @@ fn settings(alloc: Global, found: &ArgMatches) -> Result<Settings, TaskFault>
     }
 }
 
+// A preview. The codes are judged as those of an office are.
+fn preview(alloc: Global, found: &ArgMatches) -> Result<Task, TaskFault>
+    requires country { HasText (rows_of (found_of found.now)) (codes "country") }
+    requires repo { HasText (rows_of (found_of found.now)) (codes "repo") }
+    ensures given { IfOk result (IsTask (codes "preview") (rows_of (found_of found.now))) }
+    ensures refused { IfErr result (AreNoCodes (rows_of (found_of found.now))) }
+{
+    let country = said(found, "country");
+    let repo = said(found, "repo");
+    if !(is_country(country) && is_repository(repo)) {
+        return Err(TaskFault::Settings);
+    }
+    Ok(Task::Preview {
+        country: Text::new(alloc, country)?,
+        repo: Text::new(alloc, repo)?,
+        file: optional_text(alloc, found, "FILE")?,
+    })
+}
+
+// A new office in a file. The settings are judged before the file.
+fn init(alloc: Global, found: &ArgMatches) -> Result<Task, TaskFault>
+    requires store { HasText (rows_of (found_of found.now)) (codes "store") }
+    requires settings { HasSettings (rows_of (found_of found.now)) }
+    ensures given { IfOk result (IsTask (codes "init") (rows_of (found_of found.now))) }
+    ensures refused { IfErr result (AreRefused (rows_of (found_of found.now))) }
+{
+    let settings = settings(alloc, found)?;
+    let store = text(alloc, found, "store")?;
+    Ok(Task::Init { store, settings })
+}
+
+// An import into the office in a file.
+fn import(alloc: Global, found: &ArgMatches) -> Result<Task, AllocError>
+    requires { HasImport (rows_of (found_of found.now)) }
+    ensures { IfOk result (IsTask (codes "import") (rows_of (found_of found.now))) }
+{
+    Ok(Task::Import {
+        store: text(alloc, found, "store")?,
+        source: text(alloc, found, "source")?,
+        file: text(alloc, found, "FILE")?,
+    })
+}
+
+// A server of the office in a file.
+fn serve(alloc: Global, found: &ArgMatches) -> Result<Task, AllocError>
+    requires { HasServer (rows_of (found_of found.now)) }
+    ensures { IfOk result (IsTask (codes "serve") (rows_of (found_of found.now))) }
+{
+    Ok(Task::Serve {
+        store: text(alloc, found, "store")?,
+        port: port(found),
+        connections: connections(found),
+    })
+}
+
 // The task that a command and its matches name.
 fn named(alloc: Global, name: &str, found: &ArgMatches) -> Result<Task, TaskFault>
     requires { HasNeeds name.now (rows_of (found_of found.now)) }
@@ -104,13 +117,21 @@ fn named(alloc: Global, name: &str, found: &ArgMatches) -> Result<Task, TaskFaul
     ensures taken { IfErr result (λ f. IsWords f → ⊥) }
 {
     match name {
-        "preview" => Ok(Task::Preview {
-            country: text(alloc, found, "country")?,
-            repo: text(alloc, found, "repo")?,
-            file: optional_text(alloc, found, "FILE")?,
-        }),
+        "preview" => preview(alloc, found),
+        "init" => init(alloc, found),
         "trial" => Ok(Task::Trial {
             settings: settings(alloc, found)?,
+        }),
+        "import" => Ok(import(alloc, found)?),
+        "talk" => Ok(Task::Talk {
+            store: text(alloc, found, "store")?,
+        }),
+        "serve" => Ok(serve(alloc, found)?),
+        "check" => Ok(Task::Check {
+            store: text(alloc, found, "store")?,
+        }),
+        "migrate" => Ok(Task::Migrate {
+            store: text(alloc, found, "store")?,
         }),
         _ => unreachable!(),
     }

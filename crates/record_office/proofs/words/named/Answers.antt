@@ -1,11 +1,9 @@
-use Rattle.std.proofs.Common.{◌≡◌, List, codes, rules}
-use Rattle.clap.specs.Walk.{Row, Text}
-use Rattle.record_office.specs.Tasks.{HasNeeds, HasSettings, Previews, Tries}
+use Rattle.std.proofs.Common.{codes, rules}
+use Rattle.record_office.proofs.Named.{needs_at}
 use Rattle.record_office.proofs.words.named.Goals as goal
 
-settings_there : (name : Text) (rows : List Row) → HasNeeds name rows → name ≡ codes "trial" → HasSettings rows
-settings_there name rows (Previews is country repo) trial = absurd cc
-settings_there name rows (Tries is settings) trial = settings
+pub init-requires-clause-settings : goal.init-requires-clause-settings
+init-requires-clause-settings c = (needs_at c.args.name.now (codes "init") _ c.requires (search rules)).1
 
 pub settings-requires : goal.settings-requires
-settings-requires c = settings_there c.args.name.now _ c.requires (search rules)
+settings-requires c = needs_at c.args.name.now (codes "trial") _ c.requires (search rules)

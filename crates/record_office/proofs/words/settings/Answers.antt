@@ -2,7 +2,8 @@ use Rattle.std.proofs.Common.{◌≡◌, List, Ok, Err, codes, rules, subst, sym
 use Rattle.clap.specs.Matches.{found_of}
 use Rattle.clap.specs.Walk.{Row, rows_of}
 use Rattle.office.specs.Founding.{Founding}
-use Rattle.record_office.specs.Tasks.{AreGiven, AreRefused, IsValue}
+use Rattle.office_words.specs.Given.{IsValue}
+use Rattle.record_office.specs.Tasks.{AreGiven, AreRefused}
 use Rattle.record_office.proofs.GivenSettings.{refused_are, taken_are}
 use Rattle.record_office.proofs.words.settings.Goals as goal
 

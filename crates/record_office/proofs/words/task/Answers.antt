@@ -7,10 +7,10 @@ use Rattle.clap.specs.declared.parser.matches.ArgMatches.TheViews.{out-ArgMatche
 use Rattle.clap.specs.Simple.{App, app_of, is_simple, subcommand_of, subcommand_rows_of}
 use Rattle.clap.specs.Takes.{takes}
 use Rattle.clap.specs.Walk.{rows_of}
-use Rattle.record_office.specs.CommandLine.{program}
+use Rattle.office_words.specs.CommandLine.{program}
 use Rattle.std.proofs.lemmas.Result.{IfErr-weaker, IfOk-weaker}
 use Rattle.record_office.specs.Tasks.{AreRefusedFor, IsTaskOf}
-use Rattle.record_office.proofs.Needs.{needs}
+use Rattle.office_words.proofs.Needs.{needs}
 use Rattle.record_office.proofs.words.task.Goals as goal
 
 not_true : (b : Bool) → (b ≡ true → ⊥) → b ≡ false

@@ -1,0 +1,79 @@
+//! A connection to the file of an office.
+ghost use Rattle.std.specs.Prelude.{◌≡◌, IfOk};
+ghost use Rattle.sqlite.specs.WalFiles.{image_at};
+ghost use Rattle.sqlite.specs.Files.{IsOpened, file_state};
+ghost use Rattle.sqlite.specs.Held.{IsNew};
+ghost use Rattle.sqlite.specs.Start.{FindsIn};
+ghost use Rattle.sqlite.specs.State.{HasCleanDisk};
+
+use sqlite::{Connection, Error, ErrorCode, FileFrom, FileStore, Start};
+use std::fs;
+use std::fs::File;
+
+/// Why no file was opened.
+#[derive(Clone, Copy, Debug, PartialEq, Eq, Drop)]
+pub enum FileFault {
+    /// There is no memory.
+    Memory,
+    /// It is not there, or it is there and was to be made.
+    Absent,
+    /// It is there, and no store is opened on it.
+    Unopened,
+}
+
+/// A store in a file that held what `S` says.
+pub type FileStoreFrom<S> = FileStore<FileFrom<S>>;
+
+// Opens the file.
+fn open<S: Start>(
+    rt: &HostRuntime,
+    path: &str,
+    start: S,
+) -> Result<Connection<FileStoreFrom<S>>, FileFault>
+    ensures opened { IfOk result (λ conn. HasCleanDisk (file_state conn) → IsOpened conn) }
+    ensures found { IfOk result (λ conn. HasCleanDisk (file_state conn) → FindsIn (image_at S.Start) (file_state conn)) }
+    ensures fresh { IfOk result IsNew }
+{
+    match Connection::open_from(rt, path, false, start) {
+        Ok(conn) => Ok(conn),
+        Err((Error::SqliteFailure(ErrorCode::OutOfMemory), _)) => Err(FileFault::Memory),
+        Err(_) => Err(FileFault::Unopened),
+    }
+}
+
+/// Makes a file that is not there yet, with a store that has no tables. Nobody else makes it at the same time.
+pub fn make<S: Start>(
+    rt: &HostRuntime,
+    path: &str,
+    start: S,
+) -> Result<Connection<FileStoreFrom<S>>, FileFault>
+    ensures opened { IfOk result (λ conn. HasCleanDisk (file_state conn) → IsOpened conn) }
+    ensures found { IfOk result (λ conn. HasCleanDisk (file_state conn) → FindsIn (image_at S.Start) (file_state conn)) }
+    ensures fresh { IfOk result IsNew }
+{
+    if File::create_new(rt, path).is_err() {
+        return Err(FileFault::Absent);
+    }
+    open(rt, path, start)
+}
+
+/// Opens a file that is there, with what it keeps.
+pub fn find<S: Start>(
+    rt: &HostRuntime,
+    path: &str,
+    start: S,
+) -> Result<Connection<FileStoreFrom<S>>, FileFault>
+    ensures opened { IfOk result (λ conn. HasCleanDisk (file_state conn) → IsOpened conn) }
+    ensures found { IfOk result (λ conn. HasCleanDisk (file_state conn) → FindsIn (image_at S.Start) (file_state conn)) }
+    ensures fresh { IfOk result IsNew }
+{
+    match fs::exists(rt, path) {
+        Ok(true) => open(rt, path, start),
+        _ => Err(FileFault::Absent),
+    }
+}
+
+/// Closes the file. What was committed is in it, or in its log where it could not be brought over: nothing is lost.
+pub fn close<S: Start>(conn: Connection<FileStoreFrom<S>>) {
+    let _ = conn.close();
+}

@@ -1,0 +1,18 @@
+-- Sessions, one after the other.
+use Rattle.std.specs.Prelude.{◌≡◌, ℕ, zero, suc, Bool, true, false}
+use Rattle.isad_core.specs.Texts.{Bytes}
+use Rattle.office_core.specs.State.{State}
+use Rattle.http_desk.specs.Session.{Session}
+use Rattle.http_desk.specs.declared.ended.Ended.{Ended}
+
+-- so many sessions lead from one state to another, each with an input of its own
+abbrev pub AreSessions : ℕ → State → State → Type 0
+AreSessions zero s t = s ≡ t
+AreSessions (suc n) s t =
+    (mid : State) × AreSessions n s mid
+    × ((input output : Bytes) × (end : Ended) × Session mid input output end t)
+
+-- one, where a connection could be taken
+abbrev pub sessions_of : Bool → ℕ
+sessions_of true = 1
+sessions_of false = 0
