@@ -6,7 +6,7 @@ ghost use Rattle.tree_core.specs.Versions.{Links};
 ghost use Rattle.office_tables.specs.Step.{InTransaction};
 
 use crate::tests::{Query, new_office, show_rows, two_units};
-use catalogue_store::StoreFault;
+use catalogue_store::{StoreFault, begin, commit};
 use desk_core::Place;
 use desk_store::{
     FirstOrder, OrderState, add_reader, append_order, at_desk, candidates, end_order, grant,
@@ -14,6 +14,7 @@ use desk_store::{
     set_place, set_seat,
 };
 use isad_core::{Day, Text};
+use office_tables::roll_back;
 use sqlite::{Alter, Connection};
 use std::alloc::Global;
 use std::process::Abort;
@@ -226,6 +227,59 @@ enum Act {
     Open,
 }
 
+/// Does it, and writes what the calls say.
+fn carry_out<S: Alter>(
+    alloc: Global,
+    conn: &mut Connection<S>,
+    done: Act,
+    text: &mut String,
+) -> Result<(), StoreFault>
+    requires inside { InTransaction Links (state S.Store conn.old) }
+{
+    match done {
+        Act::Sit => seated(alloc, conn, text),
+        Act::Card => carded(alloc, conn, text),
+        Act::End => ended(alloc, conn, text),
+        Act::Run => brought(alloc, conn, text),
+        Act::Permit => permitted(alloc, conn, text),
+        Act::Pick => picked(alloc, conn, text),
+        Act::Open => opened(alloc, conn, text),
+    }
+}
+
+/// What was done is committed, and another transaction begins.
+fn next_turn<S: Alter>(conn: &mut Connection<S>) -> Result<(), StoreFault>
+    requires inside { InTransaction Links (state S.Store conn.old) }
+    ensures inside { OnOk result (InTransaction Links (state S.Store conn.new)) }
+{
+    commit(conn)?;
+    begin(conn)
+}
+
+/// All that the desk's tables have, and the office's row.
+fn show_desk<S: Alter>(alloc: Global, conn: &mut Connection<S>) -> Result<String, Fail> {
+    let mut text = String::new(alloc);
+    for query in [READERS, SEATS, ORDERS, HOLDINGS, RUNS, LINES, PERMITS, DAY] {
+        show_rows(&mut text, conn, query)?;
+    }
+    Ok(text)
+}
+
+/// The transaction of calls of which one failed is taken back: nothing is left of them in a new office.
+fn taken_back<S: Alter>(
+    alloc: Global,
+    conn: &mut Connection<S>,
+    fault: StoreFault,
+) -> Result<(), Fail> {
+    roll_back(conn);
+    let left = show_desk(alloc, conn)?;
+    if left.as_str() == " 2 19783 1\n" {
+        Err(Fail::from(fault))
+    } else {
+        Err(Fail::new("something is left"))
+    }
+}
+
 /// What the calls say and then the rows of these queries.
 fn told<S: Alter>(
     alloc: Global,
@@ -235,14 +289,9 @@ fn told<S: Alter>(
 ) -> Result<String, Fail> {
     let mut text = String::new(alloc);
     new_office(alloc, conn)?;
-    match done {
-        Act::Sit => seated(alloc, conn, &mut text)?,
-        Act::Card => carded(alloc, conn, &mut text)?,
-        Act::End => ended(alloc, conn, &mut text)?,
-        Act::Run => brought(alloc, conn, &mut text)?,
-        Act::Permit => permitted(alloc, conn, &mut text)?,
-        Act::Pick => picked(alloc, conn, &mut text)?,
-        Act::Open => opened(alloc, conn, &mut text)?,
+    next_turn(conn)?;
+    if let Err(fault) = carry_out(alloc, conn, done, &mut text) {
+        taken_back(alloc, conn, fault)?;
     }
     for query in queries {
         show_rows(&mut text, conn, *query)?;

@@ -1,38 +1,19 @@
-//! A day of an office by its own calls, in the bytes of its replies. Where memory is refused nothing is changed, and the
-//! same call is answered as without.
+//! A day of an office by its own calls, in the bytes of its replies.
 
-use crate::offices::{BOXES, day_after, in_memory, settings};
+use crate::calls::{Said, Step, goes};
+use crate::offices::{BOXES, in_memory, settings};
 use catalogue_store::{LinkPlaces, Places};
-use isad_core::{Day, List, Text};
-use office_core::{Answer, Busy, Command, Query, Reply};
+use office_core::Query;
 use running_office::{Office, OpenFault};
 use span_places::SpanPlaces;
-use sqlite::{Alter, MemStore};
+use sqlite::MemStore;
 use std::alloc::Global;
 use std::process::Abort;
 use std::test::Fail;
 
-/// What is said to the office.
-#[derive(Clone, Copy)]
-enum Said {
-    Import,
-    Register,
-    Sit(u64),
-    Order(u64, u64),
-    Run,
-    Issue(u64, u64),
-    Return(u64),
-    Move(u64, Option<u64>),
-    Remove(u64),
-    Ask(Query),
-}
-
-/// What is said, and the bytes that answer it.
-type Step = (Said, &'static str);
-
 const DAY: [Step; 17] = [
     (
-        Said::Import,
+        Said::Import(BOXES),
         "{\"changed\":0,\"new\":4,\"remarks\":[{\"kind\":2,\"row\":2},{\"kind\":2,\"row\":3},{\"kind\":2,\"row\":4},{\"kind\":2,\"row\":5}],\"same\":0,\"translations\":0}",
     ),
     (Said::Register, "{\"ticket\":1}"),
@@ -65,97 +46,9 @@ const DAY: [Step; 17] = [
     ),
 ];
 
-fn import(alloc: Global) -> Result<Command, Fail> {
-    Ok(Command::Import {
-        source: Text::new(alloc, "a")?,
-        file: List(Vec::from_slice(alloc, BOXES.as_bytes())?),
-    })
-}
-
-fn register(alloc: Global) -> Result<Command, Fail> {
-    Ok(Command::Register {
-        name: Text::new(alloc, "Ann")?,
-        until: day_after(30)?,
-    })
-}
-
-/// The command; a question has none.
-fn command(alloc: Global, said: Said) -> Result<Command, Fail> {
-    Ok(match said {
-        Said::Import => import(alloc)?,
-        Said::Register => register(alloc)?,
-        Said::Sit(ticket) => Command::TakeSeat { ticket },
-        Said::Order(ticket, container) => Command::Order { ticket, container },
-        Said::Run => Command::Run,
-        Said::Issue(container, ticket) => Command::Issue { container, ticket },
-        Said::Return(container) => Command::Return { container },
-        Said::Move(unit, parent) => Command::Move { unit, parent },
-        Said::Remove(unit) => Command::Remove { unit },
-        Said::Ask(_) => return Err(Fail::new("no command")),
-    })
-}
-
-/// Carries it out. Want of memory changes nothing, so the same is done again.
-fn applied<P: Places, S: Alter>(
-    alloc: Global,
-    office: &mut Office<P, S>,
-    command: &Command,
-) -> Result<Reply, Busy> {
-    match office.apply(alloc, command) {
-        Err(Busy::Memory) => office.apply(alloc, command),
-        reply => reply,
-    }
-}
-
-fn asked<P: Places, S: Alter>(
-    alloc: Global,
-    office: &mut Office<P, S>,
-    query: Query,
-) -> Result<Answer, Busy> {
-    match office.ask(alloc, query) {
-        Err(Busy::Memory) => office.ask(alloc, query),
-        answer => answer,
-    }
-}
-
-/// The bytes of the answer.
-fn bytes_of(answer: Answer) -> Result<List<u8>, Fail> {
-    match answer {
-        Answer::Text(text) => Ok(text),
-        Answer::Json(text) => Ok(text),
-        Answer::Unknown(refusal) => Err(Fail::from(refusal)),
-    }
-}
-
-fn told<P: Places, S: Alter>(
-    alloc: Global,
-    office: &mut Office<P, S>,
-    said: Said,
-) -> Result<List<u8>, Fail> {
-    if let Said::Ask(query) = said {
-        let answer = asked(alloc, office, query)?;
-        return bytes_of(answer);
-    }
-    let command = command(alloc, said)?;
-    let reply = applied(alloc, office, &command)?;
-    Ok(reply.json)
-}
-
-fn day_in<P: Places, S: Alter>(
-    rt: &impl Abort,
-    alloc: Global,
-    office: &mut Office<P, S>,
-) -> Result<(), Fail> {
-    for (said, wanted) in DAY {
-        let text = told(alloc, office, said)?;
-        assert_eq!(rt; text.as_slice(), wanted.as_bytes());
-    }
-    Ok(())
-}
-
 fn day_goes<P: Places>(rt: &impl Abort, alloc: Global) -> Result<(), Fail> {
     let mut office = in_memory::<P>(alloc)?;
-    let gone = day_in(rt, alloc, &mut office);
+    let gone = goes(rt, alloc, &mut office, &DAY);
     let _ = office.into_connection();
     gone
 }

@@ -2,7 +2,13 @@
 #![tactic(auto)]
 
 #[cfg(test)]
+mod adopted;
+#[cfg(test)]
+mod calls;
+#[cfg(test)]
 mod days;
+#[cfg(test)]
+mod migration;
 #[cfg(test)]
 mod offices;
 #[cfg(test)]

@@ -1,9 +1,13 @@
 //! New offices, over a store in memory and over a file.
 
+ghost use Rattle.std.specs.Prelude.{◌≡◌, false};
+ghost use Rattle.sqlite.specs.Held.{state};
+ghost use Rattle.sqlite.specs.State.{HasCleanDisk};
+
 use catalogue_store::Places;
 use isad_core::Day;
-use running_office::{Office, Settings};
-use sqlite::{Connection, MemStore};
+use running_office::{Office, OpenFault, Settings};
+use sqlite::{Alter, Connection, MemStore};
 use std::alloc::Global;
 use std::test::Fail;
 
@@ -25,12 +29,29 @@ pub fn settings(alloc: Global) -> Result<Settings, Fail> {
     Ok(Settings::new(alloc, "GB", "0999", 2, 3, 1, 2, day)?)
 }
 
+/// No office was made for want of memory: there is none yet, and one can be made.
+fn once_more<P: Places, S: Alter + Drop>(
+    alloc: Global,
+    conn: Connection<S>,
+) -> Result<Office<P, S>, Fail>
+    requires outside { HasCleanDisk (state S.Store conn) → (state S.Store conn).in_transaction ≡ false }
+{
+    let settings = settings(alloc)?;
+    let mut conn = conn;
+    conn.set_step_limit(None);
+    match Office::<P, S>::create(conn, settings) {
+        Ok(office) => Ok(office),
+        Err((fault, _)) => Err(Fail::from(fault)),
+    }
+}
+
 /// A new office in memory.
 pub fn in_memory<P: Places>(alloc: Global) -> Result<Office<P, MemStore>, Fail> {
     let settings = settings(alloc)?;
     let conn = Connection::open_in_memory(alloc)?;
     match Office::<P, MemStore>::create(conn, settings) {
         Ok(office) => Ok(office),
+        Err((OpenFault::Memory, conn)) => once_more::<P, MemStore>(alloc, conn),
         Err((fault, _)) => Err(Fail::from(fault)),
     }
 }

@@ -16,7 +16,7 @@ use std::process::Abort;
 use std::test::Fail;
 
 #[tactic(auto, using(crate::proofs::Going::went_on))]
-fn put_all<S: Alter>(conn: &mut Connection<S>, rows: &[Row]) -> Result<(), StoreFault>
+pub(crate) fn put_all<S: Alter>(conn: &mut Connection<S>, rows: &[Row]) -> Result<(), StoreFault>
     requires inside { InTransaction Spans (state S.Store conn.old) }
     ensures inside { OnOk result (InTransaction Spans (state S.Store conn.new)) }
 {

@@ -1,0 +1,134 @@
+//! What is said to an office by its own calls, and the bytes that it answers. Where memory is refused nothing is
+//! changed, and the same call is answered as without.
+
+use crate::offices::day_after;
+use catalogue_store::Places;
+use isad_core::{List, Text};
+use office_core::{Answer, Busy, Command, Query, Reply};
+use running_office::Office;
+use sqlite::Alter;
+use std::alloc::Global;
+use std::process::Abort;
+use std::test::Fail;
+
+/// What is said to the office.
+#[derive(Clone, Copy)]
+pub(crate) enum Said {
+    /// A file's text, from source `a`.
+    Import(&'static str),
+    Register,
+    /// A unit is closed for a month.
+    Close(u64),
+    /// For a ticket and a unit, for a month.
+    Permit(u64, u64),
+    Sit(u64),
+    Order(u64, u64),
+    Run,
+    Issue(u64, u64),
+    Return(u64),
+    Move(u64, Option<u64>),
+    Remove(u64),
+    Ask(Query),
+}
+
+/// What is said, and the bytes that answer it.
+pub(crate) type Step = (Said, &'static str);
+
+fn import(alloc: Global, file: &str) -> Result<Command, Fail> {
+    Ok(Command::Import {
+        source: Text::new(alloc, "a")?,
+        file: List(Vec::from_slice(alloc, file.as_bytes())?),
+    })
+}
+
+fn register(alloc: Global) -> Result<Command, Fail> {
+    Ok(Command::Register {
+        name: Text::new(alloc, "Ann")?,
+        until: day_after(30)?,
+    })
+}
+
+/// The command; a question has none.
+fn command(alloc: Global, said: Said) -> Result<Command, Fail> {
+    Ok(match said {
+        Said::Import(file) => import(alloc, file)?,
+        Said::Register => register(alloc)?,
+        Said::Close(unit) => Command::SetClosure {
+            unit,
+            until: Some(day_after(30)?),
+        },
+        Said::Permit(ticket, unit) => Command::Permit {
+            ticket,
+            unit,
+            until: day_after(30)?,
+        },
+        Said::Sit(ticket) => Command::TakeSeat { ticket },
+        Said::Order(ticket, container) => Command::Order { ticket, container },
+        Said::Run => Command::Run,
+        Said::Issue(container, ticket) => Command::Issue { container, ticket },
+        Said::Return(container) => Command::Return { container },
+        Said::Move(unit, parent) => Command::Move { unit, parent },
+        Said::Remove(unit) => Command::Remove { unit },
+        Said::Ask(_) => return Err(Fail::new("no command")),
+    })
+}
+
+/// Carries it out. Want of memory changes nothing, so the same is done again.
+fn applied<P: Places, S: Alter>(
+    alloc: Global,
+    office: &mut Office<P, S>,
+    command: &Command,
+) -> Result<Reply, Busy> {
+    match office.apply(alloc, command) {
+        Err(Busy::Memory) => office.apply(alloc, command),
+        reply => reply,
+    }
+}
+
+fn asked<P: Places, S: Alter>(
+    alloc: Global,
+    office: &mut Office<P, S>,
+    query: Query,
+) -> Result<Answer, Busy> {
+    match office.ask(alloc, query) {
+        Err(Busy::Memory) => office.ask(alloc, query),
+        answer => answer,
+    }
+}
+
+/// The bytes of the answer.
+fn bytes_of(answer: Answer) -> Result<List<u8>, Fail> {
+    match answer {
+        Answer::Text(text) => Ok(text),
+        Answer::Json(text) => Ok(text),
+        Answer::Unknown(refusal) => Err(Fail::from(refusal)),
+    }
+}
+
+pub(crate) fn told<P: Places, S: Alter>(
+    alloc: Global,
+    office: &mut Office<P, S>,
+    said: Said,
+) -> Result<List<u8>, Fail> {
+    if let Said::Ask(query) = said {
+        let answer = asked(alloc, office, query)?;
+        return bytes_of(answer);
+    }
+    let command = command(alloc, said)?;
+    let reply = applied(alloc, office, &command)?;
+    Ok(reply.json)
+}
+
+/// Says it all, one after the other, and wants these answers.
+pub(crate) fn goes<P: Places, S: Alter>(
+    rt: &impl Abort,
+    alloc: Global,
+    office: &mut Office<P, S>,
+    steps: &[Step],
+) -> Result<(), Fail> {
+    for &(said, wanted) in steps {
+        let text = told(alloc, office, said)?;
+        assert_eq!(rt; text.as_slice(), wanted.as_bytes());
+    }
+    Ok(())
+}
