@@ -197,7 +197,7 @@ module _ (s : State) (source bytes : Bytes) (file : File) (read : file_of bytes 
     units = distinct_ids made units;
     desk = λ version. subst IsLegible (sym (same_desk version)) (desk_legible version s g);
     permits = g.sound.desk.permits.known;
-    orders = orders_there s g;
+    orders = orders_there s g.sound.desk.filed;
   }
 
   has_entered : HasEntered source file.rows made

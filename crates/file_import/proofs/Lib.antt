@@ -14,3 +14,4 @@ pub mod Refused
 pub mod Frames
 pub mod Arrived
 pub mod ComeToStand
+pub mod RightAbove

@@ -1,15 +1,16 @@
 //! What is remarked on the rows of a file that were entered.
 
-ghost use Rattle.std.specs.Prelude.{◌≡◌, Some, find, is_some, ⊤};
-ghost use Rattle.std.specs.List.{list_all};
+ghost use Rattle.std.specs.Prelude.{◌≡◌, Some, find, is_some, map, IfOk, ⊤};
+ghost use Rattle.std.specs.List.{AllByRecursion, list_all};
 ghost use Rattle.std.specs.Option.{option_to_list};
 ghost use Rattle.sqlite.specs.Held.{state};
 ghost use Rattle.isad_core.specs.Levels.{rank_of};
 ghost use Rattle.isad_core.specs.Limits.{IsNumber};
+ghost use Rattle.isad_core.specs.Texts.{Bytes};
 ghost use Rattle.isad_core.specs.Values.{text_of};
 ghost use Rattle.tree_core.specs.Forest.{nodes, path};
 ghost use Rattle.catalogue_core.specs.Bounds.{IsKept};
-ghost use Rattle.catalogue_core.specs.GoodCatalogues.{AreGoodUnits};
+ghost use Rattle.catalogue_core.specs.RowByRow.{number_there};
 ghost use Rattle.catalogue_core.specs.Units.{has_id, is_from};
 ghost use Rattle.catalogue_core.specs.Units.{«Unit» as Described};
 ghost use Rattle.office_core.specs.ImportReply.{is_level_above, remark_if};
@@ -18,7 +19,7 @@ ghost use Rattle.office_core.specs.declared.done.Remark.TheVariants.{LacksEssent
 ghost use Rattle.office_tables.specs.Calls.{Tells};
 ghost use Rattle.office_tables.specs.Step.{InTransaction};
 ghost use Rattle.catalogue_rows.specs.Shows.{Shows};
-ghost use Rattle.file_import.specs.Remarking.{HasEntered, HasItsUnit};
+ghost use Rattle.file_import.specs.Remarking.{HasEntered, HasParent, HaveParents};
 
 use crate::numbers::number_of;
 use atom_csv::Row;
@@ -119,25 +120,66 @@ fn remark_on_top(row: &Row) -> Option<Remark>
     None
 }
 
-/// The remark on a row, judged on the units as they stand.
+/// The remark on a row whose unit stands right below the one with this number, or is a top.
 fn remark_on<P: Places, S: Alter>(
     alloc: Global,
     conn: &mut Connection<S>,
-    source: &Text,
+    parent: Option<u64>,
     row: &Row,
 ) -> Result<Option<Remark>, StoreFault>
     requires inside { InTransaction P.version (state S.Store conn.old) }
-    ensures tells { Tells S.Store (Shows P.shows P.version) IsKept conn.old conn.new result AreGoodUnits
-        (λ _ c told. AreGoodUnits c → HasItsUnit c.forest source.now row.now
-        → option_to_list told ≡ reply.remark_on row.now.row (path (is_from source.now row.now.legacy) c.forest)) }
+    ensures tells { (source : Bytes) → Tells S.Store (Shows P.shows P.version) IsKept conn.old conn.new result
+        (HasParent source row.now parent) (λ _ c told. HasParent source row.now parent c
+        → option_to_list told ≡ reply.remark_on row.now.row (path (is_from source row.now.legacy) c.forest)) }
 {
-    let Some(unit) = number_of::<P, S>(alloc, conn, source, &row.legacy)? else {
-        return Ok(None);
-    };
-    let Some(parent) = P::parent(alloc, conn, unit)? else {
-        return Ok(remark_on_top(row));
-    };
-    remark_below::<P, S>(alloc, conn, parent, row)
+    match parent {
+        Some(parent) => remark_below::<P, S>(alloc, conn, parent, row),
+        None => Ok(remark_on_top(row)),
+    }
+}
+
+/// The units of the rows of a file from a source, in their order, after all of them were entered.
+fn units_of<P: Places, S: Alter>(
+    alloc: Global,
+    conn: &mut Connection<S>,
+    source: &Text,
+    rows: &[Row],
+) -> Result<Vec<u64>, StoreFault>
+    requires inside { InTransaction P.version (state S.Store conn.old) }
+    ensures tells { Tells S.Store (Shows P.shows P.version) IsKept conn.old conn.new result
+        (HasEntered source.now rows.now) (λ _ c units. HasEntered source.now rows.now c
+        → map Some units.items ≡ map (λ row. number_there c source.now row.legacy) rows.now) }
+    ensures small { IfOk result (λ units. AllByRecursion IsNumber units.items) }
+{
+    let mut units = Vec::new(alloc);
+    for row in rows {
+        let Some(unit) = number_of::<P, S>(alloc, conn, source, &row.legacy)? else {
+            return Err(StoreFault::Schema);
+        };
+        units.push(unit)?;
+    }
+    Ok(units)
+}
+
+/// The remarks on rows whose units stand right below those with these numbers, or are tops.
+fn remarks_below<P: Places, S: Alter>(
+    alloc: Global,
+    conn: &mut Connection<S>,
+    parents: &[Option<u64>],
+    rows: &[Row],
+) -> Result<List<Remark>, StoreFault>
+    requires inside { InTransaction P.version (state S.Store conn.old) }
+    ensures tells { (source : Bytes) → Tells S.Store (Shows P.shows P.version) IsKept conn.old conn.new result
+        (HaveParents source rows.now parents.now) (λ _ c told. HaveParents source rows.now parents.now c
+        → told ≡ reply.remarks c.forest source rows.now) }
+{
+    let mut told = List::new(alloc);
+    for (row, parent) in rows.iter().zip(parents) {
+        if let Some(remark) = remark_on::<P, S>(alloc, conn, *parent, row)? {
+            told.push(remark)?;
+        }
+    }
+    Ok(told)
 }
 
 /// The remarks on the rows of a file from a source, in their order, after all of them were entered.
@@ -152,11 +194,7 @@ pub(crate) fn remarks<P: Places, S: Alter>(
         (HasEntered source.now rows.now)
         (λ _ c told. HasEntered source.now rows.now c → told ≡ reply.remarks c.forest source.now rows.now) }
 {
-    let mut told = List::new(alloc);
-    for row in rows {
-        if let Some(remark) = remark_on::<P, S>(alloc, conn, source, row)? {
-            told.push(remark)?;
-        }
-    }
-    Ok(told)
+    let units = units_of::<P, S>(alloc, conn, source, rows)?;
+    let parents = P::parents(alloc, conn, &units)?;
+    remarks_below::<P, S>(alloc, conn, &parents, rows)
 }

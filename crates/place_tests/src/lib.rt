@@ -1,4 +1,4 @@
-//! The tests of tables of doubtful origin, in either version: of places, and of the catalogue.
+//! The tests of either version: of what is told of places, and of tables of doubtful origin.
 #![tactic(auto)]
 
 #[cfg(test)]
@@ -7,5 +7,7 @@ mod catalogues;
 mod links;
 #[cfg(test)]
 mod offices;
+#[cfg(test)]
+mod parents;
 #[cfg(test)]
 mod spans;

@@ -1,60 +1,91 @@
-use Rattle.std.proofs.Common.{◌≡◌, ◌+◌, List, ◌∷◌, ◌++◌, drop, Option, sym, ap, subst, ◌∙◌, arith, append-nil}
-use Rattle.std.specs.Option.{option_to_list}
-use Rattle.std.proofs.lemmas.List.{drop_all, drop_more}
+use Rattle.std.proofs.Common.{◌≡◌, Some, map, sym, ap, subst, ◌∙◌}
+use Rattle.std.specs.List.{AllByRecursion}
 use Rattle.sqlite.specs.Effect.{Database}
 use Rattle.sqlite.specs.Held.{state}
-use Rattle.sqlite_trees.proofs.ListLemmas.{all-get_or}
+use Rattle.sqlite.specs.State.{HasCleanDisk}
+use Rattle.isad_core.specs.Limits.{IsNumber}
 use Rattle.atom_csv.specs.declared.file.Row.{Row as RowTold}
+use Rattle.tree_core.specs.Forest.{each}
+use Rattle.catalogue_core.specs.Bounds.{IsKept}
+use Rattle.catalogue_core.specs.Merging.{Catalogue}
+use Rattle.catalogue_core.specs.RowByRow.{number_there}
+use Rattle.catalogue_core.specs.Units.{Unit as Described}
 use Rattle.catalogue_rows.specs.Shows.{Shows}
+use Rattle.catalogue_rows.specs.declared.office.OfficeRow.{OfficeRow}
 use Rattle.office_core.specs.ImportReply as reply
-use Rattle.office_core.specs.declared.done.Remark.{Remark}
+use Rattle.office_tables.proofs.CallEnds.{same_fault, tells_cut, tells_not}
 use Rattle.office_tables.proofs.Calls.{early, looks_then, still}
-use Rattle.file_import.specs.Remarking.{HasItsUnit}
-use Rattle.file_import.proofs.Remarked.{told_more}
+use Rattle.file_import.specs.Remarking.{HasEntered, HaveParents}
+use Rattle.file_import.proofs.RightAbove.{above_numbers}
+use Rattle.file_import.proofs.Tellings.{told_last}
 use Rattle.file_import.proofs.remarks.remarks.Goals as goal
-use Rattle.file_import.proofs.remarks.remarks.Goals.{in-Some+in_ok-push, in_default}
 
-pub loop-row-preserved : goal.loop-row-preserved
-loop-row-preserved g c =
-    let v = g.P.Places.version in
-    let a = state g.S.Store c.args.conn.now in
-    let b = state g.S.Store c.loop-row.conn in
-    let d = state g.S.Store c.remark_on.new.conn in
-    let looks = c.loop-row.invariant.looks in
-    let told = c.in_ok-remark.ensures.tells in
-    let rows = c.args.rows.now in
-    let source = c.args.source.now in
-    let i = c.loop-row.row-index in
-    let item = c.row-item.result in
-    let rest : drop i rows ≡ item ∷ drop (i + 1) rows = drop_more rows i item c.loop-row-test.true ∙ ap (λ (r : RowTold). r ∷ drop (i + 1) rows) (sym c.row-item.is) in
-    let grown : c.match-branch-2.told ≡ c.loop-row.told ++ option_to_list c.in_ok-remark.field-0 = elim c.match-branch-2.branch [
-      | in-Some+in_ok-push w ↦ w.told-is ∙ (w.in_ok-push.ensures.ok ∙ ap (λ (r : Option Remark). c.loop-row.told ++ option_to_list r) (sym w.in-Some.is))
-      | in_default w ↦ w.told-is ∙ (sym (append-nil c.loop-row.told) ∙ ap (λ (r : Option Remark). c.loop-row.told ++ option_to_list r) (sym w.in_default.is))
-    ] in
+pub returns-in_err-units : goal.returns-in_err-units
+returns-in_err-units g c =
+    let handed = c.from_residual.ensures in
+    let e = c.in_err-units.field-0.0 in
+    let told = c.in_err-units.ensures.tells in
     record {
-      inside = still v b d c.loop-row.invariant.inside told.looks.goes;
-      looks = looks_then a b d looks told.looks;
-      so_far = λ clean o k it has.
-          let at_b = early b d _ told.looks.goes.on.crash clean in
-          let shown = subst (λ (db : Database). Shows g.P.Places.shows v db o k) (sym (looks.same at_b)) it in
-          let so = c.loop-row.invariant.so_far at_b o k it has ∙ ap (λ (l : List RowTold). c.loop-row.told ++ reply.remarks k.forest source l) rest in
-          let its = subst (HasItsUnit k.forest source) (sym c.row-item.is) (all-get_or (HasItsUnit k.forest source) rows i item has.each c.loop-row-test.true) in
-          told_more k.forest source item (drop (i + 1) rows) c.loop-row.told (reply.remarks k.forest source rows) c.in_ok-remark.field-0 so (told.answers clean o k shown has.units its)
-          ∙ ap (λ (l : List Remark). l ++ reply.remarks k.forest source (drop (i + 1) rows)) (sym grown);
+      tells = tells_not g.S.Store (Shows g.P.Places.shows g.P.Places.version) IsKept (HasEntered c.args.source.now c.args.rows.now) c.args.conn.now c.units_of.new.conn c.from_residual.result
+          (λ _ k told. HasEntered c.args.source.now c.args.rows.now k → told ≡ reply.remarks k.forest c.args.source.now c.args.rows.now) e
+          (same_fault c.from_residual.result e handed.0 handed.1) told.cut told.faults;
     }
+
+pub parents-requires-clause-inside : goal.parents-requires-clause-inside
+parents-requires-clause-inside g c = still g.P.Places.version (state g.S.Store c.args.conn.now) (state g.S.Store c.units_of.new.conn) c.requires.inside c.in_ok-units.ensures.tells.looks.goes
+
+pub parents-requires-clause-small : goal.parents-requires-clause-small
+parents-requires-clause-small g c = subst (AllByRecursion IsNumber) (sym c.deref.ensures.value) c.in_ok-units.ensures.small
+
+pub returns-in_err-parents : goal.returns-in_err-parents
+returns-in_err-parents g c =
+    let v = g.P.Places.version in
+    let handed = c.from_residual-in_err-parents.ensures in
+    let e = c.in_err-parents.field-0.0 in
+    let looked = c.in_ok-units.ensures.tells.looks in
+    let told = c.in_err-parents.ensures.tells in
+    record {
+      tells = tells_cut g.S.Store (Shows g.P.Places.shows v) IsKept (HasEntered c.args.source.now c.args.rows.now) c.args.conn.now c.units_of.new.conn c.parents.new.conn c.from_residual-in_err-parents.result
+          (λ _ k told. HasEntered c.args.source.now c.args.rows.now k → told ≡ reply.remarks k.forest c.args.source.now c.args.rows.now) e
+          (same_fault c.from_residual-in_err-parents.result e handed.0 handed.1) looked told.cut
+          (λ o k it has kept at_b clean free.
+          told.faults tt (each (λ (u : Described). u.id) k.forest) (subst (λ (db : Database). g.P.Places.shows db.trees (each (λ (u : Described). u.id) k.forest)) (sym (looked.same at_b)) it.shown) tt kept.places clean free);
+    }
+
+pub remarks_below-requires : goal.remarks_below-requires
+remarks_below-requires g c =
+    let a = state g.S.Store c.args.conn.now in
+    let b = state g.S.Store c.units_of.new.conn in
+    let d = state g.S.Store c.parents.new.conn in
+    record { inside = still g.P.Places.version a d c.requires.inside (looks_then a b d c.in_ok-units.ensures.tells.looks c.in_ok-parents.ensures.tells.looks).goes }
 
 pub returns : goal.returns
 returns g c =
+    let a = state g.S.Store c.args.conn.now in
+    let b = state g.S.Store c.units_of.new.conn in
+    let d = state g.S.Store c.parents.new.conn in
+    let v = g.P.Places.version in
+    let source = c.args.source.now in
     let rows = c.args.rows.now in
-    let last = c.loop-row-test.false in
+    let numbered = c.in_ok-units.ensures.tells in
+    let told = c.in_ok-parents.ensures.tells in
+    let looked = looks_then a b d numbered.looks told.looks in
+    let have = λ (clean : HasCleanDisk d) (o : OfficeRow) (k : Catalogue) (it : Shows g.P.Places.shows v a.now o k) (has : HasEntered source rows k).
+    (let at_b = early b d _ told.looks.goes.on.crash clean in
+    let units : map Some c.deref.result.now ≡ map (λ (row : RowTold). number_there k source row.legacy) rows = ap (map Some) c.deref.ensures.value ∙ numbered.answers at_b o k it has in
+    let above = told.answers clean tt (each (λ (u : Described). u.id) k.forest) (subst (λ (db : Database). g.P.Places.shows db.trees (each (λ (u : Described). u.id) k.forest)) (sym (numbered.looks.same at_b)) it.shown) in
+    let h : HaveParents source rows c.deref-2.result.now k = record { entered = has; above = c.deref-2.ensures.value ∙ (above ∙ above_numbers k source has.units c.deref.result.now rows units) } in
+    h) in
     record {
-      tells = record {
-        answers = λ clean o k it has.
-            sym (c.loop-row.invariant.so_far clean o k it has
-            ∙ (ap (λ (l : List RowTold). c.loop-row.told ++ reply.remarks k.forest c.args.source.now l) (drop_all c.loop-row.row-index rows (omega (arith, last)))
-            ∙ append-nil c.loop-row.told));
-        looks = c.loop-row.invariant.looks;
-        cut = tt;
-        faults = λ o k it may kept clean free. tt;
-      };
+      tells = told_last g.S.Store (Shows g.P.Places.shows v) IsKept (HasEntered source rows) (Shows g.P.Places.shows v) IsKept (HaveParents source rows c.deref-2.result.now) c.args.conn.now c.parents.new.conn c.remarks_below.new.conn c.remarks_below.result
+          (λ o k. o) (λ o k. k)
+          (λ _ k told. HaveParents source rows c.deref-2.result.now k → told ≡ reply.remarks k.forest source rows)
+          (λ _ k told. HasEntered source rows k → told ≡ reply.remarks k.forest source rows)
+          looked
+          (record {
+            shown = λ clean o k it. subst (λ (db : Database). Shows g.P.Places.shows v db o k) (sym (looked.same clean)) it;
+            allowed = λ clean o k it has kept. (have clean o k it has, kept);
+          })
+          (λ clean o k it remarks is has. is (have clean o k it has))
+          (c.remarks_below.ensures.tells source);
     }
