@@ -67,8 +67,9 @@ class Edit:
             elif line.startswith("old: "):
                 old = line[len("old: ") :]
             elif line.startswith("new:") and path and old:
-                if texts[path].count(old) != 1:
-                    return self.fault(f"an old text stands {texts[path].count(old)} times in {path}, and not once: {old}")
+                count = texts[path].count(old)
+                if count != 1:
+                    return self.fault(f"an old text stands {count} times in {path}, and not once: {old}")
                 new = line[len("new: ") :]
                 self.place(crate, path, texts[path], texts[path].index(old), old)
                 texts[path] = texts[path].replace(old, new)

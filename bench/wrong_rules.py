@@ -205,8 +205,8 @@ E=[
 ('a text of any bytes',T+'Cells.antt','cond (is_utf8 t) (Some t) None','Some t'),
 ('a second office',T+'CatalogueCells.antt','cond (nat_eq one 1) (Some one) None','Some one'),
 ('units that cannot be read',R+'CellCauses.antt','∷ has_unread read_unit (db tables.unit.tree)','∷ false'),
-('spans that cannot be read',R+'CellCauses.antt','places_are_unread Spans db = has_unread read_span (db tables.span.tree)','places_are_unread Spans db = false'),
-('lines that cannot be read',R+'CellCauses.antt','(has_unread read_run (db tables.run.tree) || has_unread read_run_line (db tables.run_line.tree))','has_unread read_run (db tables.run.tree)'),
+('spans that cannot be read',R+'CellCauses.antt','∷ places_are_unread version db','∷ places_are_unread Rattle.tree_core.specs.Versions.Links db'),
+('lines that cannot be read',R+'CellCauses.antt','∷ runs_are_unread db','∷ has_unread Rattle.office_tables.specs.DeskCells.read_run (db tables.run.tree)'),
 # what a rule nearly says: the rows of WorkedDesk, WorkedCatalogue and WorkedShown
 ('Renew renews ticket 1',O+'Rules.antt','renewed until s.readers t','renewed until s.readers 1'),
 ('Register refuses a day that is past',O+'Rules.antt','unless (is_name name) BadName\n','unless (is_name name) BadName\n    ∷ when (int_lt until s.day) BadName\n'),

@@ -9,8 +9,9 @@ use Rattle.office_tables.specs.Cells.{has_unread}
 use Rattle.office_tables.specs.CatalogueCells.{read_unit, read_container, read_housing}
 use Rattle.office_tables.specs.Schema as tables
 use Rattle.place_checks.specs.Places.{places_are_doubtful}
-use Rattle.catalogue_checks.specs.Checks.{catalogue_in, units_are_doubtful, elements_are_doubtful, containers_are_doubtful, doubtful_catalogue}
-use Rattle.catalogue_checks.specs.Judging.{containers_in, good_containers_in, number_of_containers, good_housings_in, doubt_of_contents}
+use Rattle.doubtful_rows.specs.TableRows.{catalogue_in, containers_in}
+use Rattle.catalogue_checks.specs.Checks.{units_are_doubtful, elements_are_doubtful, containers_are_doubtful, doubtful_catalogue}
+use Rattle.catalogue_checks.specs.Judging.{good_containers_in, number_of_containers, good_housings_in, doubt_of_contents}
 use Rattle.catalogue_checks.specs.declared.doubt.CatalogueDoubt.{CatalogueDoubt}
 use Rattle.catalogue_checks.specs.declared.doubt.CatalogueDoubt.TheVariants.{Places, Units, Elements, Containers}
 

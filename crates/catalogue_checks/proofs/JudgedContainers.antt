@@ -30,12 +30,12 @@ use Rattle.office_tables.proofs.ByNumber.{read_by_number, length_read, length_or
 use Rattle.office_tables.proofs.CellTexts.{from_first}
 use Rattle.office_tables.proofs.Queries.{asking}
 use Rattle.doubtful_rows.specs.Readings.{by_rowid}
-use Rattle.place_checks.specs.Places.{by}
+use Rattle.doubtful_rows.specs.TableRows.{by, containers_in}
 use Rattle.catalogue_checks.specs.Answers.{is_numbered, is_container_answer, are_container_answers}
-use Rattle.catalogue_checks.specs.Judging.{containers_in, good_containers_in, number_of_containers}
-use Rattle.catalogue_checks.proofs.Alike.{all_alike, alike_then, ordered_alike, read_alike}
+use Rattle.catalogue_checks.specs.Judging.{good_containers_in, number_of_containers}
+use Rattle.doubtful_rows.proofs.Alike.{all_alike, alike_then, ordered_alike, read_alike}
 use Rattle.catalogue_checks.proofs.Scans.{show}
-use Rattle.catalogue_checks.proofs.UnitsThere.{is_number}
+use Rattle.doubtful_rows.proofs.ToldCells.{is_number}
 
 and_true : (b : Bool) → (b && true) ≡ b
 and_true true = refl

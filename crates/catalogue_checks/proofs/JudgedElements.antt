@@ -22,10 +22,10 @@ use Rattle.office_tables.specs.CatalogueCells.{read_unit, read_element}
 use Rattle.office_tables.specs.Meaning.{Means}
 use Rattle.office_tables.specs.Schema as tables
 use Rattle.office_tables.proofs.Queries.{asking}
-use Rattle.place_checks.specs.Places.{then_by}
+use Rattle.doubtful_rows.specs.TableRows.{then_by, catalogue_in}
 use Rattle.catalogue_checks.specs.Answers.{is_good_value, is_element_answer}
-use Rattle.catalogue_checks.specs.Checks.{catalogue_in, elements_are_doubtful}
-use Rattle.catalogue_checks.proofs.Alike.{permuted, all_alike, ordered_alike}
+use Rattle.catalogue_checks.specs.Checks.{elements_are_doubtful}
+use Rattle.doubtful_rows.proofs.Alike.{permuted, all_alike, ordered_alike}
 use Rattle.catalogue_checks.proofs.Scans.{show}
 use Rattle.catalogue_checks.proofs.Tested.{all_same, passes, judged}
 use Rattle.catalogue_checks.proofs.UnitsThere.{HasUnit, element_has_unit}

@@ -35,12 +35,11 @@ use Rattle.office_tables.proofs.CellTexts.{from_first}
 use Rattle.office_tables.proofs.Queries.{asking}
 use Rattle.doubtful_rows.specs.Readings.{by_rowid}
 use Rattle.doubtful_rows.proofs.TableReads.{same_rows}
-use Rattle.place_checks.specs.Places.{then_by}
+use Rattle.doubtful_rows.specs.TableRows.{then_by, catalogue_in, containers_in}
 use Rattle.catalogue_checks.specs.Answers.{is_placed, read_placed, said_placed}
-use Rattle.catalogue_checks.specs.Checks.{catalogue_in}
 use Rattle.catalogue_checks.specs.Filled.{higher, are_filled, AreHoused}
-use Rattle.catalogue_checks.specs.Judging.{containers_in, good_housings_in}
-use Rattle.catalogue_checks.proofs.Alike.{Alike, permuted, alike_then, all_alike, filter_alike, ordered_alike, read_alike}
+use Rattle.catalogue_checks.specs.Judging.{good_housings_in}
+use Rattle.doubtful_rows.proofs.Alike.{Alike, permuted, alike_then, all_alike, filter_alike, ordered_alike, read_alike}
 use Rattle.catalogue_checks.proofs.FilledUnits.{unit_of, rows_of, higher_is, filled_judged}
 use Rattle.catalogue_checks.proofs.Scans.{show}
 use Rattle.catalogue_checks.proofs.Tested.{all_same, said_shown, unread_shown, passes, judged, unread_tested, same_tested}

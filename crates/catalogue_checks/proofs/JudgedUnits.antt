@@ -26,11 +26,12 @@ use Rattle.office_tables.specs.Schema as tables
 use Rattle.office_tables.proofs.Queries.{asking}
 use Rattle.doubtful_rows.specs.Readings.{AreGathered}
 use Rattle.doubtful_rows.proofs.TableReads.{same_rows}
-use Rattle.place_checks.specs.Places.{by, places_in, AreUnitsPlaced}
+use Rattle.doubtful_rows.specs.TableRows.{by, places_in, catalogue_in}
+use Rattle.place_checks.specs.Places.{AreUnitsPlaced}
 use Rattle.catalogue_checks.specs.Answers.{is_described, read_described, said_described}
-use Rattle.catalogue_checks.specs.Checks.{catalogue_in, units_are_doubtful}
+use Rattle.catalogue_checks.specs.Checks.{units_are_doubtful}
 use Rattle.catalogue_checks.specs.Judging.{are_good_numbers}
-use Rattle.catalogue_checks.proofs.Alike.{Alike, permuted, alike_then, alike_back, any_alike, all_alike, length_alike, ordered_alike, read_alike}
+use Rattle.doubtful_rows.proofs.Alike.{Alike, permuted, alike_then, alike_back, any_alike, all_alike, length_alike, ordered_alike, read_alike}
 use Rattle.catalogue_checks.proofs.Scans.{show}
 use Rattle.catalogue_checks.proofs.Tested.{said_shown, unread_shown, unread_tested, same_tested}
 

@@ -1,4 +1,3 @@
-pub mod Alike
 pub mod Tested
 pub mod Scans
 pub mod UnitsThere

@@ -1,10 +1,9 @@
 -- An element, and a container of a unit, has its unit, since the rows of an open connection keep the foreign keys of its tables.
-use Rattle.std.proofs.Common.{◌≡◌, ℕ, pos, negsuc, List, [], ◌∷◌, map, Bool, true, false, ◌||◌, Option, Some, None, is_none, refl, sym, ap, ap₂, subst, ◌∙◌, filter_map, nat_eq, IsTrue}
+use Rattle.std.proofs.Common.{◌≡◌, ℕ, pos, List, [], ◌∷◌, map, Bool, true, false, ◌||◌, Option, Some, None, is_none, refl, sym, ap, ap₂, subst, ◌∙◌, filter_map, nat_eq, IsTrue}
 use Rattle.std.specs.List.{list_any, list_all, AllByRecursion, cons_option}
 use Rattle.std.specs.Option.{option_map_or}
 use Rattle.std.proofs.lemmas.Bool.{or_parts, and_parts, true≢false}
-use Rattle.sqlite.specs.declared.types.Value.{Value}
-use Rattle.sqlite.specs.declared.types.Value.TheVariants.{Null, Int, Real, Text, Blob}
+use Rattle.sqlite.specs.declared.types.Value.TheVariants.{Int}
 use Rattle.sqlite.specs.Order.{Row, column}
 use Rattle.sqlite.specs.Tree.{Trees}
 use Rattle.sqlite.specs.Effect.{IsDatabase}
@@ -23,19 +22,11 @@ use Rattle.office_tables.specs.Cells.{number_in, text_in, flag_in, whole_in, or_
 use Rattle.office_tables.specs.CatalogueCells.{read_unit, read_element, read_housing}
 use Rattle.office_tables.proofs.CellTexts.{from_first}
 use Rattle.office_tables.proofs.Tests.{only, same_number}
-use Rattle.place_checks.specs.Places.{by}
-use Rattle.catalogue_checks.specs.Checks.{catalogue_in}
-use Rattle.catalogue_checks.proofs.Alike.{any_alike, ordered_alike}
+use Rattle.doubtful_rows.specs.TableRows.{by, catalogue_in}
+use Rattle.doubtful_rows.proofs.Alike.{any_alike, ordered_alike}
+use Rattle.doubtful_rows.proofs.ToldCells.{is_number}
 
 -- ---- what a row that is read has
-
-pub is_number : (v : Value) (n : ℕ) → number_in v ≡ Some n → v ≡ Int (pos n)
-is_number Null n h = absurd cc
-is_number (Int (pos m)) n h = let same : m ≡ n = cc in ap (λ k. Int (pos k)) same
-is_number (Int (negsuc m)) n h = absurd cc
-is_number (Real x) n h = absurd cc
-is_number (Text t) n h = absurd cc
-is_number (Blob b) n h = absurd cc
 
 unit_key : (row : Row) (u : UnitRow) → read_unit row ≡ Some u → column row 0 ≡ Int (pos u.id)
 unit_key row u h =

@@ -1,17 +1,15 @@
 -- What is told of the tables of the catalogue, one after the other.
-use Rattle.std.specs.Prelude.{ℕ, Bool, not, cond, ◌&&◌, List, length, Option, Some, None, filter_map, nat_le, nat_lt}
+use Rattle.std.specs.Prelude.{ℕ, Bool, not, cond, ◌&&◌, List, length, Option, Some, None, nat_le, nat_lt}
 use Rattle.std.specs.List.{list_all}
 use Rattle.sqlite.specs.Tree.{Trees}
 use Rattle.isad_core.specs.Limits.{most_units, most_deep}
 use Rattle.tree_core.specs.Versions.{Version}
-use Rattle.desk_core.specs.Orders.{in_order}
 use Rattle.catalogue_core.specs.CatalogueCauses.{all_stand_in, are_good_container_rows, is_good_housing}
-use Rattle.catalogue_core.specs.CatalogueRows.{ContainerRow}
 use Rattle.office_tables.specs.Cells.{has_unread}
 use Rattle.office_tables.specs.CatalogueCells.{read_container, read_housing}
 use Rattle.office_tables.specs.Schema as tables
-use Rattle.place_checks.specs.Places.{by}
-use Rattle.catalogue_checks.specs.Checks.{catalogue_in, elements_are_doubtful, containers_are_doubtful}
+use Rattle.doubtful_rows.specs.TableRows.{catalogue_in, containers_in}
+use Rattle.catalogue_checks.specs.Checks.{elements_are_doubtful, containers_are_doubtful}
 use Rattle.catalogue_checks.specs.declared.doubt.CatalogueDoubt.{CatalogueDoubt}
 use Rattle.catalogue_checks.specs.declared.doubt.CatalogueDoubt.TheVariants.{Elements, Containers}
 
@@ -23,10 +21,6 @@ are_good_numbers next placed height numbers =
     && (nat_le (length numbers) most_units && nat_le height most_deep)))
 
 -- ---- containers
-
--- those that can be read, by their numbers
-abbrev pub containers_in : Trees → List ContainerRow
-containers_in db = in_order (by (λ (row : ContainerRow). row.id)) (filter_map read_container (db tables.container.tree))
 
 -- each can be read, and they are such as a catalogue has
 abbrev pub good_containers_in : Trees → Bool

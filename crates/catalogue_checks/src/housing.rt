@@ -12,7 +12,8 @@ ghost use Rattle.office_tables.specs.Schema as tables;
 ghost use Rattle.office_tables.specs.Step.{InOffice};
 ghost use Rattle.catalogue_checks.specs.Answers.{said_placed};
 ghost use Rattle.catalogue_checks.specs.Filled.{higher as higher_of, housed};
-ghost use Rattle.catalogue_checks.specs.Judging.{containers_in, good_housings_in};
+ghost use Rattle.doubtful_rows.specs.TableRows.{containers_in};
+ghost use Rattle.catalogue_checks.specs.Judging.{good_housings_in};
 
 use doubtful_rows::{cell, number_in};
 use office_tables::{Gathering, StoreFault, gather};

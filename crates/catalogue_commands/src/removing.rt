@@ -20,8 +20,8 @@ use shown_office::{loans_near, pass_of};
 use sqlite::{Alter, Connection};
 use std::alloc::Global;
 
-/// Takes a unit that is there away with all below it, unless that withholds what is out. What is out that it may withhold
-/// is known.
+/// Takes a unit that is there away with all below it, unless that withholds what is out. What is out that it may
+/// withhold is known.
 fn remove_beside<P: Places, S: Alter>(
     alloc: Global,
     conn: &mut Connection<S>,

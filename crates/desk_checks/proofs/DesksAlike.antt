@@ -7,7 +7,7 @@ use Rattle.isad_core.specs.Limits.{most_orders, most_runs, most_permits}
 use Rattle.isad_core.specs.Words.{is_between, some_and, are_numbered_from}
 use Rattle.desk_core.specs.DeskCauses.{Around, is_registered, is_good_seat, is_good_permit, is_of_the_day, are_twice, is_good_order, are_good_orders, is_out_order, is_at_desk, is_good_holding, is_holding_of, has_its_holding, are_good_holdings, is_good_run, is_order_of_line, is_good_line, are_good_runs}
 use Rattle.desk_core.specs.DeskRows.{Desk, SeatRow, OrderRow, HoldingRow, RunRow, RunLineRow, PermitRow}
-use Rattle.desk_checks.proofs.Alike.{Alike, any_alike, all_alike, length_alike}
+use Rattle.doubtful_rows.proofs.Alike.{Alike, any_alike, all_alike, length_alike}
 
 module _ (a : Around) (d : Desk) where
   pub seats_alike : (seats : List SeatRow) → Alike seats d.seats → list_all (is_good_seat a (record d { seats = seats })) seats ≡ list_all (is_good_seat a d) d.seats

@@ -9,9 +9,10 @@ use Rattle.desk_core.specs.DeskRows.{ReaderRow}
 use Rattle.office_tables.specs.Cells.{has_unread}
 use Rattle.office_tables.specs.DeskCells.{read_reader, read_seat, read_permit}
 use Rattle.office_tables.specs.Schema as tables
-use Rattle.desk_checks.specs.Checks.{desk_in, registration_is_doubtful, orders_are_doubtful, holdings_are_doubtful, runs_are_doubtful, doubt_of_past, doubt_of_orders, doubt_of_desk}
+use Rattle.doubtful_rows.specs.TableRows.{desk_in, readers_in}
+use Rattle.desk_checks.specs.Checks.{registration_is_doubtful, orders_are_doubtful, holdings_are_doubtful, runs_are_doubtful, doubt_of_past, doubt_of_orders, doubt_of_desk}
 use Rattle.desk_checks.specs.Judging.{good_seats_in, good_permits_in, good_holdings_in, good_runs_in, doubt_beside_readers}
-use Rattle.desk_checks.specs.Readers.{readers_in, number_registered}
+use Rattle.desk_checks.specs.Readers.{number_registered}
 use Rattle.desk_checks.specs.declared.doubt.DeskDoubt.{DeskDoubt}
 use Rattle.desk_checks.specs.declared.doubt.DeskDoubt.TheVariants.{Readers, Orders, Holdings, Runs}
 use Rattle.desk_checks.proofs.Surroundings.{not_doubtful, is_doubtful, all_read_well}

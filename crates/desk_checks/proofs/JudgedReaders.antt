@@ -1,5 +1,5 @@
 -- The readers are judged in the order of their tickets.
-use Rattle.std.proofs.Common.{length-append, inl, inr, ◌≡◌, ℕ, suc, pos, negsuc, ◌+◌, List, [], ◌∷◌, ◌++◌, length, map, Bool, true, false, cond, not, ◌&&◌, ◌||◌, nat_eq, nat_le, Option, Some, None, is_none, filter_map, refl, sym, ap, ap₂, subst, ◌∙◌, arith, codes}
+use Rattle.std.proofs.Common.{length-append, inl, inr, ◌≡◌, ℕ, suc, pos, ◌+◌, List, [], ◌∷◌, ◌++◌, length, map, Bool, true, false, cond, not, ◌&&◌, ◌||◌, nat_eq, nat_le, Option, Some, None, is_none, filter_map, refl, sym, ap, ap₂, subst, ◌∙◌, arith, codes}
 use Rattle.std.proofs.Math.Nat.{le_refl}
 use Rattle.std.specs.List.{list_all, list_any, cons_option}
 use Rattle.std.specs.Option.{option_map_or}
@@ -7,8 +7,7 @@ use Rattle.std.specs.List.Sorted.{IsSorted, IsPermutation}
 use Rattle.std.proofs.lemmas.List.{length-map}
 use Rattle.std.proofs.lemmas.List.Sorted.{list_any-IsPermutation, length_permutation}
 use Rattle.std.proofs.lemmas.Bool.{cases_Bool, both_ways, or_parts}
-use Rattle.sqlite.specs.declared.types.Value.{Value}
-use Rattle.sqlite.specs.declared.types.Value.TheVariants.{Null, Int, Real, Text, Blob}
+use Rattle.sqlite.specs.declared.types.Value.TheVariants.{Int}
 use Rattle.sqlite.specs.declared.error.Error.{Error}
 use Rattle.sqlite.specs.Order.{Row, column}
 use Rattle.sqlite.specs.Tree.{Trees}
@@ -37,21 +36,12 @@ use Rattle.office_tables.proofs.CellTexts.{from_first}
 use Rattle.office_tables.proofs.Rows.{kept_all}
 use Rattle.office_tables.proofs.Queries.{asking}
 use Rattle.office_tables.proofs.statements.SelectOf.{select_rows}
+use Rattle.doubtful_rows.proofs.Alike.{all_as_any}
 use Rattle.doubtful_rows.proofs.TableReads.{same_rows}
-use Rattle.desk_checks.specs.Readers.{is_reader_with, is_reader_answer, are_reader_answers, are_registered_well, readers_in, readers_are_doubtful, number_registered}
+use Rattle.doubtful_rows.proofs.ToldCells.{is_number}
+use Rattle.doubtful_rows.specs.TableRows.{readers_in}
+use Rattle.desk_checks.specs.Readers.{is_reader_with, is_reader_answer, are_reader_answers, are_registered_well, readers_are_doubtful, number_registered}
 use Rattle.office_tables.proofs.ByNumber.{by, by_key, read_by_number, any_read, any_ordered, length_read, length_ordered}
-
-all_as_any : {A : Type 0} (p : A → Bool) (xs : List A) → list_all p xs ≡ not (list_any (λ x. not (p x)) xs)
-all_as_any p [] = refl
-all_as_any p (x ∷ xs) = elim (p x) as (λ b. (b && list_all p xs) ≡ not (not b || list_any (λ x. not (p x)) xs)) [ true ↦ all_as_any p xs | false ↦ refl ]
-
-pub is_number : (v : Value) (n : ℕ) → number_in v ≡ Some n → v ≡ Int (pos n)
-is_number Null n h = absurd cc
-is_number (Int (pos m)) n h = let same : m ≡ n = cc in ap (λ k. Int (pos k)) same
-is_number (Int (negsuc m)) n h = absurd cc
-is_number (Real x) n h = absurd cc
-is_number (Text t) n h = absurd cc
-is_number (Blob b) n h = absurd cc
 
 and_true : (b : Bool) → (b && true) ≡ b
 and_true true = refl

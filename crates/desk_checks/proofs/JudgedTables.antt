@@ -18,17 +18,18 @@ use Rattle.office_tables.proofs.ByNumber.{read_by_number}
 use Rattle.office_tables.proofs.CellTexts.{from_first}
 use Rattle.desk_judgments.specs.declared.around.Around.{Around}
 use Rattle.desk_judgments.specs.Rows.{Surrounds}
-use Rattle.desk_checks.specs.Checks.{by, desk_in, orders_are_doubtful, holdings_are_doubtful, runs_are_doubtful}
+use Rattle.doubtful_rows.specs.TableRows.{by, desk_in}
+use Rattle.desk_checks.specs.Checks.{orders_are_doubtful, holdings_are_doubtful, runs_are_doubtful}
 use Rattle.desk_checks.specs.Judging.{good_seats_in, good_permits_in, good_holdings_in, good_runs_in, AreOrdersOf}
 use Rattle.doubtful_rows.specs.Readings.{AreRead, by_rowid, in_any_order}
-use Rattle.desk_checks.proofs.Alike.{Alike, read_alike}
+use Rattle.doubtful_rows.proofs.Alike.{Alike, keyed_alike}
 use Rattle.desk_checks.proofs.DesksAlike.{seats_alike, permits_alike, orders_alike, holdings_alike, runs_alike}
-use Rattle.desk_checks.proofs.JudgedReaders.{is_number}
+use Rattle.doubtful_rows.proofs.ToldCells.{is_number}
 
 -- ---- what is read of a table
 
 pub alike_of : {X : Type 0} {comes : _} {read : Row → Option X} {table : List Row} {rows : List X} {all : Bool} (before : X → X → Bool) → AreRead comes read table rows all → Alike rows (in_order before (filter_map read table))
-alike_of {read} {table} before it p = ap (count_by p) it.are ∙ read_alike read before table it.stored it.same p
+alike_of {read} {table} before it p = ap (count_by p) it.are ∙ keyed_alike read before table it.stored it.same p
 
 numbered_of : {X : Type 0} {read : Row → Option X} {table : List Row} {rows : List X} {all : Bool} (number : X → ℕ) → ((row : Row) (x : X) → read row ≡ Some x → column row 0 ≡ Int (pos (number x)))
     → AreRead by_rowid read table rows all → has_unread read table ≡ false → are_numbered_from number 1 rows ≡ are_numbered_from number 1 (in_order (by number) (filter_map read table))

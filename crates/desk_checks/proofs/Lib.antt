@@ -1,4 +1,3 @@
-pub mod Alike
 pub mod DesksAlike
 pub mod JudgedReaders
 pub mod JudgedTables

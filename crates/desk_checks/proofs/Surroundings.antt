@@ -13,8 +13,9 @@ use Rattle.office_tables.specs.Schema as tables
 use Rattle.office_tables.proofs.ByNumber.{any_read}
 use Rattle.desk_judgments.specs.declared.around.Around.{Around}
 use Rattle.desk_judgments.specs.Rows.{Surrounds}
-use Rattle.desk_checks.specs.Checks.{around_in, desk_in, is_numbered}
-use Rattle.desk_checks.specs.Readers.{readers_in, are_registered_well, readers_are_doubtful, number_registered}
+use Rattle.doubtful_rows.specs.TableRows.{desk_in, readers_in}
+use Rattle.desk_checks.specs.Checks.{around_in, is_numbered}
+use Rattle.desk_checks.specs.Readers.{are_registered_well, readers_are_doubtful, number_registered}
 use Rattle.doubtful_rows.specs.Readings.{AreRead, in_any_order, read_number}
 use Rattle.doubtful_rows.proofs.TableReads.{same_rows}
 

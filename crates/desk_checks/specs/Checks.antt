@@ -1,17 +1,15 @@
 -- Whether the reading room's tables can be a desk's, whatever their cells are. Each table has one cause, which also holds where
 -- some row of it cannot be read.
-use Rattle.std.specs.Prelude.{ℕ, ℤ, Bool, ◌||◌, ◌&&◌, cond, List, filter_map, Option, Some, None, nat_lt, nat_eq}
+use Rattle.std.specs.Prelude.{ℕ, ℤ, Bool, ◌||◌, cond, List, filter_map, Option, Some, None}
 use Rattle.sqlite.specs.Order.{Row}
 use Rattle.sqlite.specs.Tree.{Trees}
 use Rattle.isad_core.specs.Words.{stands}
 use Rattle.desk_core.specs.declared.reader.Limits.{Limits}
 use Rattle.desk_core.specs.DeskCauses.{Around, readers_are_bad, orders_are_bad, holdings_are_bad, runs_are_bad}
-use Rattle.desk_core.specs.DeskRows.{Desk, SeatRow, OrderRow, HoldingRow, RunRow, RunLineRow, PermitRow}
-use Rattle.desk_core.specs.Orders.{in_order}
 use Rattle.office_tables.specs.Cells.{has_unread}
-use Rattle.office_tables.specs.DeskCells.{read_reader, read_seat, read_order, read_holding, read_run, read_run_line, read_permit}
+use Rattle.office_tables.specs.DeskCells.{read_order, read_holding}
 use Rattle.office_tables.specs.Schema as tables
-use Rattle.desk_checks.specs.Readers.{readers_in}
+use Rattle.doubtful_rows.specs.TableRows.{desk_in, registration_is_unread, runs_are_unread}
 use Rattle.doubtful_rows.specs.Readings.{read_number}
 use Rattle.desk_checks.specs.declared.doubt.DeskDoubt.{DeskDoubt}
 use Rattle.desk_checks.specs.declared.doubt.DeskDoubt.TheVariants.{Readers, Orders, Holdings, Runs}
@@ -24,26 +22,6 @@ cause_of Holdings = 8
 cause_of Runs = 9
 
 -- ---- the rows that can be read
-
--- by a number, and by a second where that is the same
-abbrev pub by : {X : Type 0} → (X → ℕ) → X → X → Bool
-by number a b = nat_lt (number a) (number b)
-
-abbrev pub then_by : {X : Type 0} → (X → ℕ) → (X → ℕ) → X → X → Bool
-then_by number second a b = nat_lt (number a) (number b) || (nat_eq (number a) (number b) && nat_lt (second a) (second b))
-
--- each table's in the order of its key
-abbrev pub desk_in : Trees → Desk
-desk_in db =
-    record {
-      readers = readers_in db;
-      seats = in_order (by (λ (row : SeatRow). row.seat)) (filter_map read_seat (db tables.seat.tree));
-      orders = in_order (by (λ (row : OrderRow). row.id)) (filter_map read_order (db tables.orders.tree));
-      holdings = in_order (by (λ (row : HoldingRow). row.container)) (filter_map read_holding (db tables.holding.tree));
-      runs = in_order (by (λ (row : RunRow). row.id)) (filter_map read_run (db tables.run.tree));
-      run_lines = in_order (then_by (λ (row : RunLineRow). row.run) (λ (row : RunLineRow). row.container)) (filter_map read_run_line (db tables.run_line.tree));
-      permits = in_order (then_by (λ (row : PermitRow). row.ticket) (λ (row : PermitRow). row.unit)) (filter_map read_permit (db tables.permit.tree));
-    }
 
 -- some row of the table has the number as its key
 abbrev pub is_numbered : List Row → ℕ → Bool
@@ -64,9 +42,7 @@ around_in limits today db =
 -- ---- the causes
 
 abbrev pub registration_is_doubtful : Around → Trees → Bool
-registration_is_doubtful a db =
-    (has_unread read_reader (db tables.reader.tree) || (has_unread read_seat (db tables.seat.tree) || has_unread read_permit (db tables.permit.tree)))
-    || readers_are_bad a (desk_in db)
+registration_is_doubtful a db = registration_is_unread db || readers_are_bad a (desk_in db)
 
 abbrev pub orders_are_doubtful : Around → Trees → Bool
 orders_are_doubtful a db = has_unread read_order (db tables.orders.tree) || orders_are_bad a (desk_in db)
@@ -75,8 +51,7 @@ abbrev pub holdings_are_doubtful : Around → Trees → Bool
 holdings_are_doubtful a db = has_unread read_holding (db tables.holding.tree) || holdings_are_bad a (desk_in db)
 
 abbrev pub runs_are_doubtful : Around → Trees → Bool
-runs_are_doubtful a db =
-    (has_unread read_run (db tables.run.tree) || has_unread read_run_line (db tables.run_line.tree)) || runs_are_bad a (desk_in db)
+runs_are_doubtful a db = runs_are_unread db || runs_are_bad a (desk_in db)
 
 -- ---- the first of them
 

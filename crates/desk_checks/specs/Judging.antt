@@ -7,7 +7,8 @@ use Rattle.desk_core.specs.DeskRows.{OrderRow}
 use Rattle.office_tables.specs.Cells.{has_unread}
 use Rattle.office_tables.specs.DeskCells.{read_seat, read_permit, read_order}
 use Rattle.office_tables.specs.Schema as tables
-use Rattle.desk_checks.specs.Checks.{desk_in, holdings_are_doubtful, runs_are_doubtful, doubt_of_orders}
+use Rattle.doubtful_rows.specs.TableRows.{desk_in}
+use Rattle.desk_checks.specs.Checks.{holdings_are_doubtful, runs_are_doubtful, doubt_of_orders}
 use Rattle.doubtful_rows.specs.Readings.{AreRead, by_rowid}
 use Rattle.desk_checks.specs.declared.doubt.DeskDoubt.{DeskDoubt}
 use Rattle.desk_checks.specs.declared.doubt.DeskDoubt.TheVariants.{Readers}

@@ -1,5 +1,5 @@
 -- Whether the rows of the readers can be a desk's, whatever their cells are.
-use Rattle.std.specs.Prelude.{ℕ, suc, Bool, true, false, not, cond, Option, None, ◌&&◌, ◌||◌, List, [], ◌∷◌, Some, filter_map, length, nat_eq, nat_le, nat_lt}
+use Rattle.std.specs.Prelude.{ℕ, suc, Bool, true, false, not, cond, Option, None, ◌&&◌, ◌||◌, List, [], ◌∷◌, Some, length, nat_eq, nat_le}
 use Rattle.std.specs.List.{list_all}
 use Rattle.std.specs.Option.{option_map_or}
 use Rattle.sqlite.specs.Order.{Row, column}
@@ -8,14 +8,10 @@ use Rattle.isad_core.specs.Limits.{most_tickets}
 use Rattle.isad_core.specs.Words.{are_numbered_from}
 use Rattle.desk_core.specs.DeskCauses.{is_good_reader}
 use Rattle.desk_core.specs.DeskRows.{ReaderRow}
-use Rattle.desk_core.specs.Orders.{in_order}
 use Rattle.office_tables.specs.Cells.{number_in, whole_in, text_in, from, has_unread}
 use Rattle.office_tables.specs.DeskCells.{read_reader}
 use Rattle.office_tables.specs.Schema as tables
-
--- the readers that can be read, by their tickets
-abbrev pub readers_in : Trees → List ReaderRow
-readers_in db = in_order (λ (a b : ReaderRow). nat_lt a.ticket b.ticket) (filter_map read_reader (db tables.reader.tree))
+use Rattle.doubtful_rows.specs.TableRows.{readers_in}
 
 -- tickets were given from 1 on, up to the most that there may be, each to a reader with a name, to a day of the calendar
 abbrev pub are_registered_well : List ReaderRow → Bool

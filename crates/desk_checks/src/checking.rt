@@ -7,7 +7,8 @@ ghost use Rattle.desk_core.specs.DeskCauses.{Around as Held, orders_are_bad};
 ghost use Rattle.office_tables.specs.Asking.{Reads};
 ghost use Rattle.office_tables.specs.Faults.{Excused};
 ghost use Rattle.office_tables.specs.Step.{InOffice};
-ghost use Rattle.desk_checks.specs.Checks.{desk_in, doubt_of_past, doubt_of_orders, doubtful_desk};
+ghost use Rattle.doubtful_rows.specs.TableRows.{desk_in};
+ghost use Rattle.desk_checks.specs.Checks.{doubt_of_past, doubt_of_orders, doubtful_desk};
 ghost use Rattle.desk_checks.specs.Judging.{AreOrdersOf, doubt_beside_readers};
 ghost use Rattle.desk_judgments.specs.Rows.{Surrounds, order_row};
 

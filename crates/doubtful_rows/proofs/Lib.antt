@@ -3,3 +3,5 @@ pub mod TableTexts
 pub mod ReadCalls
 pub mod GatheredRows
 pub mod PlaceTexts
+pub mod Alike
+pub mod ToldCells

@@ -15,7 +15,8 @@ use Rattle.catalogue_checks.specs.declared.doubt.CatalogueDoubt.{CatalogueDoubt}
 use Rattle.catalogue_checks.specs.declared.doubt.CatalogueDoubt.TheVariants.{Places, Units, Elements, Containers}
 use Rattle.place_checks.specs.Places.{places_are_doubtful}
 use Rattle.office_rows.specs.Causes.{around, first_held, day_is_broken}
-use Rattle.office_rows.specs.CellCauses.{rows_in, places_are_unread, cell_cause}
+use Rattle.doubtful_rows.specs.TableRows.{places_are_unread}
+use Rattle.office_rows.specs.CellCauses.{rows_in, cell_cause}
 use Rattle.office_rows.specs.Reading.{OfficeRows}
 use Rattle.shown_office.specs.DeskChecked.{AreOfOffice, catalogue_cell_cause, of_desk}
 use Rattle.shown_office.proofs.DeskChecked.{told_alike}

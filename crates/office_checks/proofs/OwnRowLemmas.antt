@@ -43,7 +43,7 @@ use Rattle.office_tables.specs.Meaning.{Means}
 use Rattle.office_tables.specs.Schema.{schema, office}
 use Rattle.office_tables.proofs.Causes.{read_cause, none_refuse, sums_nothing}
 use Rattle.office_tables.proofs.CellTexts.{from_first}
-use Rattle.desk_checks.proofs.JudgedReaders.{is_number}
+use Rattle.doubtful_rows.proofs.ToldCells.{is_number}
 use Rattle.office_tables.proofs.Rows.{kept_all}
 use Rattle.office_tables.proofs.Queries.{asking}
 use Rattle.office_tables.proofs.statements.SelectOf.{select_rows}

@@ -20,7 +20,7 @@ use Rattle.office_tables.proofs.Causes.{failed_cause}
 use Rattle.office_tables.proofs.Errors.{fails}
 use Rattle.tree_core.specs.Versions.{Version, Links, Spans, version_number}
 use Rattle.office_tables.specs.Cells.{number_in}
-use Rattle.desk_checks.proofs.JudgedReaders.{is_number}
+use Rattle.doubtful_rows.proofs.ToldCells.{is_number}
 use Rattle.office_checks.specs.declared.verdict.Verdict.TheVariants as verdict
 use Rattle.office_checks.specs.Verdicts.{IsVersionVerdict, verdict_of_version}
 use Rattle.office_checks.specs.Versions.{version_text, ShowsVersions, CannotTell, TellsVersion, TellsNoOther, other}

@@ -18,8 +18,8 @@ use place_checks::CheckedPlaces;
 use sqlite::{Alter, Connection};
 use std::alloc::Global;
 
-/// Whether a container is out against a rule of the day, where this is the office's own row and none of the causes 1 to 9
-/// holds.
+/// Whether a container is out against a rule of the day, where this is the office's own row and none of the causes 1 to
+/// 9 holds.
 pub(crate) fn breaks_day_rules<P: CheckedPlaces, S: Alter>(
     alloc: Global,
     conn: &mut Connection<S>,

@@ -68,7 +68,8 @@ pub fn texts_are_utf8()
     ensures { (t : Bytes) → SaysUtf8 t }
 {}
 
-/// Tables of a file without a cause, whatever their cells are, have no row that cannot be read, and their rows have no cause.
+/// Tables of a file without a cause, whatever their cells are, have no row that cannot be read, and their rows have no
+/// cause.
 pub fn cells_have_no_cause()
     ensures { (version : Version) (db : Trees) → CellsHaveNoCause version db }
 {}

@@ -31,8 +31,8 @@ pub fn sound_offices_are_read()
     ensures { (version : Version) (db : Trees) (s : State) → SoundOfficesAreRead version db s }
 {}
 
-/// Tables that show a sound office meet the keys and have no cause, and say that office, whatever the order of their rows
-/// and whatever numbers of their own these have.
+/// Tables that show a sound office meet the keys and have no cause, and say that office, whatever the order of their
+/// rows and whatever numbers of their own these have.
 pub fn sound_offices_are_told()
     ensures { (version : Version) (db : Trees) (s : State) → SoundOfficesAreTold version db s }
 {}

@@ -10,7 +10,8 @@ ghost use Rattle.office_tables.specs.Asking.{Reads};
 ghost use Rattle.office_tables.specs.Faults.{Excused};
 ghost use Rattle.office_tables.specs.Step.{InTransaction};
 ghost use Rattle.whole_rows.specs.Places.{ShowsWhatItSays};
-ghost use Rattle.place_checks.specs.Places.{AreUnitsPlaced, places_are_doubtful, places_in};
+ghost use Rattle.doubtful_rows.specs.TableRows.{places_in};
+ghost use Rattle.place_checks.specs.Places.{AreUnitsPlaced, places_are_doubtful};
 
 use catalogue_store::Places;
 use office_tables::StoreFault;

@@ -18,7 +18,8 @@ use Rattle.office_tables.specs.Schema as tables
 use Rattle.office_tables.proofs.ByNumber.{any_ordered}
 use Rattle.office_tables.proofs.CellTexts.{from_first}
 use Rattle.office_rows.specs.Causes.{first_held, office_is_bad, around, day_is_broken}
-use Rattle.office_rows.specs.CellCauses.{by, rows_in, places_are_unread}
+use Rattle.doubtful_rows.specs.TableRows.{by, places_are_unread}
+use Rattle.office_rows.specs.CellCauses.{rows_in}
 use Rattle.office_rows.specs.Reading.{OfficeRows}
 use Rattle.office_rows.proofs.Judging.{none_held}
 use Rattle.desk_checks.specs.Checks.{around_in, is_numbered, cause_of, registration_is_doubtful, orders_are_doubtful, holdings_are_doubtful, runs_are_doubtful, doubt_of_desk, doubtful_desk}

@@ -1,6 +1,6 @@
 -- A sound office can be judged, and so can one of whose units some were changed.
-use Rattle.std.proofs.Common.{◌≡◌, ℕ, true, false, Option, Some, None, refl, sym, ap, subst, ◌∙◌, nat_eq, arith}
-use Rattle.std.specs.Prelude.{is_some, map, option_map}
+use Rattle.std.proofs.Common.{◌≡◌, ℕ, true, false, Option, Some, None, refl, sym, ap, subst, ◌∙◌, nat_eq}
+use Rattle.std.specs.Prelude.{is_some, option_map}
 use Rattle.std.specs.List.{AllByRecursion, IsDistinct}
 use Rattle.std.proofs.lemmas.Bool.{false≢true}
 use Rattle.tree_core.specs.Forest.{Forest, HasDistinctIds, each, nodes}
@@ -11,7 +11,7 @@ use Rattle.catalogue_core.specs.Merging.{Catalogue}
 use Rattle.catalogue_core.specs.Units.{Unit}
 use Rattle.catalogue_core.proofs.KeptCatalogues.{kept, knows}
 use Rattle.catalogue_core.proofs.KeptUnits.{same_containers}
-use Rattle.office_core.specs.SoundDesk.{IsFiled, is_out_for}
+use Rattle.office_core.specs.SoundDesk.{AreFiled, IsFiled, is_out_for}
 use Rattle.office_core.specs.SoundOffice.{IsSoundOffice}
 use Rattle.office_core.specs.State.{Order, State, container_of, order_out}
 use Rattle.office_core.specs.Words.{numbered, stands}
@@ -20,15 +20,15 @@ use Rattle.office_rows.proofs.LegibleRows.{desk_legible}
 use Rattle.shown_office.specs.Judging.{CanBeJudged}
 
 -- what is out is so by an order that is there
-pub orders_there : (s : State) → IsSoundOffice s → (c o : ℕ) → order_out (s.place c) ≡ Some o → is_some (numbered s.orders o) ≡ true
-orders_there s g c o out = at (numbered s.orders o) refl
+pub orders_there : (s : State) → AreFiled s → (c o : ℕ) → order_out (s.place c) ≡ Some o → is_some (numbered s.orders o) ≡ true
+orders_there s filed c o out = at (numbered s.orders o) refl
   where
     at : (x : Option Order) → numbered s.orders o ≡ x → is_some x ≡ true
     at (Some order) e = refl
     at None e =
         let none : container_of s o ≡ None = ap (option_map (λ (order : Order). order.container)) e in
-        let filed = subst (λ k. IsFiled k (λ c. stands o (s.queue c)) (λ c. is_out_for o (s.place c)) (s.past o)) none (g.sound.desk.filed.each o) in
-        let not_out : is_out_for o (s.place c) ≡ false = filed.1 c in
+        let nowhere = subst (λ k. IsFiled k (λ c. stands o (s.queue c)) (λ c. is_out_for o (s.place c)) (s.past o)) none (filed.each o) in
+        let not_out : is_out_for o (s.place c) ≡ false = nowhere.1 c in
         let is_out : is_out_for o (s.place c) ≡ true = rw out (same_number o) in
         absurd (false≢true (sym not_out ∙ is_out))
 
@@ -46,7 +46,7 @@ judged_with s g f units closures texts =
       units = distinct_ids c units;
       desk = λ version. desk_legible version s g;
       permits = g.sound.desk.permits.known;
-      orders = orders_there s g;
+      orders = orders_there s g.sound.desk.filed;
     }
 
 pub judged_now : (s : State) → IsSoundOffice s → CanBeJudged s

@@ -34,7 +34,8 @@ fn holders(alloc: Global, loans: &[Loan]) -> Result<Vec<u64>, AllocError>
     Ok(tickets)
 }
 
-/// Whether one of these numbers stands there more than so many times. They ascend, so that equal ones stand side by side.
+/// Whether one of these numbers stands there more than so many times. They ascend, so that equal ones stand side by
+/// side.
 fn stands_over(numbers: &[u64], most: usize) -> bool
     ensures { IsNonDecreasing numbers.now → result ≡ stands_over most numbers.now }
 {

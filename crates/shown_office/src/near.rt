@@ -1,5 +1,5 @@
-//! After a change within a branch of units, nothing that is out may be withheld from the reader who has it. Only a container
-//! that a unit of the branch, or one above it, names can be: where much is out, only these are asked.
+//! After a change within a branch of units, nothing that is out may be withheld from the reader who has it. Only a
+//! container that a unit of the branch, or one above it, names can be: where much is out, only these are asked.
 
 ghost use Rattle.std.specs.Prelude.{◌≡◌, ⊤, ℕ, List, map, filter, nat_eq, IfOk};
 ghost use Rattle.std.specs.List.{AllByRecursion, list_any};
@@ -31,8 +31,8 @@ use office_tables::value::NO_NUMBER;
 use sqlite::{Alter, Connection};
 use std::alloc::{AllocError, Global};
 
-/// Up to so many containers that are out are all asked, at a fifth of a millisecond each. To find those near a unit, all units
-/// of its branch are read, and what houses each: that takes up to a second where the branch is large.
+/// Up to so many containers that are out are all asked, at a fifth of a millisecond each. To find those near a unit, all
+/// units of its branch are read, and what houses each: that takes up to a second where the branch is large.
 const FEW: usize = 64;
 
 /// The containers of these rows.
@@ -185,8 +185,8 @@ pub fn pass_of<P: Places, S: Alter>(
     }
 }
 
-/// What is told of a change that bears on a unit, on those above it and on those below it alone: what was done, unless it
-/// withholds what is out.
+/// What is told of a change that bears on a unit, on those above it and on those below it alone: what was done, unless
+/// it withholds what is out.
 pub fn pass_near<P: Places, S: Alter>(
     alloc: Global,
     conn: &mut Connection<S>,

@@ -18,7 +18,7 @@ use Rattle.office_tables.proofs.Tests.{only}
 use Rattle.office_tables.proofs.numbered.Counted.{less_below}
 use Rattle.office_tables.specs.Order.{Rises}
 use Rattle.desk_core.specs.Orders.{in_order, put_in_order}
-use Rattle.whole_rows.specs.Places.{by}
+use Rattle.doubtful_rows.specs.TableRows.{by}
 use Rattle.whole_rows.proofs.KeptRows.{int_of}
 
 -- ---- numbers of rows

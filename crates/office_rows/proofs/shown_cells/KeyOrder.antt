@@ -12,7 +12,7 @@ use Rattle.tree_core.specs.Forest.{Forest, Empty, Node, size}
 use Rattle.tree_core.specs.Spans.{number}
 use Rattle.desk_core.specs.DeskCauses.{AreInOrder}
 use Rattle.desk_core.specs.Orders.{put_in_order, in_order}
-use Rattle.office_rows.specs.CellCauses.{by, then_by}
+use Rattle.doubtful_rows.specs.TableRows.{by, then_by}
 use Rattle.office_rows.proofs.Members.{all_in, all_of_in}
 use Rattle.office_rows.proofs.Grouped.{order_weaker}
 

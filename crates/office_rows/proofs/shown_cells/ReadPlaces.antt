@@ -19,7 +19,7 @@ use Rattle.catalogue_core.specs.CatalogueCauses.{is_good_link, are_good_places, 
 use Rattle.catalogue_core.specs.CatalogueRows.{PlaceRows, LinkRows, SpanRows, place_rows, places_said}
 use Rattle.office_tables.specs.Schema as tables
 use Rattle.office_tables.specs.CatalogueCells.{read_link, read_span}
-use Rattle.office_rows.specs.CellCauses.{by, then_by, places_in, places_are_unread}
+use Rattle.doubtful_rows.specs.TableRows.{by, then_by, places_in, places_are_unread}
 use Rattle.office_rows.specs.CellsOfOffices.{HasPlaces, link_cells, span_cells}
 use Rattle.office_rows.proofs.Grouped.{order_weaker}
 use Rattle.office_rows.proofs.Linked.{links_say}

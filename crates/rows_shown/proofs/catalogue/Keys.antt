@@ -26,7 +26,8 @@ use Rattle.office_tables.specs.Order.{Rises}
 use Rattle.office_tables.specs.Schema as tables
 use Rattle.office_tables.specs.Schema.{schema}
 use Rattle.office_tables.proofs.Tests.{both, same_number, same_bytes}
-use Rattle.office_rows.specs.CellCauses.{by, then_by, places_in, rows_in}
+use Rattle.doubtful_rows.specs.TableRows.{by, then_by, places_in}
+use Rattle.office_rows.specs.CellCauses.{rows_in}
 use Rattle.office_rows.proofs.shown_cells.OtherOrders.{flips}
 use Rattle.sqlite.specs.declared.types.Value.TheVariants.{Null}
 use Rattle.whole_rows.specs.Places.{AreWholePlaces}

@@ -13,7 +13,8 @@ use Rattle.office_tables.specs.Flags.{flag}
 use Rattle.office_tables.specs.RowCells.{unit_cells, element_cells, container_cells, housing_cells}
 use Rattle.office_tables.specs.Shared.{office_cells}
 use Rattle.office_tables.proofs.CellTexts.{from_first}
-use Rattle.whole_rows.proofs.KeptRows.{is_number, is_whole, is_text, is_flag, is_or_null, whole_row}
+use Rattle.doubtful_rows.proofs.ToldCells.{is_number, is_whole, is_text, is_flag, is_or_null}
+use Rattle.whole_rows.proofs.KeptRows.{whole_row}
 use Rattle.rows_shown.proofs.catalogue.Rules.{IsKeyed, IsNumbered}
 
 same_day : (o : Option ℤ) → option_map (λ (n : ℤ). n) o ≡ o

@@ -22,7 +22,8 @@ use Rattle.office_tables.specs.RowCells.{unit_cells, container_cells, element_ce
 use Rattle.office_tables.specs.Schema as tables
 use Rattle.office_tables.specs.Shared.{office_cells}
 use Rattle.office_core.specs.State.{State}
-use Rattle.office_rows.specs.CellCauses.{rows_in, unread, then_by}
+use Rattle.doubtful_rows.specs.TableRows.{then_by}
+use Rattle.office_rows.specs.CellCauses.{rows_in, unread}
 use Rattle.office_rows.specs.DeskShown.{rows_from}
 use Rattle.office_rows.specs.Judged.{IsCatalogueOf, IsSoundCatalogue}
 use Rattle.office_rows.specs.Reading.{OfficeRows, state_of, unit_said}

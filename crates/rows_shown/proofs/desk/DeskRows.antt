@@ -9,7 +9,8 @@ use Rattle.office_tables.specs.Cells.{whole_in, number_in, text_in, or_null_in}
 use Rattle.office_tables.specs.DeskCells.{read_reader, read_seat, read_order, read_holding, read_run, read_run_line, read_permit}
 use Rattle.office_tables.specs.Permits.{permit_cells}
 use Rattle.office_tables.specs.RowCells.{reader_cells, seat_cells, order_cells, holding_cells, run_cells, run_line_cells}
-use Rattle.whole_rows.proofs.KeptRows.{is_number, is_whole, is_text, is_or_null, whole_row}
+use Rattle.doubtful_rows.proofs.ToldCells.{is_number, is_whole, is_text, is_or_null}
+use Rattle.whole_rows.proofs.KeptRows.{whole_row}
 use Rattle.rows_shown.proofs.catalogue.Rules.{IsKeyed, IsNumbered}
 
 -- a cell, and those behind it

@@ -20,7 +20,8 @@ use Rattle.desk_core.specs.DeskRows.{Desk, ReaderRow, SeatRow, OrderRow, Holding
 use Rattle.office_rows.proofs.DeskParts.{not_so}
 use Rattle.office_rows.proofs.Grouped.{order_weaker}
 use Rattle.office_rows.proofs.Members.{test_in}
-use Rattle.office_rows.specs.CellCauses.{rows_in, then_by}
+use Rattle.doubtful_rows.specs.TableRows.{then_by}
+use Rattle.office_rows.specs.CellCauses.{rows_in}
 use Rattle.office_tables.specs.DeskCells.{read_reader, read_seat, read_order, read_holding, read_run, read_run_line, read_permit}
 use Rattle.office_tables.specs.Numbered.{HasNumbered}
 use Rattle.office_tables.specs.Permits.{permit_cells}

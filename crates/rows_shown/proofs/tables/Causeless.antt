@@ -7,7 +7,8 @@ use Rattle.tree_core.specs.Versions.{Version}
 use Rattle.catalogue_core.specs.CatalogueCauses.{places_are_bad, units_are_bad, elements_are_bad, containers_are_bad}
 use Rattle.desk_core.specs.DeskCauses.{readers_are_bad, orders_are_bad, holdings_are_bad, runs_are_bad}
 use Rattle.office_rows.proofs.Judging.{hold_none}
-use Rattle.office_rows.specs.CellCauses.{rows_in, places_are_unread, unread, cell_cause}
+use Rattle.doubtful_rows.specs.TableRows.{places_are_unread}
+use Rattle.office_rows.specs.CellCauses.{rows_in, unread, cell_cause}
 use Rattle.office_rows.specs.Causes.{around, catalogue_cause, day_is_broken, first_held, office_is_bad}
 use Rattle.office_rows.specs.Reading.{OfficeRows}
 use Rattle.office_tables.specs.Cells.{has_unread}

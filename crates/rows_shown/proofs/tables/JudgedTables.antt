@@ -1,7 +1,6 @@
 -- Of a state that is sound but for the rules of the day, and whose rows of the desk have been judged, it can be told who may see what.
-use Rattle.std.proofs.Common.{◌≡◌, ℕ, ◌<◌, ◌^◌, true, false, Option, Some, None, refl, sym, ap, subst, ◌∙◌, inr, arith}
-use Rattle.std.specs.Prelude.{is_some, option_map, IsUtf8}
-use Rattle.std.proofs.lemmas.Bool.{false≢true}
+use Rattle.std.proofs.Common.{◌≡◌, ◌<◌, ◌^◌, true, sym, subst, inr, arith}
+use Rattle.std.specs.Prelude.{IsUtf8}
 use Rattle.sqlite.specs.Tree.{Trees}
 use Rattle.isad_core.proofs.DayLemmas.{is_day_number-true}
 use Rattle.isad_core.specs.Days.{is_day_number}
@@ -12,10 +11,8 @@ use Rattle.catalogue_core.specs.Members.{StandsIn}
 use Rattle.desk_core.specs.DeskCauses.{MeetsDeskKeys}
 use Rattle.desk_core.specs.DeskRows.{ReaderRow, SeatRow, HoldingRow, RunRow, PermitRow}
 use Rattle.desk_core.specs.LegibleDesks.{IsKnownPlace, IsLegible, IsLegibleHolding, IsLegibleOrder, IsLegibleReader}
-use Rattle.office_core.proofs.Words.{numbered_within, same_number}
-use Rattle.office_core.specs.SoundDesk.{AreFiled, IsFiled, is_out_for}
-use Rattle.office_core.specs.State.{Order, State, container_of, order_out}
-use Rattle.office_core.specs.Words.{numbered, stands}
+use Rattle.office_core.proofs.Words.{numbered_within}
+use Rattle.office_core.specs.State.{State}
 use Rattle.office_rows.proofs.CellCauses.{legible_rows}
 use Rattle.office_rows.proofs.DeskLookups.{is_between_so}
 use Rattle.office_rows.proofs.DeskParts.{ReaderParts, OrdersParts}
@@ -24,25 +21,12 @@ use Rattle.office_rows.proofs.SaidOrders.{HoldingKind, AtDesk, OutWith}
 use Rattle.office_rows.proofs.SaidRuns.{RunParts}
 use Rattle.office_rows.specs.CellCauses.{rows_in}
 use Rattle.office_rows.specs.Reading.{OfficeRows, state_of}
-use Rattle.shown_office.proofs.Judged.{distinct_ids}
+use Rattle.shown_office.proofs.Judged.{distinct_ids, orders_there}
 use Rattle.shown_office.specs.Judging.{CanBeJudged}
 use Rattle.rows_shown.specs.Tables.{IsSoundButForTheDay}
 use Rattle.rows_shown.proofs.desk.Again.{q, said_again, holding_known, sound_but}
 use Rattle.rows_shown.proofs.desk.ShownDesk.{reader_facts, order_facts, run_facts}
 use Rattle.rows_shown.proofs.tables.Causeless.{ArePassed}
-
--- what is out is so by an order that is there
-orders_there : (s : State) → AreFiled s → (c o : ℕ) → order_out (s.place c) ≡ Some o → is_some (numbered s.orders o) ≡ true
-orders_there s filed c o out = at (numbered s.orders o) refl
-  where
-    at : (x : Option Order) → numbered s.orders o ≡ x → is_some x ≡ true
-    at (Some order) e = refl
-    at None e =
-        let none : container_of s o ≡ None = ap (option_map (λ (order : Order). order.container)) e in
-        let nowhere = subst (λ k. IsFiled k (λ c. stands o (s.queue c)) (λ c. is_out_for o (s.place c)) (s.past o)) none (filed.each o) in
-        let not_out : is_out_for o (s.place c) ≡ false = nowhere.1 c in
-        let is_out : is_out_for o (s.place c) ≡ true = rw out (same_number o) in
-        absurd (false≢true (sym not_out ∙ is_out))
 
 is_place : (t : OfficeRows) (row : HoldingRow) → HoldingKind t row → IsKnownPlace row.place row.held_by
 is_place t row (AtDesk one none) = subst (IsKnownPlace row.place) (sym none) one

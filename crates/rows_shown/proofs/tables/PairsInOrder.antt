@@ -5,7 +5,7 @@ use Rattle.std.proofs.lemmas.Bool.{and_parts, or_cases, or_parts, cases_eq, eq-e
 use Rattle.sqlite_trees.proofs.ListLemmas.{all_weaker}
 use Rattle.desk_core.specs.DeskCauses.{AreInOrder}
 use Rattle.desk_core.specs.Orders.{put_in_order, in_order}
-use Rattle.office_rows.specs.CellCauses.{then_by}
+use Rattle.doubtful_rows.specs.TableRows.{then_by}
 
 module _ {X : Type 0} (key second : X → ℕ) where
   abbrev pub IsPairBefore : X → X → Type 0

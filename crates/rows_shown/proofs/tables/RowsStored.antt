@@ -11,7 +11,7 @@ use Rattle.sqlite_trees.specs.View.{is_int}
 use Rattle.desk_core.proofs.OrderLemmas.{in_order-permutation}
 use Rattle.desk_core.specs.DeskCauses.{AreInOrder}
 use Rattle.desk_core.specs.Orders.{in_order}
-use Rattle.office_rows.specs.CellCauses.{by}
+use Rattle.doubtful_rows.specs.TableRows.{by}
 use Rattle.office_tables.proofs.numbered.Counted.{less_below}
 use Rattle.office_tables.specs.Cells.{has_unread}
 use Rattle.office_tables.specs.Numbered.{AreByNumber, HasNumbered}

@@ -7,7 +7,8 @@ use Rattle.office_tables.specs.CatalogueCells.{read_unit}
 use Rattle.office_tables.specs.Schema as tables
 use Rattle.office_tables.proofs.Calls.{early}
 use Rattle.doubtful_rows.proofs.ReadCalls.{same_trees, reads_then}
-use Rattle.catalogue_checks.specs.Judging.{containers_in, good_housings_in}
+use Rattle.doubtful_rows.specs.TableRows.{containers_in}
+use Rattle.catalogue_checks.specs.Judging.{good_housings_in}
 use Rattle.catalogue_checks.proofs.Doubts.{bad_containers, counted, rest_of_containers}
 use Rattle.catalogue_checks.proofs.checking.containers_are_good.Goals as goal
 

@@ -8,7 +8,8 @@ use Rattle.office_tables.specs.Cells.{has_unread}
 use Rattle.office_tables.specs.CatalogueCells.{read_unit}
 use Rattle.office_tables.specs.Schema as tables
 use Rattle.office_tables.proofs.Calls.{early, looks_then, cut_then}
-use Rattle.place_checks.specs.Places.{AreUnitsPlaced, places_in, places_are_doubtful}
+use Rattle.doubtful_rows.specs.TableRows.{places_in}
+use Rattle.place_checks.specs.Places.{AreUnitsPlaced, places_are_doubtful}
 use Rattle.place_checks.specs.declared.checked_places.Placed.{Placed}
 use Rattle.doubtful_rows.proofs.ReadCalls.{same_trees, before, reads_then}
 use Rattle.catalogue_checks.specs.Checks.{units_are_doubtful}

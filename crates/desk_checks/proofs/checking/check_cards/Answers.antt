@@ -4,7 +4,8 @@ use Rattle.sqlite.specs.Held.{state}
 use Rattle.sqlite.specs.Tree.{Trees}
 use Rattle.office_tables.proofs.Calls.{early, looks_then}
 use Rattle.desk_judgments.specs.Rows.{Surrounds}
-use Rattle.desk_checks.specs.Checks.{desk_in, doubt_of_orders}
+use Rattle.doubtful_rows.specs.TableRows.{desk_in}
+use Rattle.desk_checks.specs.Checks.{doubt_of_orders}
 use Rattle.desk_checks.specs.Judging.{good_permits_in}
 use Rattle.desk_checks.proofs.Doubts.{bad_seats, bad_permits, good_cards}
 use Rattle.doubtful_rows.proofs.ReadCalls.{same_trees, before, reads_then}

@@ -9,7 +9,8 @@ use Rattle.office_tables.specs.Schema as tables
 use Rattle.office_tables.proofs.Calls.{early}
 use Rattle.desk_judgments.specs.Rows.{Surrounds, order_row}
 use Rattle.desk_judgments.specs.declared.rows.OrderRow.{OrderRow}
-use Rattle.desk_checks.specs.Checks.{desk_in, orders_are_doubtful, doubt_of_past}
+use Rattle.doubtful_rows.specs.TableRows.{desk_in}
+use Rattle.desk_checks.specs.Checks.{orders_are_doubtful, doubt_of_past}
 use Rattle.desk_checks.specs.Judging.{AreOrdersOf}
 use Rattle.doubtful_rows.specs.Readings.{AreRead, by_rowid}
 use Rattle.desk_checks.proofs.Doubts.{was_good, was_bad, bad_orders, sound_orders}

@@ -3,7 +3,7 @@ use Rattle.sqlite.specs.Held.{state}
 use Rattle.sqlite.specs.Tree.{Trees}
 use Rattle.desk_core.specs.DeskCauses.{orders_are_bad}
 use Rattle.desk_judgments.specs.Rows.{Surrounds, order_row}
-use Rattle.desk_checks.specs.Checks.{desk_in}
+use Rattle.doubtful_rows.specs.TableRows.{desk_in}
 use Rattle.desk_checks.specs.Judging.{AreOrdersOf, good_runs_in}
 use Rattle.desk_checks.proofs.Doubts.{bad_holdings, bad_runs, no_doubt}
 use Rattle.doubtful_rows.proofs.ReadCalls.{same_trees, before}

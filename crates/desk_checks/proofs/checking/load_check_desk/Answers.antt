@@ -4,7 +4,8 @@ use Rattle.sqlite.specs.Held.{state}
 use Rattle.sqlite.specs.Tree.{Trees}
 use Rattle.office_tables.proofs.Calls.{early, looks_then}
 use Rattle.desk_judgments.specs.Rows.{Surrounds}
-use Rattle.desk_checks.specs.Checks.{around_in, desk_in}
+use Rattle.doubtful_rows.specs.TableRows.{desk_in}
+use Rattle.desk_checks.specs.Checks.{around_in}
 use Rattle.desk_checks.specs.Judging.{doubt_beside_readers}
 use Rattle.desk_checks.specs.Readers.{number_registered}
 use Rattle.desk_checks.proofs.Doubts.{doubt_of_cards}

@@ -78,3 +78,7 @@ ordered_alike before xs p = count_ordered p before xs
 pub read_alike : {X : Type 0} (read : Row → Option X) (table stored : List Row) → IsPermutation table stored → Alike (filter_map read table) (filter_map read stored)
 read_alike read table stored same p =
     count_read p read table ∙ permuted table stored same (λ row. option_map_or p (read row) false) ∙ sym (count_read p read stored)
+
+-- in the order of their keys, too
+pub keyed_alike : {X : Type 0} (read : Row → Option X) (before : X → X → Bool) (table stored : List Row) → IsPermutation table stored → Alike (filter_map read stored) (in_order before (filter_map read table))
+keyed_alike read before table stored same p = sym (read_alike read table stored same p) ∙ sym (ordered_alike before (filter_map read table) p)
