@@ -12,3 +12,6 @@ pub mod Wholes
 pub mod WorkedHeads
 pub mod WorkedPieces
 pub mod Faults
+pub mod Named
+pub mod Meanings
+pub mod OneRun

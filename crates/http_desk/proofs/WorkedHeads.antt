@@ -14,7 +14,7 @@ use Rattle.http_messages.specs.Ending.{scan}
 use Rattle.http_messages.specs.Heads.{Request, Verdict, Accepted, verdict_on}
 use Rattle.http_messages.proofs.Scans.{scan_take_more}
 use Rattle.http_desk.specs.declared.ended.Ended.TheVariants.{End, Cut}
-use Rattle.http_desk.specs.Messages.{longest_head, HasHead, Message, Begins, Nothing, BodyCut, Stands}
+use Rattle.http_desk.specs.Messages.{longest_head, IsBlank, HasHead, Message, Begins, Nothing, BodyCut, Stands}
 use Rattle.http_desk.specs.Session.{Session, StaysOpen, message_text, state_after, text_after_all, leave_if}
 use Rattle.http_desk.specs.WorkedSessions.{list_request, register_head, draft_head, page_request}
 
@@ -134,17 +134,20 @@ draft_has more = has_head draft_head more drafting (Accepted (orders_at (codes "
 
 -- ---- sessions
 
-two_texts : (s t : State) (m n : Message) (a b : Bytes) → message_text false s m ≡ a → state_after s m ≡ t → message_text false t n ≡ b
+pub two_texts : (s t : State) (m n : Message) (a b : Bytes) → message_text false s m ≡ a → state_after s m ≡ t → message_text false t n ≡ b
     → a ++ b ≡ text_after_all s (m ∷ n ∷ []) ++ []
 two_texts s t m n a b e kept f =
     let later : message_text false (state_after s m) n ≡ b = ap (λ x. message_text false x n) kept ∙ f in
     sym (append-nil (text_after_all s (m ∷ n ∷ [])) ∙ (λ i. e i ++ (later i ++ [])) ∙ ap (λ l. a ++ l) (append-nil b))
 
+pub nothing_is_blank : IsBlank []
+unfolding scan
+nothing_is_blank = (lit< tt, refl)
+
 -- two messages are answered, and the input ends
-pub two_answered : (s t u : State) (input more : Bytes) (m n : Message) (a b : Bytes) → Begins input m more → Begins more n [] → StaysOpen m → StaysOpen n
+abbrev pub two_answered : (s t u : State) (input more : Bytes) (m n : Message) (a b : Bytes) → Begins input m more → Begins more n [] → StaysOpen m → StaysOpen n
     → message_text false s m ≡ a → state_after s m ≡ t → message_text false t n ≡ b → state_after t n ≡ u
     → Session s input (a ++ b) End u
-unfolding scan
 two_answered s t u input more m n a b first second stays stays2 e kept f left = record {
   messages = m ∷ n ∷ [];
   rest = [];
@@ -152,12 +155,12 @@ two_answered s t u input more m n a b first second stays stays2 e kept f left = 
   cut = (more, first, ([], second, refl));
   stay = (stays, (stays2, tt));
   few = lit< tt;
-  stops = record { last = Nothing; stands = (lit< tt, refl); ends = refl; written = refl; leaves = sym (ap (λ x. state_after x n) kept ∙ left) };
+  stops = record { last = Nothing; stands = nothing_is_blank; ends = refl; written = refl; leaves = sym (ap (λ x. state_after x n) kept ∙ left) };
   says = two_texts s t m n a b e kept f;
 }
 
 -- one message is answered, and the input ends inside the body of the next
-pub one_answered : (s t : State) (input more : Bytes) (m : Message) (next : Request) (a : Bytes) → Begins input m more → StaysOpen m
+abbrev pub one_answered : (s t : State) (input more : Bytes) (m : Message) (next : Request) (a : Bytes) → Begins input m more → StaysOpen m
     → message_text false s m ≡ a → state_after s m ≡ t → Stands more (BodyCut next) → leave_if next.waits ≡ []
     → Session s input a Cut t
 one_answered s t input more m next a first stays e kept stands none = record {

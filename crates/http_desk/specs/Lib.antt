@@ -6,5 +6,8 @@ pub mod Parts
 pub mod Quiet
 pub mod Gathering
 pub mod Talking
+pub mod Runs
+pub mod Headline
 pub mod Worked
 pub mod WorkedSessions
+pub mod WorkedRuns

@@ -1,5 +1,6 @@
 //! Small cases of the definitions, computed.
 ghost use Rattle.http_desk.specs.Worked.{Answered};
+ghost use Rattle.http_desk.specs.WorkedRuns.{Carried};
 ghost use Rattle.http_desk.specs.WorkedSessions.{Talked};
 
 /// Answers, to the byte.
@@ -10,4 +11,9 @@ pub fn worked_answers()
 /// Whole sessions, to the byte.
 pub fn worked_sessions()
     ensures { Talked }
+{}
+
+/// What messages mean to the machine, and the commands of whole sessions.
+pub fn worked_runs()
+    ensures { Carried }
 {}

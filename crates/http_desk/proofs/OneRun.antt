@@ -1,0 +1,105 @@
+-- Sessions and calls make one run of the machine.
+use Rattle.std.proofs.Common.{◌≡◌, List, [], ◌∷◌, ◌++◌, refl, sym, ap, ◌∙◌, subst, None, Some}
+use Rattle.std.specs.List.{AllByRecursion}
+use Rattle.catalogue_core.proofs.EachOf.{all_append, all_split}
+use Rattle.office_core.specs.declared.command.Command.{Command}
+use Rattle.office_core.specs.MixedRuns.{ToDo, ToTell, Replied, Answered}
+use Rattle.office_core.specs.Rules.{state_after, step}
+use Rattle.office_core.specs.Soundness.{IsSound, NamesDays}
+use Rattle.office_core.specs.State.{State}
+use Rattle.office_core.proofs.OrderLaws.{out_apart, issues_the_first}
+use Rattle.office_core.proofs.Published.{only_published}
+use Rattle.office_core.proofs.SoundDesk.{open_to_holders}
+use Rattle.office_core.proofs.StaysSound.{always_sound}
+use Rattle.http_desk.specs.Headline.{KeepsTheRules, IsOneRun, MakeVisits}
+use Rattle.http_desk.specs.Runs.{Visit, ByHttp, Directly, Happens, AllHappen, CallsNameDays, AreVisits, Brings, AllBring}
+use Rattle.http_desk.proofs.Meanings.{runs_the_machine}
+
+keeps_the_rules : (s : State) → IsSound s → KeepsTheRules s
+keeps_the_rules s h = record {
+  sound = h;
+  apart = out_apart s;
+  first = issues_the_first s h.desk.filed;
+  open_to_holders = open_to_holders s h.desk;
+  shown = only_published s;
+}
+
+-- the commands of visits, and the machine's state after them
+record HasRun (Bring : List Command → Type 0) (s new : State) : Type 0 where
+  commands : List Command
+  bring : Bring commands
+  days : AllByRecursion NamesDays commands
+  leaves : new ≡ state_after s commands
+
+one_visit : (s new : State) (visit : Visit) → CallsNameDays visit → Happens s visit new → HasRun (λ commands. Brings s visit commands new) s new
+one_visit s new (ByHttp input output end) named session =
+    let it = runs_the_machine s new input output end session in
+    record { commands = it.0; bring = (session, it.1); days = it.1.days; leaves = it.1.leaves }
+one_visit s new (Directly (ToDo command) (Some told)) named h = record { commands = command ∷ []; bring = (refl, h); days = (named, tt); leaves = h.1 }
+one_visit s new (Directly (ToTell query) (Some told)) named h = record { commands = []; bring = (refl, h); days = tt; leaves = h.1 }
+one_visit s new (Directly (ToDo command) None) named h = record { commands = []; bring = (refl, h); days = tt; leaves = h }
+one_visit s new (Directly (ToTell query) None) named h = record { commands = []; bring = (refl, h); days = tt; leaves = h }
+
+after_both : (first others : List Command) (s : State) → state_after s (first ++ others) ≡ state_after (state_after s first) others
+after_both [] others s = refl
+after_both (asked ∷ first) others s = after_both first others (step s asked).0
+
+two_runs : (s mid new : State) (visit : Visit) (later : List Visit) → HasRun (λ commands. Brings s visit commands mid) s mid
+    → HasRun (λ commands. AllBring mid later commands new) mid new → HasRun (λ commands. AllBring s (visit ∷ later) commands new) s new
+two_runs s mid new visit later one more = record {
+  commands = one.commands ++ more.commands;
+  bring = (one.commands, more.commands, mid, refl, one.bring, more.bring);
+  days = all_append NamesDays one.commands more.commands one.days more.days;
+  leaves = more.leaves ∙ ap (λ x. state_after x more.commands) one.leaves ∙ sym (after_both one.commands more.commands s);
+}
+
+all_visits : (s new : State) (visits : List Visit) → AllHappen s visits new → AllByRecursion CallsNameDays visits → HasRun (λ commands. AllBring s visits commands new) s new
+all_visits s new [] same named = record { commands = []; bring = (refl, same); days = tt; leaves = same }
+all_visits s new (visit ∷ later) (mid, happens, more) named = two_runs s mid new visit later (one_visit s mid visit named.0 happens) (all_visits mid new later more named.1)
+
+pub one_run : (s new : State) (visits : List Visit) → AllHappen s visits new → AllByRecursion CallsNameDays visits → IsSound s → IsOneRun s visits new
+one_run s new visits happen named sound =
+    let run = all_visits s new visits happen named in
+    record {
+      commands = run.commands;
+      bring = run.bring;
+      days = run.days;
+      leaves = run.leaves;
+      keeps = λ before later e.
+          let both = all_split NamesDays before later (subst (λ (l : List Command). AllByRecursion NamesDays l) e run.days) in
+          keeps_the_rules (state_after s before) (always_sound s before both.0 sound);
+    }
+
+module _ {M : Type 0} (shows : M → State → Type 0) (is_intact : M → Type 0) where
+  intact_before : (visits : List Visit) (old new : M) → AreVisits shows is_intact old new visits → is_intact new → is_intact old
+  intact_before [] old new same intact = subst (λ (m : M). is_intact m) (sym same) intact
+  intact_before (visit ∷ later) old new it intact = it.1.intact (intact_before later it.0 new it.2 intact)
+
+  all_happen : (visits : List Visit) (old new : M) → AreVisits shows is_intact old new visits → is_intact new
+      → (s : State) → shows old s → (t : State) × shows new t × AllHappen s visits t
+  all_happen [] old new same intact s is = (s, subst (λ (m : M). shows m s) same is, refl)
+  all_happen (visit ∷ later) old new it intact s is =
+      let (mid, shown, happens) = it.1.happens (intact_before later it.0 new it.2 intact) s is in
+      let (t, shown_too, more) = all_happen later it.0 new it.2 intact mid shown in
+      (t, shown_too, (mid, happens, more))
+
+  pub the_headline : (visits : List Visit) (old new : M) → AreVisits shows is_intact old new visits → AllByRecursion CallsNameDays visits → is_intact new
+      → (s : State) → shows old s → IsSound s → (t : State) × shows new t × IsOneRun s visits t
+  the_headline visits old new are named intact s is sound =
+      let (t, shown, happen) = all_happen visits old new are intact s is in
+      (t, shown, one_run s t visits happen named sound)
+
+  pub make_visits : MakeVisits shows is_intact
+  make_visits = record {
+    talk = λ left left_after held held_after old new end (read, written, consumed, appended, through) intact.
+        (read, written, consumed, appended, record { intact = intact; happens = through });
+    apply = λ old new command reply intact step. record {
+      intact = intact;
+      happens = λ i s is. let (shown, done, json) = step i s is in (_, shown, (ap Replied done, refl));
+    };
+    ask = λ old new query told intact answers. record {
+      intact = intact;
+      happens = λ i s is. let (shown, same) = answers i s is in (s, shown, (ap Answered same, refl));
+    };
+    busy = λ old new asked intact stays. record { intact = intact; happens = λ i s is. (s, stays i s is, refl) };
+  }

@@ -1,0 +1,5 @@
+use Rattle.http_desk.proofs.OneRun as law
+use Rattle.http_desk.proofs.laws.talks_and_calls_are_visits.Goals as goal
+
+pub returns : goal.returns
+returns g c = law.make_visits g.M.Machine.shows g.M.Machine.is_intact

@@ -1,0 +1,5 @@
+use Rattle.http_desk.proofs.OneRun as law
+use Rattle.http_desk.proofs.laws.the_headline.Goals as goal
+
+pub returns : goal.returns
+returns g c = law.the_headline g.M.Machine.shows g.M.Machine.is_intact

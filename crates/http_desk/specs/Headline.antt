@@ -1,0 +1,80 @@
+-- What holds of an office, whoever comes to it, by HTTP or by a call.
+use Rattle.std.specs.Prelude.{◌≡◌, ◌++◌, List, Option, Some, None}
+use Rattle.std.specs.List.{AllByRecursion}
+use Rattle.std.specs.Io.KnownBytes.{Consumes, Appends}
+use Rattle.isad_core.specs.Texts.{Bytes}
+use Rattle.office_core.specs.declared.command.Command.{Command}
+use Rattle.office_core.specs.declared.machine.Reply.{Reply}
+use Rattle.office_core.specs.declared.query.Answer.{Answer}
+use Rattle.office_core.specs.declared.query.Query.{Query}
+use Rattle.office_core.specs.Json.{reply_text}
+use Rattle.office_core.specs.MixedRuns.{Asked, ToDo, ToTell, Replied, Answered}
+use Rattle.office_core.specs.Queries.{answer}
+use Rattle.office_core.specs.Laws.{OutApart, IssuesTheFirst, OpenToHolders}
+use Rattle.office_core.specs.Rules as machine
+use Rattle.office_core.specs.Secrecy.{ShowsOnlyPublished}
+use Rattle.office_core.specs.Soundness.{IsSound, NamesDays}
+use Rattle.office_core.specs.State.{State}
+use Rattle.http_desk.specs.declared.ended.Ended.{Ended}
+use Rattle.http_desk.specs.Runs.{HasCarriedOut, Visit, ByHttp, Directly, CallsNameDays}
+use Rattle.http_desk.specs.Runs.{AllHappen, AllBring, IsVisited, AreVisits}
+use Rattle.http_desk.specs.Session.{Session}
+use Rattle.http_desk.specs.Talking.{Talks}
+
+-- ---- what a session is to the machine
+
+-- Every session has the machine carry out a list of commands.
+abbrev pub SessionsRunTheMachine : Type 0
+SessionsRunTheMachine =
+    (s new : State) (input output : Bytes) (end : Ended) (session : Session s input output end new)
+    → (commands : List Command) × HasCarriedOut session commands
+
+-- ---- what makes a visit
+
+-- What `talk` promises of a peer, `apply` of a command and `ask` of a question, each with its outcome, makes a visit.
+pub record MakeVisits {M : Type 0} (shows : M → State → Type 0) (is_intact : M → Type 0) : Type 0 where
+  pub talk : (left left_after held held_after : Option Bytes) (old new : M) (end : Ended)
+      → Talks shows is_intact left left_after held held_after old end new → (is_intact new → is_intact old)
+      → (read written : Bytes) × Consumes left left_after read × Appends held held_after written
+      × IsVisited shows is_intact old new (ByHttp read written end)
+  pub apply : (old new : M) (command : Command) (reply : Reply) → (is_intact new → is_intact old)
+      → (is_intact new → (s : State) → shows old s → shows new (machine.step s command).0
+      × (reply.done ≡ (machine.step s command).1) × (reply.json ≡ reply_text (machine.step s command).1))
+      → IsVisited shows is_intact old new (Directly (ToDo command) (Some (Replied reply.done)))
+  pub ask : (old new : M) (query : Query) (told : Answer) → (is_intact new → is_intact old)
+      → (is_intact new → (s : State) → shows old s → shows new s × (told ≡ answer s query))
+      → IsVisited shows is_intact old new (Directly (ToTell query) (Some (Answered told)))
+  pub busy : (old new : M) (asked : Asked) → (is_intact new → is_intact old)
+      → (is_intact new → (s : State) → shows old s → shows new s)
+      → IsVisited shows is_intact old new (Directly asked None)
+
+-- ---- what holds of all of them
+
+-- what holds of a state
+pub record KeepsTheRules (s : State) : Type 0 where
+  pub sound : IsSound s
+  pub apart : OutApart s  -- no container is with two readers
+  pub first : IssuesTheFirst s  -- each issue goes to the first waiting order
+  pub open_to_holders : OpenToHolders s  -- what is out is open, on that day, to the reader who has it
+  pub shown : ShowsOnlyPublished s  -- what the public is shown is printed from published units alone
+
+-- Visits make one run of the machine, and the rules are kept at each point of it.
+pub record IsOneRun (s : State) (visits : List Visit) (new : State) : Type 0 where
+  pub commands : List Command
+  pub bring : AllBring s visits commands new
+  pub days : AllByRecursion NamesDays commands
+  pub leaves : new ≡ machine.state_after s commands
+  pub keeps : (before later : List Command) → commands ≡ before ++ later → KeepsTheRules (machine.state_after s before)
+
+-- Sessions and calls that lead from a sound state to another are one run.
+abbrev pub VisitsRunTheMachine : Type 0
+VisitsRunTheMachine =
+    (s new : State) (visits : List Visit) → AllHappen s visits new → AllByRecursion CallsNameDays visits → IsSound s
+    → IsOneRun s visits new
+
+-- From a sound state on, whatever sessions and calls there were, what the office shows is what the machine has.
+abbrev pub TheHeadline : {M : Type 0} → (M → State → Type 0) → (M → Type 0) → Type 0
+TheHeadline {M} shows is_intact =
+    (visits : List Visit) (old new : M) → AreVisits shows is_intact old new visits → AllByRecursion CallsNameDays visits
+    → is_intact new → (s : State) → shows old s → IsSound s
+    → (t : State) × shows new t × IsOneRun s visits t

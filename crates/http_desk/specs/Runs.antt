@@ -1,0 +1,137 @@
+-- What a session has the machine do, and how sessions and calls make one run of the machine.
+use Rattle.std.specs.Prelude.{◌≡◌, ◌++◌, List, [], ◌∷◌, Option, Some, None}
+use Rattle.std.specs.List.{AllByRecursion}
+use Rattle.isad_core.specs.Texts.{Bytes}
+use Rattle.office_core.specs.declared.command.Command.{Command}
+use Rattle.office_core.specs.MixedRuns.{Asked, ToDo, ToTell, Told, next_state, told_of}
+use Rattle.office_core.specs.Queries.{answer}
+use Rattle.office_core.specs.Rules as machine
+use Rattle.office_core.specs.Soundness.{NamesDays}
+use Rattle.office_core.specs.State.{State}
+use Rattle.http_messages.specs.Answers.{Answer, of_reply, of_told, answered}
+use Rattle.http_desk.specs.declared.ended.Ended.{Ended}
+use Rattle.http_desk.specs.Messages.{Message, Last, Nothing, HeadCut, BodyCut, NoHead, Refuses, Answers, Fails}
+use Rattle.http_desk.specs.Session.{Session, message_answer, state_after}
+use Rattle.http_desk.specs.Talking.{Through}
+
+-- ---- one message
+
+-- what a message is to the machine
+pub data Meaning : Type 0 where
+  Puts : Asked → Meaning  -- a command or a question
+  Fixed : Answer → Meaning  -- neither: it has this answer, whatever the state is
+
+-- the machine's reply to the command, or its answer to the question, and the state that this leaves
+abbrev pub carried_out : State → Meaning → Answer × State
+carried_out s (Puts (ToDo command)) = (of_reply (machine.step s command).1, (machine.step s command).0)
+carried_out s (Puts (ToTell query)) = (of_told (answer s query), s)
+carried_out s (Fixed told) = (told, s)
+
+-- in every state the message is answered so
+abbrev pub Means : Message → Meaning → Type 0
+Means message meaning = (s : State) → answered s message.request message.body ≡ carried_out s meaning
+
+-- one by one
+abbrev pub AllMean : List Message → List Meaning → Type 0
+AllMean [] [] = Unit {0}
+AllMean [] (meaning ∷ meanings) = ⊥
+AllMean (message ∷ messages) [] = ⊥
+AllMean (message ∷ messages) (meaning ∷ meanings) = Means message meaning × AllMean messages meanings
+
+-- the commands among them
+abbrev pub commands_among : List Meaning → List Command
+commands_among [] = []
+commands_among (Puts (ToDo command) ∷ later) = command ∷ commands_among later
+commands_among (Puts (ToTell query) ∷ later) = commands_among later
+commands_among (Fixed told ∷ later) = commands_among later
+
+-- ---- the messages of a session
+
+-- the last place may have a message, too
+abbrev pub message_in : Last → List Message
+message_in Nothing = []
+message_in HeadCut = []
+message_in (BodyCut request) = []
+message_in NoHead = []
+message_in (Refuses status bare) = []
+message_in (Answers message) = message ∷ []
+message_in (Fails leave bare) = []
+
+-- all messages that were answered by the office
+abbrev pub all_messages : {s new : State} {input output : Bytes} {end : Ended} → Session s input output end new
+    → List Message
+all_messages session = session.messages ++ message_in session.stops.last
+
+-- their answers, each in the state that those before it left
+abbrev pub answers_of : State → List Message → List Answer
+answers_of s [] = []
+answers_of s (message ∷ later) = message_answer s message ∷ answers_of (state_after s message) later
+
+abbrev pub machines_answers : State → List Meaning → List Answer
+machines_answers s [] = []
+machines_answers s (meaning ∷ later) = (carried_out s meaning).0 ∷ machines_answers (carried_out s meaning).1 later
+
+-- A session has the machine carry out these commands: those that its messages are, in their order. The answers are the
+-- machine's, the state at the end is the machine's, and every day that is named is of the calendar.
+pub record HasCarriedOut {s new : State} {input output : Bytes} {end : Ended}
+    (session : Session s input output end new) (commands : List Command) : Type 0 where
+  pub meanings : List Meaning
+  pub mean : AllMean (all_messages session) meanings
+  pub are : commands ≡ commands_among meanings
+  pub answers : answers_of s (all_messages session) ≡ machines_answers s meanings
+  pub leaves : new ≡ machine.state_after s commands
+  pub days : AllByRecursion NamesDays commands
+
+-- ---- sessions and calls, one after the other
+
+-- how an office is come to
+pub data Visit : Type 0 where
+  ByHttp : (input output : Bytes) → Ended → Visit  -- by a peer, with these bytes
+  Directly : Asked → Option Told → Visit  -- by a call; it is told nothing where the office is busy
+
+-- what comes of it
+abbrev pub Happens : State → Visit → State → Type 0
+Happens s (ByHttp input output end) new = Session s input output end new
+Happens s (Directly asked (Some told)) new = (told ≡ told_of s asked) × (new ≡ next_state s asked)
+Happens s (Directly asked None) new = new ≡ s
+
+-- of all of them, one after the other
+abbrev pub AllHappen : State → List Visit → State → Type 0
+AllHappen s [] new = new ≡ s
+AllHappen s (visit ∷ later) new = (mid : State) × Happens s visit mid × AllHappen mid later new
+
+-- the days that a call names are of the calendar, as every `Day` is
+abbrev pub CallsNameDays : Visit → Type 0
+CallsNameDays (ByHttp input output end) = Unit {0}
+CallsNameDays (Directly (ToDo command) told) = NamesDays command
+CallsNameDays (Directly (ToTell query) told) = Unit {0}
+
+-- ---- an office that is seen in a state, and whose store has returned what was written to it
+
+module _ {M : Type 0} (shows : M → State → Type 0) (is_intact : M → Type 0) where
+  pub record IsVisited (old new : M) (visit : Visit) : Type 0 where
+    pub intact : is_intact new → is_intact old
+    pub happens : Through shows is_intact old new (λ s t. Happens s visit t)
+
+  abbrev pub AreVisits : M → M → List Visit → Type 0
+  AreVisits old new [] = old ≡ new
+  AreVisits old new (visit ∷ later) = (mid : M) × IsVisited old mid visit × AreVisits mid new later
+
+-- ---- their commands
+
+-- those of one visit: those of the session; that of a call, unless the office was busy
+abbrev pub Brings : State → Visit → List Command → State → Type 0
+Brings s (ByHttp input output end) commands new =
+    (session : Session s input output end new) × HasCarriedOut session commands
+Brings s (Directly (ToDo command) (Some told)) commands new =
+    (commands ≡ command ∷ []) × Happens s (Directly (ToDo command) (Some told)) new
+Brings s (Directly (ToTell query) (Some told)) commands new =
+    (commands ≡ []) × Happens s (Directly (ToTell query) (Some told)) new
+Brings s (Directly asked None) commands new = (commands ≡ []) × (new ≡ s)
+
+-- those of all visits, in order
+abbrev pub AllBring : State → List Visit → List Command → State → Type 0
+AllBring s [] commands new = (commands ≡ []) × (new ≡ s)
+AllBring s (visit ∷ later) commands new =
+    (first others : List Command) × (mid : State) × (commands ≡ first ++ others)
+    × Brings s visit first mid × AllBring mid later others new

@@ -1,0 +1,34 @@
+-- What worked messages mean, and what two of the worked sessions have the machine do.
+use Rattle.std.specs.Prelude.{ℕ, ◌++◌, false, [], ◌∷◌, Some, None, codes}
+use Rattle.isad_core.specs.Texts.{Bytes}
+use Rattle.office_core.specs.declared.command.Command.TheVariants as command
+use Rattle.office_core.specs.declared.query.Query.TheVariants as query
+use Rattle.office_core.specs.MixedRuns.{ToDo, ToTell}
+use Rattle.office_core.specs.Worked.{draft}
+use Rattle.http_messages.specs.declared.status.Status.TheVariants.{BadRequest, NotFound, LengthRequired}
+use Rattle.http_messages.specs.Answers.{error}
+use Rattle.http_desk.specs.declared.ended.Ended.TheVariants.{End, Cut}
+use Rattle.http_desk.specs.Messages.{Message}
+use Rattle.http_desk.specs.Runs.{Puts, Fixed, Means, HasCarriedOut}
+use Rattle.http_desk.specs.Session.{Session}
+use Rattle.http_desk.specs.Worked.{of, get, filled, with_draft, fonds_list, not_found}
+use Rattle.http_desk.specs.WorkedSessions.{list_request, half_a_request, draft_request, page_request, one_unit}
+
+abbrev pub post : (target : Bytes) → ℕ → (body : Bytes) → Message
+post target size body = record (of (codes "POST") target (Some size) false) { body = body }
+
+pub record Carried : Type 0 where
+  pub list : Means (get (codes "/public/fonds")) (Puts (ToTell query.Fonds))
+  pub page : Means (get (codes "/public/units/2")) (Puts (ToTell (query.Page 2)))
+  pub drafted : Means (post (codes "/desk/status") 27 (codes "{\"unit\":2,\"status\":\"draft\"}"))
+      (Puts (ToDo (draft 2)))
+  pub run : Means (post (codes "/desk/run") 0 []) (Puts (ToDo command.Run))
+  pub no_route : Means (get (codes "/public/units/02")) (Fixed (error NotFound))
+  pub no_length : Means (of (codes "POST") (codes "/desk/run") None false) (Fixed (error LengthRequired))
+  pub no_members : Means (post (codes "/desk/status") 2 (codes "{}")) (Fixed (error BadRequest))
+  -- a list, and then a registration that stops inside its body
+  pub none_came : (session : Session filled (list_request ++ half_a_request) fonds_list Cut filled)
+      × HasCarriedOut session []
+  -- a draft, and then its page
+  pub one_came : (session : Session filled (draft_request ++ page_request) (one_unit ++ not_found) End with_draft)
+      × HasCarriedOut session (draft 2 ∷ [])
