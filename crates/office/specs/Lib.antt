@@ -50,3 +50,5 @@ pub use Rattle.running_office.specs.Resting
 pub use Rattle.running_office.specs.Opening
 pub use Rattle.running_office.specs.Applying
 pub use Rattle.running_office.specs.Runs
+pub use Rattle.running_office.specs.Adopting
+pub use Rattle.running_office.specs.Migrating

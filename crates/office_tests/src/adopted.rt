@@ -32,7 +32,7 @@ const MORNING: [Said; 8] = [
 type Damage = (&'static str, OpenFault);
 
 /// Of the tables that both versions have.
-const ANYWHERE: [Damage; 30] = [
+const ANYWHERE: [Damage; 31] = [
     ("DROP TABLE office", OpenFault::NoOffice),
     ("DELETE FROM office", OpenFault::NoOffice),
     (
@@ -72,6 +72,10 @@ const ANYWHERE: [Damage; 30] = [
     ),
     (
         "UPDATE container SET name = '' WHERE id = 4",
+        OpenFault::Unsound(5),
+    ),
+    (
+        "UPDATE container SET name = CAST(x'ff' AS TEXT) WHERE id = 4",
         OpenFault::Unsound(5),
     ),
     ("UPDATE seat SET seat = 3", OpenFault::Unsound(6)),

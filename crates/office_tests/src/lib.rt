@@ -8,8 +8,12 @@ mod calls;
 #[cfg(test)]
 mod days;
 #[cfg(test)]
+mod migrated_tables;
+#[cfg(test)]
 mod migration;
 #[cfg(test)]
 mod offices;
+#[cfg(test)]
+mod places;
 #[cfg(test)]
 mod rounds;

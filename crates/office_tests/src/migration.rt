@@ -1,7 +1,7 @@
 //! An office goes from version 1 to version 2, and answers as before.
 
 use crate::calls::{Said, Step, goes};
-use crate::offices::{BOXES, in_memory};
+use crate::offices::{BOXES, FONDS, in_memory};
 use catalogue_store::LinkPlaces;
 use office_core::Query;
 use running_office::Office;
@@ -116,6 +116,20 @@ const MOVED_CHILD: Case = Case {
     spans: " 4 1 2\n 1 3 12\n 3 4 7\n 6 5 6\n 2 8 11\n 5 9 10\n",
 };
 
+/// A fonds and a series below it, as they came.
+const AS_THEY_CAME: Case = Case {
+    before: &[(
+        Said::Import(FONDS),
+        "{\"changed\":0,\"new\":2,\"remarks\":[{\"kind\":2,\"row\":2}],\"same\":0,\"translations\":0}",
+    )],
+    asked: &[(
+        Said::Ask(Query::Aid { unit: 1 }),
+        "GB 0999 HUL [Fonds] Hull Dock Company\n  GB 0999 HUL/1 [Series] Minutes\n",
+    )],
+    after: &[],
+    spans: " 1 1 4\n 2 2 3\n",
+};
+
 const NO_UNITS: Case = Case {
     before: &[],
     asked: &[(Said::Ask(Query::Fonds), ""), NOTHING_OUT],
@@ -131,17 +145,21 @@ const NONE_BEFORE: Case = Case {
     spans: " 1 1 10\n 2 2 5\n 5 3 4\n 3 6 9\n 6 7 8\n 4 11 12\n",
 };
 
+/// Its numbers; a dash where there is none.
 fn show_row(text: &mut String, row: &Row, width: usize) -> Result<(), Fail> {
     for place in 0..width {
-        let number: i64 = row.get(place)?;
-        write!(text, " {number}")?;
+        let number: Option<i64> = row.get(place)?;
+        match number {
+            Some(number) => write!(text, " {number}")?,
+            None => text.push_str(" -")?,
+        }
     }
     text.push_str("\n")?;
     Ok(())
 }
 
 /// The rows of a query.
-fn rows_of<S: Alter>(
+pub(crate) fn rows_of<S: Alter>(
     alloc: Global,
     conn: &mut Connection<S>,
     sql: &str,
@@ -169,7 +187,7 @@ fn links_are_gone<S: Alter>(alloc: Global, conn: &mut Connection<S>) -> Result<b
 }
 
 /// The tables are those of version 2, with these places.
-fn has_spans<S: Alter>(
+pub(crate) fn has_spans<S: Alter>(
     rt: &impl Abort,
     alloc: Global,
     conn: &mut Connection<S>,
@@ -265,7 +283,7 @@ fn comes_over(rt: &impl Abort, alloc: Global, case: &Case) -> Result<(), Fail> {
 
 #[test]
 fn an_office_comes_to_version_2(rt: HostRuntime) -> Result<(), Fail> {
-    for case in [MOVED_TOP, MOVED_CHILD, NO_UNITS, NONE_BEFORE] {
+    for case in [MOVED_TOP, MOVED_CHILD, AS_THEY_CAME, NO_UNITS, NONE_BEFORE] {
         comes_over(&rt, rt.alloc(), &case)?;
     }
     Ok(())

@@ -6,7 +6,7 @@ ghost use Rattle.sqlite.specs.State.{HasCleanDisk};
 
 use catalogue_store::Places;
 use isad_core::Day;
-use running_office::{Office, OpenFault, Settings};
+use running_office::{Office, OpenFault, Settings, SettingsFault};
 use sqlite::{Alter, Connection, MemStore};
 use std::alloc::Global;
 use std::test::Fail;
@@ -14,6 +14,10 @@ use std::test::Fail;
 // Four tops, each published in a box of its own.
 pub const BOXES: &str =
     "legacyId,identifier,title,publicationStatus,physicalObjectName,physicalObjectLocation\n1,A,Plans,Published,Box 1,Strongroom 2\n2,B,Minutes,Published,Box 2,Strongroom 1\n3,C,Maps,Published,Box 3,Strongroom 1\n4,D,Deeds,Published,Box 4,Strongroom 1\n";
+
+// A fonds and a series.
+pub const FONDS: &str =
+    "legacyId,parentId,identifier,title,levelOfDescription,publicationStatus\n1,,HUL,Hull Dock Company,Fonds,Published\n2,1,1,Minutes,Series,Published\n";
 
 /// The first of March 2024, and so many days later.
 pub fn day_after(days: u8) -> Result<Day, Fail> {
@@ -54,4 +58,19 @@ pub fn in_memory<P: Places>(alloc: Global) -> Result<Office<P, MemStore>, Fail> 
         Err((OpenFault::Memory, conn)) => once_more::<P, MemStore>(alloc, conn),
         Err((fault, _)) => Err(Fail::from(fault)),
     }
+}
+
+/// The first setting that is wrong is named.
+#[test]
+fn a_wrong_setting_is_named(rt: HostRuntime) -> Result<(), Fail> {
+    let day = day_after(0)?;
+    for (country, seats, wanted) in [
+        ("gb", 0, SettingsFault::Country),
+        ("GBR", 2, SettingsFault::Country),
+        ("GB", 0, SettingsFault::Seats),
+    ] {
+        let taken = Settings::new(rt.alloc(), country, "0999", seats, 3, 1, 2, day);
+        assert_eq!(rt; taken.err(), Some(wanted));
+    }
+    Ok(())
 }

@@ -18,7 +18,7 @@ use Rattle.running_office.specs.Resting.{IsAsBefore, IsIn}
 use Rattle.shown_office.specs.Shown.{ShowsState}
 
 -- no fault is told of a sound office's tables alone
-none_refused : (v : Verdict) → refusal_of v ≡ None → v ≡ verdict.Sound
+pub none_refused : (v : Verdict) → refusal_of v ≡ None → v ≡ verdict.Sound
 none_refused verdict.Sound none = refl
 none_refused verdict.NoOffice none = absurd cc
 none_refused verdict.OldVersion none = absurd cc

@@ -7,3 +7,4 @@ pub mod Known
 pub mod Machines
 pub mod MachineRuns
 pub mod Adoptions
+pub mod Migrations

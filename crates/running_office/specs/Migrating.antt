@@ -1,14 +1,39 @@
--- What a crash may find in a migration.
+-- An office goes from version 1 to version 2: what is then there, and what a crash may find.
+use Rattle.std.specs.Prelude.{[], ◌∷◌}
+use Rattle.sqlite.specs.Effect.{Database}
 use Rattle.sqlite.specs.State as store
 use Rattle.sqlite.specs.Tree.{Trees}
 use Rattle.tree_core.specs.Versions.{Links, Spans}
 use Rattle.catalogue_rows.specs.Shows.{ShowsLinkRows}
+use Rattle.office_checks.specs.Verdicts.{IsVerdict}
+use Rattle.office_checks.specs.declared.verdict.Verdict.TheVariants as verdict
+use Rattle.office_core.specs.SoundOffice.{IsSoundOffice}
 use Rattle.office_core.specs.State.{State}
+use Rattle.office_tables.specs.Schema as tables
 use Rattle.office_tables.specs.Schema.{schema}
+use Rattle.office_tables.specs.Step.{OnlyTouches}
+use Rattle.rows_shown.specs.Whole.{AreWholeTables}
+use Rattle.running_office.specs.Adopting.{state_in}
 use Rattle.running_office.specs.Resting.{IsIn}
 use Rattle.shown_office.specs.Shown.{ShowsState}
 use Rattle.span_places.specs.Shows.{ShowsSpanRows}
 
+-- ---- of an office that is open
+
 -- beside what it might have found before: the same state in version 2, whole
 abbrev pub MayFindSpans : store.State → Trees → Type 0
 MayFindSpans old db = (s : State) → IsIn ShowsLinkRows Links s old → ShowsState ShowsSpanRows Spans (record { schema = schema Spans; trees = db }) s
+
+-- ---- of tables of any origin
+
+-- The tables were a sound office's of version 1, and are now one's of version 2, in the same state. The table of links has
+-- given way to that of nested sets, the office's row tells the version, and no other table has other rows.
+pub record IsMigrated (old new : Database) : Type 0 where
+  pub judged : IsVerdict Links old verdict.Sound
+  pub sound : AreWholeTables old → IsSoundOffice (state_in Links old.trees)
+  pub shows : AreWholeTables old → ShowsState ShowsSpanRows Spans new (state_in Links old.trees)
+  pub only : OnlyTouches (tables.office.tree ∷ tables.link.tree ∷ []) old new
+
+-- beside what it might have found before: all of that
+abbrev pub MayFindMigrated : store.State → Trees → Type 0
+MayFindMigrated old db = IsMigrated old.now (record { schema = schema Spans; trees = db })

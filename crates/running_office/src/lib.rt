@@ -16,5 +16,6 @@ mod settings;
 mod transactions;
 
 pub use faults::OpenFault;
+pub use migrating::migrate;
 pub use offices::Office;
 pub use settings::{Settings, SettingsFault, is_country, is_repository};
