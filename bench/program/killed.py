@@ -1,8 +1,9 @@
 #!/usr/bin/env python3
 """Kills the program in the middle of imports and of requests: killed.py PROGRAM ROOM [TIMES]
 
-After each kill the store must open and be sound, an import must be there whole or not at all, and all that was answered must
-be there. It prints how often the kill came in the midst, and ends with 1 where something is wrong.
+Each of the two is killed TIMES times (50), at some moment of about as long as it takes undisturbed. After each kill
+the store has to open and be sound, an import has to be there whole or not at all, and all that was answered has to be
+there. It prints how often the kill came in the midst, and ends with 1 where something is other than wanted.
 """
 import os
 import random
@@ -12,10 +13,11 @@ import sys
 import time
 
 PROGRAM, ROOM = sys.argv[1:3]
-TIMES = int(sys.argv[3]) if len(sys.argv) > 3 else 25
+TIMES = int(sys.argv[3]) if len(sys.argv) > 3 else 50
 STORE = f"{ROOM}/killed.db"
 SETTINGS = "--country GB --repo 0999 --seats 200 --daily 50 --hands 10 --run 100 --day 2024-03-01".split()
-ROWS = 1500
+ROWS = 300
+REQUESTS = 300
 wrong = 0
 
 
@@ -38,57 +40,88 @@ def tops():
     return told.partition(b"\r\n\r\n")[2].count(b"\n")
 
 
-def killed(words, said=None):
-    """Starts the program, kills it at some moment, and gives what it had printed and whether it had ended before."""
+def started(words, said=b""):
+    """Starts the program with its streams in files, so that what it prints is there after a kill."""
     with open(f"{ROOM}/asked", "wb") as it:
-        it.write(said or b"")
+        it.write(said)
     with open(f"{ROOM}/asked", "rb") as asked, open(f"{ROOM}/told", "wb") as told:
-        program = subprocess.Popen([PROGRAM, *words], stdin=asked, stdout=told)
-        time.sleep(random.random() * (3 if said is None else 0.5))
+        return subprocess.Popen([PROGRAM, *words], stdin=asked, stdout=told)
+
+
+def printed():
+    with open(f"{ROOM}/told", "rb") as it:
+        return it.read()
+
+
+class Kills:
+    """Runs of one kind that are killed, each at some moment of about as long as they take undisturbed."""
+
+    def __init__(self, words, said=b""):
+        begun = time.monotonic()
+        want(words[0], started(words, said).wait(), 0)
+        self.seconds, self.told, self.midst = time.monotonic() - begun, printed(), 0
+
+    def kill(self, words, said=b""):
+        """Kills one, and gives what it had printed. About a third of them are to end before."""
+        program = started(words, said)
+        time.sleep(random.random() * self.seconds)
         ended = program.poll() is not None
         program.kill()
         program.wait()
-    with open(f"{ROOM}/told", "rb") as it:
-        return it.read(), ended
+        self.midst += not ended
+        self.seconds *= 0.9 if ended else 1.05
+        return printed()
+
+
+def import_from(source):
+    """The words of an import of as many rows below a top, all of them new to the office."""
+    with open(f"{ROOM}/file.csv", "w") as it:
+        it.write("legacyId,parentId,identifier,title,publicationStatus\n1,,F,Fonds,Published\n")
+        it.writelines(f"{n},1,{n},Unit {n},Published\n" for n in range(2, ROWS + 1))
+    return ["import", "--store", STORE, "--source", source, f"{ROOM}/file.csv"]
 
 
 def imports():
-    midst = there = 0
+    """Kills imports, and gives how many in the midst."""
+    kills, there = Kills(import_from("undisturbed")), 1
     for turn in range(TIMES):
-        with open(f"{ROOM}/file.csv", "w") as it:
-            it.write("legacyId,parentId,identifier,title,publicationStatus\n1,,F,Fonds,Published\n")
-            it.writelines(f"{n},1,{n},Unit {n},Published\n" for n in range(2, ROWS + 1))
-        told, ended = killed(["import", "--store", STORE, "--source", f"s{turn}", f"{ROOM}/file.csv"])
+        told = kills.kill(import_from(f"s{turn}"))
         want("check", run("check", "--store", STORE), (0, b"sound\n"))
         now = tops()
         if told:
             want("what was answered", now, there + 1)
         elif now not in (there, there + 1):
             want("an import that was killed", now, there)
-        midst += not ended
         there = now
-    return midst
+    return kills.midst
+
+
+def tickets_in(told):
+    return [int(it) for it in re.findall(rb'\{"ticket":(\d+)\}', told)]
+
+
+def is_ticket(number):
+    question = b"GET /desk/readers/%d HTTP/1.1\r\nHost: x\r\n\r\n" % number
+    return run("talk", "--store", STORE, asked=question)[1][9:12] == b"200"
 
 
 def requests():
-    midst = given = 0
+    """Kills sessions, in each of which readers are registered, and gives how many in the midst."""
     body = b'{"name":"Ann","until":"2024-12-31"}'
-    asked = b"POST /desk/register HTTP/1.1\r\nHost: x\r\nContent-Length: %d\r\n\r\n%s" % (len(body), body)
+    asked = b"POST /desk/register HTTP/1.1\r\nHost: x\r\nContent-Length: %d\r\n\r\n%s" % (len(body), body) * REQUESTS
+    words = ["talk", "--store", STORE]
+    kills = Kills(words, asked)
+    given = len(tickets_in(kills.told))
     for _ in range(TIMES):
-        told, ended = killed(["talk", "--store", STORE], asked * 1000)
-        tickets = [int(it) for it in re.findall(rb'\{"ticket":(\d+)\}', told)]
+        tickets = tickets_in(kills.kill(words, asked))
         want("tickets", tickets, list(range(given + 1, given + 1 + len(tickets))))
         want("check", run("check", "--store", STORE), (0, b"sound\n"))
         last = given + len(tickets)
+        want(f"ticket {last}", is_ticket(last), True)
+        want(f"ticket {last + 2}", is_ticket(last + 2), False)
         # the one that was not answered may be there, or not
-        for ticket, wanted in ((last, b"200"), (last + 2, b"404")):
-            if ticket:
-                question = b"GET /desk/readers/%d HTTP/1.1\r\nHost: x\r\n\r\n" % ticket
-                want(f"ticket {ticket}", run("talk", "--store", STORE, asked=question)[1][9:12], wanted)
-        question = b"GET /desk/readers/%d HTTP/1.1\r\nHost: x\r\n\r\n" % (last + 1)
-        given = last + (run("talk", "--store", STORE, asked=question)[1][9:12] == b"200")
-        midst += not ended
-    return midst
+        given = last + is_ticket(last + 1)
+    return kills.midst
 
 
 if os.path.exists(STORE):

@@ -1,14 +1,19 @@
 #!/usr/bin/env bash
-# Tests of the built program over a store in a file, by other programs too: each exit status, `serve` by curl, the store by
-# sqlite3, and kill -9 in the middle of imports and of requests. rt ci builds the program (crates/record_office/out).
+# Tests of the built program over stores in files, by other programs too. rt ci builds it (crates/record_office/out).
 #   bench/program/run.sh [PROGRAM]
-# It ends with 1 where something is other than wanted. What wants curl or sqlite3 is left out, and said, where these are missing
-# and cannot be installed.
+# Here: each exit status, `serve` by curl, a store by sqlite3, what `check` says where sqlite3 changed a row, and the
+# file of version 1 that is kept beside this. days.py: days of an office, over `trial` and over `talk`. rounds.py: every
+# command and question fifty times in one session. stopped.py: commands that are stopped after each change of their
+# files. killed.py: kill -9 in the middle of imports and sessions.
+# It ends with 1 where something is other than wanted. What wants curl, sqlite3 or a C compiler is left out, and said,
+# where that is missing and cannot be installed.
 set -euo pipefail
 here=$(cd "$(dirname "$0")" && pwd)
 program=$(realpath "${1:-$here/../../crates/record_office/out/record_office}")
 room=$(mktemp -d)
-trap 'rm -r "$room"' EXIT
+# a stop of the program leaves the same on any file system; here no sync waits for a disk
+fast=$([ -w /dev/shm ] && mktemp -d -p /dev/shm || mktemp -d)
+trap 'rm -r "$room" "$fast"' EXIT
 settings=(--country GB --repo 0999 --seats 2 --daily 3 --hands 1 --run 2 --day 2024-03-01)
 store=$room/office.db
 wrong=0
@@ -29,9 +34,9 @@ wants() {
     same "$what" "$is, $(cat "$room/out"), $(cat "$room/err")" "$status, $printed, $told"
 }
 
-# has NAME: whether there is such a program, or it can be installed
+# has NAME [PACKAGE]: whether there is such a program, or it can be installed
 has() {
-    command -v "$1" >/dev/null || timeout 120 apt-get install -y -q "$1" >/dev/null 2>&1 || {
+    command -v "$1" >/dev/null || timeout 120 apt-get install -y -q "${2:-$1}" >/dev/null 2>&1 || {
         echo "left out what wants $1, which is not here"
         return 1
     }
@@ -44,24 +49,30 @@ again='{"changed":0,"new":0,"remarks":[{"kind":2,"row":2}],"same":2,"translation
 
 # A store from its making on, and how commands end.
 one_store() {
+    local import=(import --store "$store" --source a)
     wants 'a store that is not there' 3 '' 'file fault' check --store "$store" </dev/null
     wants 'a new store' 0 '' '' init --store "$store" "${settings[@]}" </dev/null
     wants 'a store that is there' 3 '' 'file fault' init --store "$store" "${settings[@]}" </dev/null
-    wants 'a file' 0 "$taken" '' import --store "$store" --source a "$room/fonds.csv" </dev/null
-    wants 'the same file' 0 "$again" '' import --store "$store" --source a "$room/fonds.csv" </dev/null
-    wants 'no file' 3 '' 'file fault' import --store "$store" --source a "$room/none.csv" </dev/null
-    wants 'an empty file' 1 '' 'refused 22 BadFile row 1 cause 2' import --store "$store" --source a /dev/null </dev/null
+    wants 'a file' 0 "$taken" '' "${import[@]}" "$room/fonds.csv" </dev/null
+    wants 'the same file' 0 "$again" '' "${import[@]}" "$room/fonds.csv" </dev/null
+    wants 'no file' 3 '' 'file fault' "${import[@]}" "$room/none.csv" </dev/null
+    wants 'an empty file' 1 '' 'refused 22 BadFile row 1 cause 2' "${import[@]}" /dev/null </dev/null
     wants 'a sound store' 0 'sound' '' check --store "$store" </dev/null
     wants 'version 2 already' 3 '' 'store fault' migrate --store "$store" </dev/null
-    wants 'a setting beyond its limits' 2 '' 'bad settings' init --store "$room/no.db" --country GB --repo 0999 --seats 201 \
-        --daily 3 --hands 1 --run 2 --day 2024-03-01 </dev/null
-    wants 'no day' 2 '' 'bad date' init --store "$room/no.db" --country GB --repo 0999 --seats 2 --daily 3 --hands 1 --run 2 \
-        --day 2024-02-30 </dev/null
     head -c 4096 /dev/zero >"$room/zeros.db"
     wants 'no store' 3 '' 'store fault' check --store "$room/zeros.db" </dev/null
     printf 'GET /public/fonds HTTP/1.1\r\nHost: x\r\n\r\nGET' >"$room/cut"
     local answer=$'HTTP/1.1 200 OK\r\nContent-Type: text/plain; charset=utf-8\r\nContent-Length: 40\r\n\r\n'
-    wants 'a session that is cut' 3 "${answer}1 GB 0999 HUL [Fonds] Hull Dock Company" 'cut' talk --store "$store" <"$room/cut"
+    answer+='1 GB 0999 HUL [Fonds] Hull Dock Company'
+    wants 'a session that is cut' 3 "$answer" 'cut' talk --store "$store" <"$room/cut"
+}
+
+# Words that say no settings: of an option that stands twice clap takes neither, so each stands once.
+bad_settings() {
+    local none=(init --store "$room/no.db" --country GB --repo 0999 --daily 3 --hands 1 --run 2)
+    wants 'a setting beyond its limits' 2 '' 'bad settings' "${none[@]}" --seats 201 --day 2024-03-01 </dev/null
+    wants 'no day' 2 '' 'bad date' "${none[@]}" --seats 2 --day 2024-02-30 </dev/null
+    wants 'no store of these' 3 '' 'file fault' check --store "$room/no.db" </dev/null
 }
 
 # Three connections by curl: kept alive, HEAD, a body after 100 Continue, 404 and 409.
@@ -79,8 +90,8 @@ served() {
         'GB 0999 HUL [Fonds] Hull Dock Company' '  GB 0999 HUL/1 [Series] Minutes' 'GB 0999 HUL/1 [Series] Minutes')"
     same 'HEAD' "$("${ask[@]}" -I "$url/public/fonds" | tr -d '\r' | grep 'HTTP\|Length')" \
         $'HTTP/1.1 405 Method Not Allowed\nContent-Length: 30'
-    local told=(-s -S -m 10 -w ' %{http_code}\n')
-    same 'answers' "$(curl "${told[@]}" -H 'Expect: 100-continue' -d '{"name":"Ann","until":"2024-12-31"}' "$url/desk/register" \
+    local told=(-s -S -m 10 -w ' %{http_code}\n') ann='{"name":"Ann","until":"2024-12-31"}'
+    same 'answers' "$(curl "${told[@]}" -H 'Expect: 100-continue' -d "$ann" "$url/desk/register" \
         --next "${told[@]}" "$url/public/units/9" \
         --next "${told[@]}" -d '{"ticket":1,"container":7}' "$url/public/orders")" \
         $'{"ticket":1} 200\n{"error":"not found"} 404\n{"code":5,"refused":"NotAvailable"} 409'
@@ -95,8 +106,63 @@ read_by_sqlite() {
         WHERE top.id = 1 AND below.lft BETWEEN top.lft AND top.rgt ORDER BY below.lft')" $'1|1|4\n2|2|3'
 }
 
+# What `check` says where a statement of sqlite3 has changed the store of a day.
+changed_by_sqlite() {
+    local day=$here/days/with_a_reader.day verdict statement status
+    wants 'a store to be changed' 0 '' '' init --store "$room/day.db" "${settings[@]}" </dev/null
+    python3 "$here/days.py" "$program" "$room" "$day" "$room/day.db" || wrong=1
+    while IFS='|' read -r verdict statement; do
+        rm -f "$room"/changed.db*
+        cp "$room/day.db" "$room/changed.db"
+        sqlite3 "$room/changed.db" "$statement" >/dev/null
+        status=$([ "$verdict" = sound ] && echo 0 || echo 1)
+        wants "$statement" "$status" "$verdict" '' check --store "$room/changed.db" </dev/null
+    done <"$here/changed.txt"
+}
+
+# The file of version 1: no command takes it but `migrate`, once.
+an_old_store() {
+    local old=$room/old.db
+    cp "$here/version1.db" "$old"
+    wants 'version 1 is there' 3 '' 'file fault' init --store "$old" "${settings[@]}" </dev/null
+    wants 'version 1' 1 'old version' '' check --store "$old" </dev/null
+    wants 'a file for version 1' 3 '' 'store fault' import --store "$old" --source a "$room/fonds.csv" </dev/null
+    wants 'a session with version 1' 3 '' 'store fault' talk --store "$old" </dev/null
+    wants 'version 1 still' 1 'old version' '' check --store "$old" </dev/null
+    wants 'a migration' 0 'migrated' '' migrate --store "$old" </dev/null
+    wants 'version 2' 0 'sound' '' check --store "$old" </dev/null
+    wants 'a second migration' 3 '' 'store fault' migrate --store "$old" </dev/null
+    if has sqlite3; then compare_migrated "$old"; fi
+    python3 "$here/days.py" "$program" "$room" "$here/version1.day" "$old" || wrong=1
+    wants 'version 2 after a day' 0 'sound' '' check --store "$old" </dev/null
+}
+
+# What sqlite3 finds in a migrated file: the spans of its links, the new version, and all other tables with their rows.
+compare_migrated() {
+    local new=$room/new.db old=$room/version1.db table
+    local tables="SELECT name FROM sqlite_schema WHERE type = 'table' AND name NOT IN ('office', 'link', 'span')"
+    cp "$1" "$new"
+    cp "$here/version1.db" "$old"
+    same 'integrity_check' "$(sqlite3 "$new" 'PRAGMA integrity_check; PRAGMA foreign_key_check')" ok
+    same 'spans' "$(sqlite3 "$new" 'SELECT * FROM span ORDER BY lft' | xargs)" \
+        '2|1|2 3|3|4 4|5|6 1|7|8 5|9|12 6|10|11'
+    same 'the office' "$(sqlite3 "$new" 'SELECT * FROM office')" '1|2|GB|0999|2|3|1|2|19783|7'
+    same 'tables' "$(sqlite3 "$new" "$tables" | sort)" "$(sqlite3 "$old" "$tables" | sort)"
+    for table in $(sqlite3 "$old" "$tables"); do
+        same "table $table" "$(sqlite3 "$new" ".dump $table")" "$(sqlite3 "$old" ".dump $table")"
+    done
+}
+
 one_store
+bad_settings
 if has curl; then served; fi
-if has sqlite3; then read_by_sqlite; fi
-timeout 300 python3 "$here/killed.py" "$program" "$room" || wrong=1
+if has sqlite3; then
+    read_by_sqlite
+    changed_by_sqlite
+fi
+an_old_store
+python3 "$here/days.py" "$program" "$fast" || wrong=1
+timeout 120 python3 "$here/rounds.py" "$program" || wrong=1
+if has sqlite3 && has cc gcc; then timeout 900 python3 "$here/stopped.py" "$program" "$fast" all none || wrong=1; fi
+timeout 600 python3 "$here/killed.py" "$program" "$fast" || wrong=1
 exit "$wrong"

@@ -1,0 +1,373 @@
+#!/usr/bin/env python3
+"""Measures the built program over an office in a file, and prints tables of markdown, the goals beside the figures:
+
+    bench/program/measure.py [--program PROGRAM] [--room DIRECTORY] [UNITS ..]
+
+UNITS is 200 (a try of this script alone), 2000 (a hundred of each request, not a thousand), 20000 or 200000, without
+words the last two. The store is made in a new folder of DIRECTORY, that of temporary files where none is named: on a
+real disk each command waits for it, in /dev/shm none does. Files have 340 bytes a row, five elements, a box for two
+units, and nine units below each unit that has any.
+
+Wall and processor are seconds, the latter of the user and the system. An import opens the store first: what a session
+without requests takes, right before it, is told beside it and taken off for the goal. Requests come through a pipe, all
+at once, after one small question: seconds are counted from its answer to the last, so the opening is not in them, nor
+is the end of the session. Memory is the greatest of the process, the opening in it. Every answer has to be a 200, and
+every import has to tell how many units were new or the same: otherwise this ends with 1.
+"""
+import argparse
+import json
+import os
+import re
+import subprocess
+import sys
+import tempfile
+import threading
+import time
+
+HERE = os.path.dirname(os.path.abspath(__file__))
+BUILT = f"{HERE}/../../crates/record_office/out/record_office"
+SETTINGS = "--country GB --repo 0999 --seats 200 --daily 50 --hands 10 --run 1 --day 2024-03-01".split()
+HEADER = (
+    "legacyId,parentId,identifier,title,levelOfDescription,publicationStatus,eventDates,extentAndMedium,"
+    "scopeAndContent,physicalObjectName,physicalObjectLocation\n"
+)
+SCOPE = (
+    "Attendance, correspondence read, tenders for stone and timber, wages of the lock keepers, "
+    "the dredging of the basin, and petitions of the owners of ships"
+)
+SIZES = [200, 2000, 20000, 200000]
+FILE_ROWS = 20000
+TOPS = 100
+BELOW = 9
+IN_HANDS = 10
+TICKS = os.sysconf("SC_CLK_TCK")
+
+
+class Archive:
+    """The catalogue of an office of so many units: files of at most 20,000 rows, and a hundred tops in all, if not fewer.
+
+    The places of a file count from 0. Its tops come first, and the unit at place p has below it those at the nine
+    places from tops + 9p on. Units get their numbers in the order of the rows, two after another share a box.
+    """
+
+    def __init__(self, units):
+        self.units = units
+        self.rows = min(units, FILE_ROWS)
+        self.files = units // self.rows
+        self.tops = min(TOPS, units // 20) // self.files
+        self.with_some_below = -(-(self.rows - self.tops) // BELOW)
+        self.requests = min(1000, units // 20)
+        self.boxes_apart = units // 2 // self.requests
+
+    def row(self, file, place):
+        unit = place + 1
+        top = place < self.tops
+        parent = "" if top else (place - self.tops) // BELOW + 1
+        level = "Fonds" if top else "File"
+        return (
+            f'{unit},{parent},{unit},"Minutes of the board of directors of the dock company, volume {unit}",{level},'
+            f'Published,1774-1893,1 volume of 412 leaves in a binding of half calf,"{SCOPE}",'
+            f"Box {file}-{place // 2 + 1},Strongroom {file}\n"
+        )
+
+    def write(self, file, name):
+        with open(name, "w", encoding="utf-8") as it:
+            it.write(HEADER)
+            it.writelines(self.row(file, place) for place in range(self.rows))
+
+    def spread(self, nth, count, first, end):
+        """The nth of so many units, spread over those that stand in any file at the places from the first to the end."""
+        each = end - first
+        file, place = divmod(nth * self.files * each // count, each)
+        return file * self.rows + first + place + 1
+
+    def unit(self, nth, count):
+        return self.spread(nth, count, 0, self.rows)
+
+    def unit_with_nine_below(self, nth, count):
+        """A unit with nine below it, which have none."""
+        first = -(-(self.with_some_below - self.tops) // BELOW)
+        return self.spread(nth, count, first, (self.rows - self.tops) // BELOW)
+
+    def leaf(self, nth, count):
+        return self.spread(nth, count, self.with_some_below, self.rows)
+
+    def leaf_on_the_shelf(self, nth, count):
+        """A unit with none below it, in a box that nobody orders."""
+        unit = self.leaf(nth, count)
+        return unit if self.box_of(unit) % self.boxes_apart != 1 else unit - 2
+
+    def box_of(self, unit):
+        return (unit + 1) // 2
+
+    def ordered_box(self, nth):
+        return nth * self.boxes_apart + 1
+
+
+class Spent:
+    """What something took: seconds by the clock and of the processor, and the greatest memory in bytes."""
+
+    def __init__(self, wall, processor, memory):
+        self.wall, self.processor, self.memory = wall, processor, memory
+
+
+def fail(what):
+    sys.exit(f"WRONG {what}")
+
+
+class Program:
+    """The program on one store."""
+
+    def __init__(self, program, room):
+        self.program, self.room, self.store = program, room, f"{room}/office.db"
+
+    def spent(self, words):
+        """Runs the program without input, and gives what it took and what it printed."""
+        times = f"{self.room}/times"
+        start = time.perf_counter()
+        done = subprocess.run(
+            ["/usr/bin/time", "-q", "-f", "%U %S %M", "-o", times, self.program, *words],
+            stdin=subprocess.DEVNULL,
+            capture_output=True,
+        )
+        wall = time.perf_counter() - start
+        if done.returncode != 0:
+            fail(f"{words}: {done.returncode} {done.stderr!r}")
+        with open(times, encoding="ascii") as it:
+            user, system, kilobytes = it.read().split()
+        return Spent(wall, float(user) + float(system), int(kilobytes) * 1024), done.stdout
+
+    def begin(self):
+        self.spent(["init", "--store", self.store, *SETTINGS])
+
+    def open(self):
+        """A session without requests."""
+        return self.spent(["talk", "--store", self.store])[0]
+
+    def check(self):
+        spent, said = self.spent(["check", "--store", self.store])
+        if said != b"sound\n":
+            fail(f"check: {said!r}")
+        return spent
+
+    def import_file(self, archive, file, told):
+        """Takes in a file, all of whose rows have to be `told`: `new` or `same`."""
+        name = f"{self.room}/rows.csv"
+        archive.write(file, name)
+        spent, said = self.spent(["import", "--store", self.store, "--source", f"s{file}", name])
+        if json.loads(said)[told] != archive.rows:
+            fail(f"import of file {file}: {said[:200]!r}")
+        return spent
+
+    def ask(self, requests):
+        """Sends requests to a new session."""
+        with Session(self.program, self.store) as session:
+            return session.ask(requests)
+
+
+class Session:
+    """A running `talk`, which has opened its store."""
+
+    def __init__(self, program, store):
+        self.running = subprocess.Popen(
+            [program, "talk", "--store", store], stdin=subprocess.PIPE, stdout=subprocess.PIPE
+        )
+        self.send(get("/desk/issued"))
+        self.take_answer()
+
+    def __enter__(self):
+        return self
+
+    def __exit__(self, fault, *_):
+        if fault:
+            self.running.kill()
+            return
+        self.running.stdin.close()
+        rest = self.running.stdout.read()
+        if self.running.wait() != 0 or rest:
+            fail(f"the end of a session: {self.running.returncode}, {rest[:200]!r}")
+
+    def send(self, said):
+        self.running.stdin.write(said)
+        self.running.stdin.flush()
+
+    def take_answer(self):
+        """Reads an answer, which has to be a 200."""
+        answers = self.running.stdout
+        status = answers.readline()
+        length = 0
+        while (line := answers.readline().strip()):
+            name, _, value = line.partition(b": ")
+            if name == b"Content-Length":
+                length = int(value)
+        body = answers.read(length)
+        if status != b"HTTP/1.1 200 OK\r\n":
+            fail(f"an answer: {status!r} {body[:200]!r}")
+
+    def ask(self, requests):
+        """Sends requests all at once, while their answers are read."""
+        sender = threading.Thread(target=self.send, args=(b"".join(requests),))
+        before, start = self.processor(), time.perf_counter()
+        sender.start()
+        for _ in requests:
+            self.take_answer()
+        wall = time.perf_counter() - start
+        sender.join()
+        return Spent(wall, self.processor() - before, self.memory())
+
+    def told(self, name):
+        with open(f"/proc/{self.running.pid}/{name}", encoding="utf-8") as it:
+            return it.read()
+
+    def processor(self):
+        """Seconds of the user and the system, the twelfth and thirteenth words behind the name."""
+        words = self.told("stat").rpartition(")")[2].split()
+        return (int(words[11]) + int(words[12])) / TICKS
+
+    def memory(self):
+        return int(re.search(r"VmHWM:\s*(\d+) kB", self.told("status"))[1]) * 1024
+
+
+def get(path):
+    return f"GET {path} HTTP/1.1\r\nHost: x\r\n\r\n".encode()
+
+
+def post(path, **members):
+    body = json.dumps(members)
+    return f"POST {path} HTTP/1.1\r\nHost: x\r\nContent-Length: {len(body)}\r\n\r\n{body}".encode()
+
+
+def seconds(value):
+    return f"{value:.2f} s"
+
+
+def judged(spent, goal):
+    """The goal, and whether it was missed."""
+    if goal is None:
+        return ""
+    return seconds(goal) if spent <= goal else f"{seconds(goal)}: {spent / goal:.1f} times"
+
+
+def say(*cells):
+    print("| " + " | ".join(cells) + " |", flush=True)
+
+
+def say_command(what, spent, opening, goal):
+    """A line for a command, whose goal is without the opening, where it has one in it."""
+    within = seconds(opening.wall) if opening else ""
+    alone = spent.wall - (opening.wall if opening else 0)
+    memory = f"{spent.memory / 1e6:.0f} MB"
+    say(what, seconds(spent.wall), seconds(spent.processor), within, memory, judged(alone, goal))
+
+
+def tell_import(program, archive, file, told, what, goal):
+    opening = program.open()
+    say_command(what, program.import_file(archive, file, told), opening, goal)
+
+
+def fill(program, archive):
+    """Takes in all files, and says what the first, the same again and the last took."""
+    rows = f"{archive.rows:,} rows"
+    tell_import(program, archive, 0, "new", f"import of {rows} into nothing", 0.7)
+    tell_import(program, archive, 0, "same", "the same again", 0.5)
+    last = archive.files - 1
+    for file in range(1, last):
+        program.import_file(archive, file, "new")
+    if last:
+        there = archive.units - archive.rows
+        tell_import(program, archive, last, "new", f"import of {rows} more into {there:,}", 1.5)
+        tell_import(program, archive, last, "same", f"the same again, in {archive.units:,}", 0.5)
+
+
+def tell_commands(program, archive):
+    say("What", "Wall", "Processor", "Of it opening, wall", "Memory", "Goal, opening taken off")
+    say(*["---"] * 6)
+    program.begin()
+    fill(program, archive)
+    say_command("open: `check`", program.check(), None, 5)
+    say_command("open: a session without requests", program.open(), None, 5)
+
+
+def questions(archive):
+    """Kinds of questions: name, goal in milliseconds each, requests."""
+    count = archive.requests
+    yield "pages", 0.4, [get(f"/public/units/{archive.unit(n, count)}") for n in range(count)]
+    yield "aids of 10 units", 0.5, [get(f"/public/aid/{archive.unit_with_nine_below(n, count)}") for n in range(count)]
+    yield f"lists of fonds, of {archive.tops * archive.files}", 0.5, [get("/public/fonds")] * count
+
+
+def desk(archive):
+    """A reading room's day, up to where all boxes are out that were ordered."""
+    count = archive.requests
+    readers = range(1, count // IN_HANDS + 1)
+    yield "registrations", None, [post("/desk/register", name=f"Reader {n}", until="2024-12-31") for n in readers]
+    yield "seats", None, [post("/desk/seat", ticket=n) for n in readers]
+    loans = [{"ticket": n // IN_HANDS + 1, "container": archive.ordered_box(n)} for n in range(count)]
+    yield "orders", 0.4, [post("/public/orders", **loan) for loan in loans]
+    yield "runs", 0.5, [post("/desk/run")] * count
+    yield "issues", 0.5, [post("/desk/issue", **loan) for loan in loans]
+
+
+def judged_changes(archive):
+    """Changes of the catalogue while boxes are out, and then their return."""
+    count = archive.requests // 5
+    # twice as many units are spread, of which the one half become drafts and the other half are closed
+    units = [archive.leaf_on_the_shelf(n, 2 * count) for n in range(2 * count)]
+    beside = f"beside {archive.requests:,} containers out"
+    drafts = [post("/desk/status", unit=unit, status="draft", branch=False) for unit in units[::2]]
+    yield f"statuses {beside}", 2, drafts
+    yield f"closures {beside}", 2, [post("/desk/closure", unit=unit, until="2030-01-01") for unit in units[1::2]]
+    boxes = range(archive.requests)
+    yield "returns", 0.5, [post("/desk/return", container=archive.ordered_box(n)) for n in boxes]
+
+
+def placings(archive):
+    """Moves and removals of units that have none below them, spread over all."""
+    count = archive.requests // 10
+    units = [archive.leaf(n, 2 * count) for n in range(2 * count)]
+    front = [(unit - 1) // archive.rows * archive.rows + archive.tops for unit in units]
+    moves = [post("/desk/move", unit=unit, parent=parent) for unit, parent in zip(units[::2], front[::2])]
+    yield "moves to the front of a file", 90, moves
+    yield "removals", None, [post("/desk/remove", unit=unit) for unit in units[1::2]]
+
+
+def tell_requests(program, archive):
+    say("What", "Wall", "Processor", "Each", "Memory", "Goal")
+    say(*["---"] * 6)
+    for kinds in (questions, desk, judged_changes, placings):
+        for name, goal, requests in kinds(archive):
+            spent = program.ask(requests)
+            each = f"{1000 * spent.wall / len(requests):.2f} ms"
+            whole = None if goal is None else goal * len(requests) / 1000
+            memory = f"{spent.memory / 1e6:.0f} MB"
+            what = f"{len(requests):,} {name}"
+            say(what, seconds(spent.wall), seconds(spent.processor), each, memory, judged(spent.wall, whole))
+
+
+def measure(built, room, units):
+    archive = Archive(units)
+    with tempfile.TemporaryDirectory(dir=room) as folder:
+        program = Program(built, folder)
+        print(f"\n### {units:,} units, {time.strftime('%Y-%m-%d %H:%M')}, load {os.getloadavg()[0]:.1f}\n")
+        tell_commands(program, archive)
+        print()
+        tell_requests(program, archive)
+        program.check()
+        size = os.path.getsize(program.store) / 1e6
+        print(f"\nThe store has {size:.0f} MB and is sound; {time.strftime('%H:%M')}, load {os.getloadavg()[0]:.1f}.")
+
+
+def main():
+    words = argparse.ArgumentParser(description=__doc__, formatter_class=argparse.RawDescriptionHelpFormatter)
+    words.add_argument("--program", default=BUILT)
+    words.add_argument("--room")
+    words.add_argument("units", nargs="*", type=int, metavar="UNITS")
+    told = words.parse_args()
+    if not set(told.units) <= set(SIZES):
+        words.error(f"UNITS is one of {SIZES}")
+    for units in told.units or SIZES[-2:]:
+        measure(os.path.realpath(told.program), told.room, units)
+
+
+if __name__ == "__main__":
+    main()

@@ -1,0 +1,130 @@
+#!/usr/bin/env python3
+"""Fifty rounds of every command and every question as one session: rounds.py PROGRAM
+
+Each round takes in a file, has a reader order, sit, be served and leave, and asks for all that it made. Every answer is
+written down here by its rule, none by the program. It ends with 1 where an answer is another, or does not come."""
+import json
+import subprocess
+import sys
+
+SETTINGS = "--country GB --repo 0999 --seats 2 --daily 3 --hands 1 --run 2 --day 2024-03-01".split()
+ROUNDS = 50
+EVER = "9999-12-31"
+BOXES = """legacyId,identifier,title,publicationStatus,physicalObjectName,physicalObjectLocation
+1,A,Plans,Published,Box 1,Strongroom 2
+2,B,Minutes,Published,Box 2,Strongroom 1
+3,C,Maps,Published,Box 3,Strongroom 1
+4,D,Deeds,Published,Box 4,Strongroom 1
+"""
+TEXT, JSON = "text/plain; charset=utf-8", "application/json"
+
+
+def get(path):
+    return f"GET {path} HTTP/1.1\r\nHost: x\r\n\r\n"
+
+
+def post(path, body):
+    return f"POST {path} HTTP/1.1\r\nHost: x\r\nContent-Length: {len(body)}\r\n\r\n{body}"
+
+
+def answer(body, kind=JSON):
+    return f"HTTP/1.1 200 OK\r\nContent-Type: {kind}\r\nContent-Length: {len(body)}\r\n\r\n{body}"
+
+
+def told(**members):
+    return answer(json.dumps(members, separators=(",", ":"), sort_keys=True))
+
+
+def asked(path, **members):
+    return post(path, json.dumps(members))
+
+
+def day_of(round):
+    """The day of a round: the first is the second of March."""
+    past_march = round + 2 - 31
+    return f"2024-03-{round + 2:02}" if past_march <= 0 else f"2024-04-{past_march:02}"
+
+
+def in_the_catalogue(round):
+    """What a round does with units. Each of the four rows makes a top, which lacks what a top should have."""
+    unit = 4 * round + 1
+    remarks = [{"kind": 2, "row": row} for row in (2, 3, 4, 5)]
+    day = day_of(round)
+    return [
+        (asked("/desk/day", day=day), told(day=day)),
+        (
+            post(f"/desk/import/s{round}", BOXES),
+            told(changed=0, new=4, remarks=remarks, same=0, translations=0),
+        ),
+        (asked("/desk/status", unit=unit, status="published", branch=True), told(units=1)),
+        (asked("/desk/closure", unit=unit, until=None), told(unit=unit)),
+        (asked("/desk/move", unit=unit + 1, parent=unit), told(unit=unit + 1)),
+        (asked("/desk/remove", unit=unit + 3), told(units=1)),
+    ]
+
+
+def at_the_desk(round):
+    """What a round does with a reader and two boxes, of which the second is not wanted after all."""
+    unit, ticket = 4 * round + 1, round + 1
+    first, second = 2 * round + 1, 2 * round + 2
+    return [
+        (asked("/desk/register", name="Ann", until=EVER), told(ticket=ticket)),
+        (asked("/desk/renew", ticket=ticket, until=EVER), told(ticket=ticket)),
+        (asked("/desk/permit", ticket=ticket, unit=unit, until=EVER), told(ticket=ticket, unit=unit, until=EVER)),
+        (asked("/desk/seat", ticket=ticket), told(seat=1)),
+        (asked("/public/orders", ticket=ticket, container=1), told(order=first)),
+        (asked("/public/orders", ticket=ticket, container=2), told(order=second)),
+        (asked("/desk/cancel", order=second), told(order=second)),
+        (post("/desk/run", ""), told(run=round + 1, taken=1)),
+        (asked("/desk/issue", container=1, ticket=ticket), told(order=first)),
+        (asked("/desk/return", container=1), told(order=first)),
+        (post("/desk/reshelve", ""), told(containers=[1])),
+        (asked("/desk/leave", ticket=ticket), told(seat=1)),
+        (asked("/desk/revoke", ticket=ticket, unit=unit), told(unit=unit)),
+    ]
+
+
+def questions(round):
+    """What a round asks. Of its four units the second is below the first by now, and the fourth is gone."""
+    unit, ticket = 4 * round + 1, round + 1
+    tops = [(4 * r + of, name) for r in range(round + 1) for of, name in ((1, "A [-] Plans"), (3, "C [-] Maps"))]
+    fonds = "".join(f"{top} GB 0999 {name}\n" for top, name in tops)
+    page = f"GB 0999 A [-] Plans\n  Container 1: Box 1\n  Unit {unit + 1}: GB 0999 A/B [-] Minutes\n"
+    aid = "GB 0999 A [-] Plans\n  Container 1: Box 1\n  GB 0999 A/B [-] Minutes\n    Container 2: Box 2\n"
+    line = f"{'Strongroom 2':<20} {'Box 1':<16} {1:>6} {2 * round + 1:>8} {ticket:>7}\n"
+    slip = f"Run {round + 1}  {day_of(round)}\n{line}"
+    queue = {"container": 1, "name": "Box 1", "out": None, "place": "shelf", "waiting": []}
+    reader = {"name": "Ann", "orders": [], "seat": None, "ticket": ticket, "until": EVER}
+    return [
+        (get("/public/fonds"), answer(fonds, TEXT)),
+        (get(f"/public/aid/{unit}"), answer(aid, TEXT)),
+        (get(f"/public/units/{unit}"), answer(page, TEXT)),
+        (get(f"/desk/readers/{ticket}"), told(**reader)),
+        (get("/desk/queue/1"), told(**queue)),
+        (get(f"/desk/runs/{round + 1}"), answer(slip, TEXT)),
+        (get("/desk/issued"), answer("[]")),
+        (get(f"/desk/permits/{ticket}"), answer("[]")),
+    ]
+
+
+def main(program):
+    parts = [part for round in range(ROUNDS) for part in in_the_catalogue(round) + at_the_desk(round) + questions(round)]
+    session = "".join(request for request, _ in parts)
+    ended = subprocess.run(
+        [program, "trial", *SETTINGS], input=session.encode(), capture_output=True, timeout=300, check=False
+    )
+    said, at = ended.stdout.decode(), 0
+    for request, wanted in parts:
+        if not said.startswith(wanted, at):
+            print(f"WRONG: {request!r} was answered {said[at : at + len(wanted) + 60]!r}, wanted {wanted!r}")
+            return 1
+        at += len(wanted)
+    if ended.returncode != 0 or at != len(said) or ended.stderr:
+        print(f"WRONG end of fifty rounds: {ended.returncode}, {said[at:]!r}, {ended.stderr!r}")
+        return 1
+    print(f"fifty rounds: {len(parts)} requests in one session, each answered as its rule says")
+    return 0
+
+
+if __name__ == "__main__":
+    sys.exit(main(sys.argv[1]))
