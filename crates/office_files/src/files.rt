@@ -7,6 +7,7 @@ ghost use Rattle.sqlite.specs.Start.{FindsIn};
 ghost use Rattle.sqlite.specs.State.{HasCleanDisk};
 
 use sqlite::{Connection, Error, ErrorCode, FileFrom, FileStore, Start};
+use std::alloc::AllocError;
 use std::fs;
 use std::fs::File;
 
@@ -19,6 +20,12 @@ pub enum FileFault {
     Absent,
     /// It is there, and no store is opened on it.
     Unopened,
+}
+
+impl From<AllocError> for FileFault {
+    fn from(_: AllocError) -> FileFault {
+        FileFault::Memory
+    }
 }
 
 /// A store in a file that held what `S` says.
@@ -41,7 +48,13 @@ fn open<S: Start>(
     }
 }
 
-/// Makes a file that is not there yet, with a store that has no tables. Nobody else makes it at the same time.
+// The name of the log that stands beside a file.
+fn log_of(rt: &HostRuntime, path: &str) -> Result<String, AllocError> {
+    format!(in rt.alloc(); "{path}-wal")
+}
+
+/// Makes a file that is not there yet, nor its log, with a store that has no tables. Nobody else makes it at the same
+/// time. Where no store is opened on it, it is taken away again.
 pub fn make<S: Start>(
     rt: &HostRuntime,
     path: &str,
@@ -51,10 +64,24 @@ pub fn make<S: Start>(
     ensures found { IfOk result (λ conn. HasCleanDisk (file_state conn) → FindsIn (image_at S.Start) (file_state conn)) }
     ensures fresh { IfOk result IsNew }
 {
-    if File::create_new(rt, path).is_err() {
+    // A log without its file may have what another office was told last.
+    let log = log_of(rt, path)?;
+    if !matches!(fs::exists(rt, log.as_str()), Ok(false)) || File::create_new(rt, path).is_err() {
         return Err(FileFault::Absent);
     }
-    open(rt, path, start)
+    let opened = open(rt, path, start);
+    if opened.is_err() {
+        unmake(rt, path);
+    }
+    opened
+}
+
+/// Takes a file away that was made and is closed, with its log, so that it can be made again.
+pub fn unmake(rt: &HostRuntime, path: &str) {
+    let _ = fs::remove_file(rt, path);
+    if let Ok(log) = log_of(rt, path) {
+        let _ = fs::remove_file(rt, log.as_str());
+    }
 }
 
 /// Opens a file that is there, with what it keeps.

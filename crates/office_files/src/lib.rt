@@ -3,4 +3,4 @@
 
 mod files;
 
-pub use files::{FileFault, FileStoreFrom, close, find, make};
+pub use files::{FileFault, FileStoreFrom, close, find, make, unmake};

@@ -4,8 +4,6 @@ use Rattle.std.specs.Prelude.{IsSome, option_map}
 use Rattle.clap.specs.Walk.{Row, Rule, Text, arg_by_id, nothing_held, stop_after, walk_from}
 use Rattle.clap.specs.Simple.{Shape, built, filled, built_leaf, inherited, names_of, subcommand_of, with_index}
 use Rattle.clap.specs.Faults.{entered_fault, fault_of, level_fault, walk_fault}
-use Rattle.clap.specs.Lexer.{without_minus}
-use Rattle.clap.specs.Walk.{one_of}
 use Rattle.clap.proofs.ValueTestLemmas.{accepts-Accepts}
 use Rattle.office_words.specs.CommandLine.{check_command, import_command, init_command, migrate_command, number_from_to, preview_command, program, serve_command, store_option, talk_command, trial_command, wanted, wanted_file, wanted_within}
 use Rattle.office_words.specs.Given.{HasNeeds, HasNumberWithin, HasSettings, HasText, Previews, Begins, Tries, Imports, Talks, Serves, Checks, Migrates}

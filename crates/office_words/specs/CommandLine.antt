@@ -5,19 +5,19 @@ use Rattle.clap.specs.Simple.{App, Shape, new_rule, new_shape, with_subcommand}
 use Rattle.clap.specs.declared.builder.value_parser.ValueParser.{ValueParser}
 use Rattle.clap.specs.declared.builder.value_parser.ValueParser.TheVariants.{Signed}
 
--- `--name VALUE`, which has to be there
+-- `--name <VALUE>`, which has to be there
 abbrev pub wanted : Text → Rule
-wanted name = record (new_rule name) { long = Some name; required = true }
+wanted name = record (new_rule name) { long = Some name; value_names = 1; required = true }
 
 -- a number within limits
 abbrev pub number_from_to : ℕ → ℕ → ValueParser
 number_from_to least most = Signed (pos least) (pos most)
 
--- `--name N`, a number within limits, which has to be there
+-- `--name <NUMBER>`, a number within limits, which has to be there
 abbrev pub wanted_within : Text → ℕ → ℕ → Rule
 wanted_within name least most = record (wanted name) { parser = Some (number_from_to least most) }
 
--- `--name N`, a number from 0 to 4294967295, which has to be there
+-- `--name <NUMBER>`, a number from 0 to 4294967295, which has to be there
 abbrev pub wanted_number : Text → Rule
 wanted_number name = wanted_within name 0 4294967295
 

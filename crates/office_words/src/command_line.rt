@@ -5,41 +5,50 @@ ghost use Rattle.clap.specs.Simple.{app_of, shape_of};
 ghost use Rattle.clap.specs.declared.builder.command.Command.TheViews.{out-Command};
 ghost use Rattle.office_words.specs.CommandLine.{check_command, import_command, init_command, migrate_command};
 ghost use Rattle.office_words.specs.CommandLine.{preview_command, serve_command, store_command, talk_command};
-ghost use Rattle.office_words.specs.CommandLine.{trial_command, bare_program, program, optional_file, store_option, wanted};
+ghost use Rattle.office_words.specs.CommandLine.{trial_command, bare_program, program, optional_file, store_option};
 ghost use Rattle.office_words.specs.CommandLine.{desk_options, repository_options, room_options, settings_options};
-ghost use Rattle.office_words.specs.CommandLine.{wanted_file, wanted_number, wanted_within, with_rules};
+ghost use Rattle.office_words.specs.CommandLine.{wanted, wanted_file, wanted_number, wanted_within, with_rules};
 ghost use Rattle.office_words.specs.CommandLine.{care_commands, new_commands, with_commands, work_commands};
 
 use clap::{Arg, Command, value_parser};
 use std::alloc::{AllocError, Global};
 
-// `--name VALUE`, which has to be there.
-fn option<'a>(alloc: Global, name: &'a str, help: &'a str) -> Arg<'a>
+// What the program's help says at its end.
+const EXITS: &str =
+    "Exit status: 0 done; 1 refused, or no sound office; 2 wrong words, day or settings;
+3 a fault of a file, the store, a port, a session or memory. Standard error says more.";
+
+// `--name <VALUE>`, which has to be there.
+fn option<'a>(alloc: Global, name: &'a str, value: &'a str, help: &'a str) -> Arg<'a>
     ensures rule { rule_of result ≡ wanted name.entry.now }
     ensures local { result.global ≡ false }
 {
-    Arg::new(alloc, name).long(name).required(true).help(help)
+    Arg::new(alloc, name)
+        .long(name)
+        .value_name(value)
+        .required(true)
+        .help(help)
 }
 
-// `--name N`, a number that fits 32 bits, which has to be there.
+// `--name <NUMBER>`, a number that fits 32 bits, which has to be there.
 fn number<'a>(alloc: Global, name: &'a str, help: &'a str) -> Arg<'a>
     ensures rule { rule_of result ≡ wanted_number name.entry.now }
     ensures local { result.global ≡ false }
 {
-    option(alloc, name, help).value_parser(value_parser!(u32))
+    option(alloc, name, "NUMBER", help).value_parser(value_parser!(u32))
 }
 
-// `--port P`, which has to be there.
+// `--port <PORT>`, which has to be there.
 fn port<'a>(alloc: Global) -> Arg<'a>
     ensures rule { rule_of result ≡ wanted_within (codes "port") 1 65535 }
     ensures local { result.global ≡ false }
 {
-    option(alloc, "port", "The port on 127.0.0.1, 1 to 65535").value_parser(value_parser!(
+    option(alloc, "port", "PORT", "The port on 127.0.0.1, 1 to 65535").value_parser(value_parser!(
         u16
     ).range(1..))
 }
 
-// `--connections N`, which has to be there.
+// `--connections <NUMBER>`, which has to be there.
 fn connections<'a>(alloc: Global) -> Arg<'a>
     ensures rule { rule_of result ≡ wanted_within (codes "connections") 1 10000 }
     ensures local { result.global ≡ false }
@@ -47,17 +56,18 @@ fn connections<'a>(alloc: Global) -> Arg<'a>
     option(
         alloc,
         "connections",
-        "How many connections are served, 1 to 10000",
+        "NUMBER",
+        "Connections that are served before the program ends, 1 to 10000",
     )
     .value_parser(value_parser!(u32).range(1..=10_000))
 }
 
-// `--store F`, which has to be there.
+// `--store <STORE>`, which has to be there.
 fn store<'a>(alloc: Global) -> Arg<'a>
     ensures rule { rule_of result ≡ store_option }
     ensures local { result.global ≡ false }
 {
-    option(alloc, "store", "The file that keeps the office")
+    option(alloc, "store", "STORE", "The file that keeps the office")
 }
 
 // A file, which may be left out.
@@ -65,7 +75,9 @@ fn file<'a>(alloc: Global) -> Arg<'a>
     ensures rule { rule_of result ≡ optional_file }
     ensures local { result.global ≡ false }
 {
-    Arg::new(alloc, "FILE").help("The CSV file; standard input if it is left out")
+    Arg::new(alloc, "FILE").help(
+        "The CSV file, UTF-8, at most 20000 rows; standard input if it is left out",
+    )
 }
 
 // A file, which has to be there.
@@ -73,7 +85,9 @@ fn given_file<'a>(alloc: Global) -> Arg<'a>
     ensures rule { rule_of result ≡ wanted_file }
     ensures local { result.global ≡ false }
 {
-    Arg::new(alloc, "FILE").required(true).help("The CSV file")
+    Arg::new(alloc, "FILE")
+        .required(true)
+        .help("The CSV file, UTF-8, at most 20000 rows")
 }
 
 // The command with the repository's options.
@@ -83,8 +97,18 @@ fn with_repository<'a>(alloc: Global, command: Command<'a>) -> Result<Command<'a
         → IfOk result (λ c. (out-Command c).has_globals ≡ false) }
 {
     command
-        .arg(option(alloc, "country", "The country code, such as GB"))?
-        .arg(option(alloc, "repo", "The repository code, such as 0999"))
+        .arg(option(
+            alloc,
+            "country",
+            "COUNTRY",
+            "The country code, two letters A to Z, such as GB",
+        ))?
+        .arg(option(
+            alloc,
+            "repo",
+            "REPOSITORY",
+            "The repository code, 1 to 32 ASCII characters, no spaces, such as 0999",
+        ))
 }
 
 // The command with the options of the reading room: its seats, and how much a ticket may order.
@@ -94,15 +118,11 @@ fn with_room<'a>(alloc: Global, command: Command<'a>) -> Result<Command<'a>, All
         → IfOk result (λ c. (out-Command c).has_globals ≡ false) }
 {
     command
-        .arg(number(
-            alloc,
-            "seats",
-            "How many seats the reading room has, 1 to 200",
-        ))?
+        .arg(number(alloc, "seats", "Seats of the reading room, 1 to 200"))?
         .arg(number(
             alloc,
             "daily",
-            "How many orders a ticket may place a day, 1 to 50",
+            "Orders that a reader may place a day, 1 to 50",
         ))
 }
 
@@ -116,12 +136,12 @@ fn with_desk<'a>(alloc: Global, command: Command<'a>) -> Result<Command<'a>, All
         .arg(number(
             alloc,
             "hands",
-            "How many containers a reader may have at once, 1 to 10",
+            "Containers that a reader may have at once, 1 to 10",
         ))?
         .arg(number(
             alloc,
             "run",
-            "How many containers a run takes at most, 1 to 100",
+            "Containers that one run fetches at most, 1 to 100",
         ))
 }
 
@@ -137,7 +157,8 @@ fn with_settings<'a>(alloc: Global, command: Command<'a>) -> Result<Command<'a>,
     command.arg(option(
         alloc,
         "day",
-        "The day on which the office opens, such as 2024-03-01",
+        "DAY",
+        "The day on which the office opens, YYYY-MM-DD, 1900-01-01 to 9999-12-31",
     ))
 }
 
@@ -166,7 +187,7 @@ fn trial<'a>(alloc: Global) -> Result<Command<'a>, AllocError>
     ensures local { IfOk result (λ c. (out-Command c).has_globals ≡ false) }
 {
     let command = Command::new(alloc, "trial").about(
-        "Answers requests from standard input on a new office in memory",
+        "Answers HTTP requests from standard input on a new office in memory",
     );
     with_settings(alloc, command)
 }
@@ -176,9 +197,14 @@ fn import<'a>(alloc: Global) -> Result<Command<'a>, AllocError>
     ensures local { IfOk result (λ c. (out-Command c).has_globals ≡ false) }
 {
     Command::new(alloc, "import")
-        .about("Takes the descriptions of a CSV file into the office")
+        .about("Takes the descriptions of a CSV file into the office, and prints what came of it")
         .arg(store(alloc))?
-        .arg(option(alloc, "source", "The name of where the file comes from"))?
+        .arg(option(
+            alloc,
+            "source",
+            "SOURCE",
+            "Where the file comes from, 1 to 64 ASCII letters, digits, '.', '_' or '-'",
+        ))?
         .arg(given_file(alloc))
 }
 
@@ -194,7 +220,11 @@ fn talk<'a>(alloc: Global) -> Result<Command<'a>, AllocError>
     ensures shape { IfOk result (λ c. shape_of c ≡ talk_command) }
     ensures local { IfOk result (λ c. (out-Command c).has_globals ≡ false) }
 {
-    on_store(alloc, "talk", "Answers requests from standard input")
+    on_store(
+        alloc,
+        "talk",
+        "Answers HTTP requests from standard input on the office",
+    )
 }
 
 fn serve<'a>(alloc: Global) -> Result<Command<'a>, AllocError>
@@ -202,7 +232,7 @@ fn serve<'a>(alloc: Global) -> Result<Command<'a>, AllocError>
     ensures local { IfOk result (λ c. (out-Command c).has_globals ≡ false) }
 {
     Command::new(alloc, "serve")
-        .about("Serves connections on 127.0.0.1, one after the other")
+        .about("Answers HTTP requests on 127.0.0.1, one connection after the other")
         .arg(store(alloc))?
         .arg(port(alloc))?
         .arg(connections(alloc))
@@ -212,7 +242,11 @@ fn check<'a>(alloc: Global) -> Result<Command<'a>, AllocError>
     ensures shape { IfOk result (λ c. shape_of c ≡ check_command) }
     ensures local { IfOk result (λ c. (out-Command c).has_globals ≡ false) }
 {
-    on_store(alloc, "check", "Tells whether the office is sound")
+    on_store(
+        alloc,
+        "check",
+        "Tells whether the office is sound: 'sound', 'old version', or 'not sound' and a cause",
+    )
 }
 
 fn migrate<'a>(alloc: Global) -> Result<Command<'a>, AllocError>
@@ -222,7 +256,7 @@ fn migrate<'a>(alloc: Global) -> Result<Command<'a>, AllocError>
     on_store(
         alloc,
         "migrate",
-        "Brings an office of version 1 to version 2",
+        "Brings an office of version 1 to version 2, and prints 'migrated'",
     )
 }
 
@@ -235,6 +269,7 @@ fn bare<'a>(alloc: Global) -> Result<Command<'a>, AllocError>
         .subcommand_required(true)
         .disable_help_subcommand(true)
         .about("Finding aids of an archive, and its reading room's desk")
+        .after_help(EXITS)
         .bin_name("record_office")
 }
 

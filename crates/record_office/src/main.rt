@@ -16,6 +16,8 @@ mod migrating;
 mod office_messages;
 mod perform;
 mod previewing;
+#[cfg(test)]
+mod printed_help;
 mod serving;
 #[cfg(test)]
 mod steps;

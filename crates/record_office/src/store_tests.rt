@@ -7,7 +7,7 @@ use crate::tests::{FONDS, Host, expect};
 use catalogue_store::LinkPlaces;
 use isad_core::Day;
 use office::{Office, Settings};
-use office_files::{close, find, make};
+use office_files::{close, find, make, unmake};
 use span_places::SpanPlaces;
 use sqlite::{Connection, MemStore, Wary};
 use std::alloc::Global;
@@ -182,6 +182,26 @@ fn a_file_is_no_store(rt: HostRuntime) -> Result<(), Fail> {
             says(&rt, alloc, words.as_str(), "", (3, "", "store fault\n"))?;
         }
     }
+    forget(&rt, alloc, store)
+}
+
+// No office is made beside a log that is there, and what was made in vain is taken away whole.
+#[test]
+fn an_office_is_made_again(rt: HostRuntime) -> Result<(), Fail> {
+    let alloc = rt.alloc();
+    let store = new_path(&rt, alloc, "record_office_again.db")?;
+    let store = store.as_str();
+    let log = format!(in alloc; "{store}-wal")?;
+    let init = format!(in alloc; "init --store {store} {SETTINGS}")?;
+    fs::write(&rt, log.as_str(), "x")?;
+    says(&rt, alloc, init.as_str(), "", (3, "", "file fault\n"))?;
+    assert!(rt; fs::exists(&rt, log.as_str())? && !fs::exists(&rt, store)?);
+    forget(&rt, alloc, store)?;
+    let conn = make(&rt, store, Wary).ok().ok_or("no file")?;
+    close(conn);
+    unmake(&rt, store);
+    assert!(rt; !fs::exists(&rt, log.as_str())? && !fs::exists(&rt, store)?);
+    says(&rt, alloc, init.as_str(), "", (0, "", ""))?;
     forget(&rt, alloc, store)
 }
 

@@ -5,7 +5,7 @@ ghost use Rattle.record_office.specs.Faults.{IsUnopened};
 use crate::faults::Fault;
 use isad_core::Text;
 use office::{Office, Settings};
-use office_files::{FileStoreFrom, close, find, make};
+use office_files::{FileStoreFrom, close, find, make, unmake};
 use span_places::SpanPlaces;
 use sqlite::Wary;
 use std::alloc::Global;
@@ -13,7 +13,7 @@ use std::alloc::Global;
 /// What keeps an office in a file. It supposes nothing of a write that a crash tears.
 pub type Kept = FileStoreFrom<Wary>;
 
-/// Makes a new office in a file that is not there yet.
+/// Makes a new office in a file that is not there yet. Where that fails, the file is taken away again.
 pub fn make_office(rt: &HostRuntime, store: &Text, settings: Settings) -> Result<(), Fault>
     ensures { IfErr result IsUnopened }
 {
@@ -25,6 +25,7 @@ pub fn make_office(rt: &HostRuntime, store: &Text, settings: Settings) -> Result
         }
         Err((fault, conn)) => {
             close(conn);
+            unmake(rt, store.as_str());
             Err(Fault::from(fault))
         }
     }

@@ -1,5 +1,6 @@
 use crate::fakes::{Page, Pieces, Spoken};
 use crate::perform::perform;
+use crate::printed_help::HELP;
 use crate::tasks::{Task, TaskFault};
 use crate::words::{given, task};
 use std::alloc::Global;
@@ -13,30 +14,43 @@ pub const FONDS: &str =
 
 const AIDS: &str = "GB 0999 HUL [Fonds] Hull Dock Company\n  GB 0999 HUL/1 [Series] Minutes\n";
 
-// What clap tells of no words, of each command, and of a number that is none or too great.
-const NO_COMMAND: &str =
-    "error: 'record_office' requires a subcommand but one was not provided\n  [subcommands: preview, init, trial, import, talk, serve, check, migrate]\n\nUsage: record_office <COMMAND>\n\nFor more information, try '--help'.\n";
+// What clap tells of no words, of values that are missing, and of a number that is none or too great.
+const NO_COMMAND: &str = "\
+error: 'record_office' requires a subcommand but one was not provided
+  [subcommands: preview, init, trial, import, talk, serve, check, migrate]
 
-const HELP: &str =
-    "Prints the finding aids of a CSV file's published descriptions\n\nUsage: record_office preview --country <country> --repo <repo> [FILE]\n\nArguments:\n  [FILE]  The CSV file; standard input if it is left out\n\nOptions:\n      --country <country>  The country code, such as GB\n      --repo <repo>        The repository code, such as 0999\n  -h, --help               Print help\n";
+Usage: record_office <COMMAND>
 
-const TRIAL_HELP: &str =
-    "Answers requests from standard input on a new office in memory\n\nUsage: record_office trial --country <country> --repo <repo> --seats <seats> --daily <daily> --hands <hands> --run <run> --day <day>\n\nOptions:\n      --country <country>  The country code, such as GB\n      --repo <repo>        The repository code, such as 0999\n      --seats <seats>      How many seats the reading room has, 1 to 200\n      --daily <daily>      How many orders a ticket may place a day, 1 to 50\n      --hands <hands>      How many containers a reader may have at once, 1 to 10\n      --run <run>          How many containers a run takes at most, 1 to 100\n      --day <day>          The day on which the office opens, such as 2024-03-01\n  -h, --help               Print help\n";
+For more information, try '--help'.
+";
 
-const IMPORT_HELP: &str =
-    "Takes the descriptions of a CSV file into the office\n\nUsage: record_office import --store <store> --source <source> <FILE>\n\nArguments:\n  <FILE>  The CSV file\n\nOptions:\n      --store <store>    The file that keeps the office\n      --source <source>  The name of where the file comes from\n  -h, --help             Print help\n";
+const NO_VALUES: &str = "\
+error: the following required arguments were not provided:
+  --port <PORT>
+  --connections <NUMBER>
 
-const SERVE_HELP: &str =
-    "Serves connections on 127.0.0.1, one after the other\n\nUsage: record_office serve --store <store> --port <port> --connections <connections>\n\nOptions:\n      --store <store>              The file that keeps the office\n      --port <port>                The port on 127.0.0.1, 1 to 65535\n      --connections <connections>  How many connections are served, 1 to 10000\n  -h, --help                       Print help\n";
+Usage: record_office serve --store <STORE> --port <PORT> --connections <NUMBER>
 
-const NO_PORT: &str =
-    "error: invalid value '0' for '--port <port>': 0 is not in 1..=65535\n\nFor more information, try '--help'.\n";
+For more information, try '--help'.
+";
 
-const NO_NUMBER: &str =
-    "error: invalid value 'two' for '--seats <seats>': invalid digit found in string\n\nFor more information, try '--help'.\n";
+const NO_PORT: &str = "\
+error: invalid value '0' for '--port <PORT>': 0 is not in 1..=65535
 
-const TOO_GREAT: &str =
-    "error: invalid value '4294967296' for '--seats <seats>': 4294967296 is not in 0..=4294967295\n\nFor more information, try '--help'.\n";
+For more information, try '--help'.
+";
+
+const NO_NUMBER: &str = "\
+error: invalid value 'two' for '--seats <NUMBER>': invalid digit found in string
+
+For more information, try '--help'.
+";
+
+const TOO_GREAT: &str = "\
+error: invalid value '4294967296' for '--seats <NUMBER>': 4294967296 is not in 0..=4294967295
+
+For more information, try '--help'.
+";
 
 const PREVIEW: &str = "preview --country GB --repo 0999";
 
@@ -255,14 +269,22 @@ fn a_status_stands_without_its_text(rt: HostRuntime) -> Result<(), Fail> {
 }
 
 #[test]
+fn help_is_printed(rt: HostRuntime) -> Result<(), Fail> {
+    let alloc = rt.alloc();
+    for (words, told) in HELP {
+        let out = Page::new(Vec::new(alloc));
+        let reader = Pieces::failing(b"");
+        expect(&rt, alloc, words, reader, out, (2, b"", told))?;
+    }
+    Ok(())
+}
+
+#[test]
 fn words_name_no_task(rt: HostRuntime) -> Result<(), Fail> {
     let alloc = rt.alloc();
     for (words, told) in [
         ("", NO_COMMAND),
-        ("preview --help", HELP),
-        ("trial --help", TRIAL_HELP),
-        ("import --help", IMPORT_HELP),
-        ("serve --help", SERVE_HELP),
+        ("serve --store f", NO_VALUES),
         ("serve --store f --port 0 --connections 1", NO_PORT),
         (
             "trial --country GB --repo 0999 --seats two --daily 3 --hands 1 --run 2 --day 2024-03-01",
@@ -290,7 +312,6 @@ fn words_name_no_task(rt: HostRuntime) -> Result<(), Fail> {
         "serve --store f --port 8080",
         "migrate f",
         "help",
-        "--help",
         "preview -h",
         "--version",
         "preview",
