@@ -203,7 +203,8 @@ pub(crate) fn own_row<P: Places, S: Alter>(
     ensures reads { Reads (state S.Store conn.old) (state S.Store conn.new) result }
     ensures tells { HasCleanDisk (state S.Store conn.new) → AreWholeTables (state S.Store conn.old).now
         → IfOk result (λ found. found ≡ own_row_of P.version (state S.Store conn.old).now.trees) }
-    ensures opened { HasCleanDisk (state S.Store conn.new) → IfOk result (λ _. IsTrue (state S.Store conn.old).is_open) }
+    ensures opened { HasCleanDisk (state S.Store conn.new)
+        → IfOk result (λ _. IsTrue (state S.Store conn.old).is_open) }
     ensures faults { Excused (state S.Store conn.old) (state S.Store conn.new) result }
 {
     let all = gather(

@@ -38,7 +38,8 @@ fn open<S: Start>(
     start: S,
 ) -> Result<Connection<FileStoreFrom<S>>, FileFault>
     ensures opened { IfOk result (λ conn. HasCleanDisk (file_state conn) → IsOpened conn) }
-    ensures found { IfOk result (λ conn. HasCleanDisk (file_state conn) → FindsIn (image_at S.Start) (file_state conn)) }
+    ensures found { IfOk result (λ conn. HasCleanDisk (file_state conn)
+        → FindsIn (image_at S.Start) (file_state conn)) }
     ensures fresh { IfOk result IsNew }
 {
     match Connection::open_from(rt, path, false, start) {
@@ -61,7 +62,8 @@ pub fn make<S: Start>(
     start: S,
 ) -> Result<Connection<FileStoreFrom<S>>, FileFault>
     ensures opened { IfOk result (λ conn. HasCleanDisk (file_state conn) → IsOpened conn) }
-    ensures found { IfOk result (λ conn. HasCleanDisk (file_state conn) → FindsIn (image_at S.Start) (file_state conn)) }
+    ensures found { IfOk result (λ conn. HasCleanDisk (file_state conn)
+        → FindsIn (image_at S.Start) (file_state conn)) }
     ensures fresh { IfOk result IsNew }
 {
     // A log without its file may have what another office was told last.
@@ -91,7 +93,8 @@ pub fn find<S: Start>(
     start: S,
 ) -> Result<Connection<FileStoreFrom<S>>, FileFault>
     ensures opened { IfOk result (λ conn. HasCleanDisk (file_state conn) → IsOpened conn) }
-    ensures found { IfOk result (λ conn. HasCleanDisk (file_state conn) → FindsIn (image_at S.Start) (file_state conn)) }
+    ensures found { IfOk result (λ conn. HasCleanDisk (file_state conn)
+        → FindsIn (image_at S.Start) (file_state conn)) }
     ensures fresh { IfOk result IsNew }
 {
     match fs::exists(rt, path) {
