@@ -12,6 +12,9 @@ pub mod Wholes
 pub mod WorkedHeads
 pub mod WorkedPieces
 pub mod Faults
+pub mod Options
+pub mod Strings
+pub mod Values
 pub mod Named
 pub mod Meanings
 pub mod OneRun

@@ -4,10 +4,12 @@ use Rattle.std.specs.Prelude.{IfSome, ◌&&◌, not, is_none}
 use Rattle.std.specs.List.{AllByRecursion}
 use Rattle.std.specs.Str.{bytes_eq}
 use Rattle.isad_core.specs.Texts.{Bytes}
+use Rattle.catalogue_core.proofs.EachOf.{all_and}
 use Rattle.office_core.specs.declared.command.Command.{Command}
 use Rattle.office_core.specs.declared.command.Command.TheVariants.{Import}
 use Rattle.office_core.specs.MixedRuns.{ToDo, ToTell}
 use Rattle.office_core.specs.Rules as machine
+use Rattle.office_core.specs.SoundOffice.{NamesTexts}
 use Rattle.office_core.specs.Soundness.{NamesDays}
 use Rattle.office_core.specs.State.{State}
 use Rattle.http_messages.specs.declared.status.Status.TheVariants.{BadRequest, NotFound, LengthRequired}
@@ -21,59 +23,59 @@ use Rattle.http_desk.specs.declared.ended.Ended.{Ended}
 use Rattle.http_desk.specs.Messages.{Message, Last, Nothing, HeadCut, BodyCut, NoHead, Refuses, Answers, Fails}
 use Rattle.http_desk.specs.Session.{Session, state_after, state_after_all, state_after_last}
 use Rattle.http_desk.specs.Runs.{Meaning, Puts, Fixed, carried_out, AllMean, commands_among, message_in, all_messages, answers_of, machines_answers, HasCarriedOut}
-use Rattle.http_desk.proofs.Named.{Dated, bodies_name, routes_dated}
+use Rattle.http_desk.proofs.Named.{Names, IsNamed, bodies_name, routes_named}
 
 -- ---- one message
 
 record IsMeant (told : State → Answer × State) : Type 0 where
   meaning : Meaning
   is : (s : State) → told s ≡ carried_out s meaning
-  days : AllByRecursion NamesDays (commands_among (meaning ∷ []))
+  names : AllByRecursion Names (commands_among (meaning ∷ []))
 
 fixed : (told : Answer) → IsMeant (λ s. (told, s))
-fixed told = record { meaning = Fixed told; is = λ s. refl; days = tt }
+fixed told = record { meaning = Fixed told; is = λ s. refl; names = tt }
 
 if_meant : (b : Bool) (f g : State → Answer × State) → IsMeant f → IsMeant g → IsMeant (λ s. cond b (f s) (g s))
 if_meant true f g h k = h
 if_meant false f g h k = k
 
-read_meant : (o : Option Command) → IfSome o NamesDays → IsMeant (λ s. done_if_read s o)
+read_meant : (o : Option Command) → IfSome o Names → IsMeant (λ s. done_if_read s o)
 read_meant None h = fixed (error BadRequest)
-read_meant (Some asked) h = record { meaning = Puts (ToDo asked); is = λ s. refl; days = (h, tt) }
+read_meant (Some asked) h = record { meaning = Puts (ToDo asked); is = λ s. refl; names = (h, tt) }
 
-route_meant : (body : Bytes) (route : Route) → Dated route → IsMeant (λ s. answers.carried_out s body route)
-route_meant body (Asks asked) h = record { meaning = Puts (ToTell asked); is = λ s. refl; days = tt }
-route_meant body (Does asked) h = record { meaning = Puts (ToDo asked); is = λ s. refl; days = (h, tt) }
-route_meant body (TakesFile source) h = record { meaning = Puts (ToDo (Import source body)); is = λ s. refl; days = (tt, tt) }
+route_meant : (body : Bytes) (route : Route) → IsNamed route → IsMeant (λ s. answers.carried_out s body route)
+route_meant body (Asks asked) h = record { meaning = Puts (ToTell asked); is = λ s. refl; names = tt }
+route_meant body (Does asked) h = record { meaning = Puts (ToDo asked); is = λ s. refl; names = (h, tt) }
+route_meant body (TakesFile source) h = record { meaning = Puts (ToDo (Import source body)); is = λ s. refl; names = ((tt, tt), tt) }
 route_meant body (TakesForm asked) h = read_meant (command_in asked body) (bodies_name asked body)
 
-request_meant : (request : Request) (body : Bytes) (o : Option Route) → IfSome o Dated → IsMeant (λ s. by_route s request body o)
+request_meant : (request : Request) (body : Bytes) (o : Option Route) → IfSome o IsNamed → IsMeant (λ s. by_route s request body o)
 request_meant request body None h = fixed (error NotFound)
 request_meant request body (Some route) h =
     if_meant (not (bytes_eq request.method (method_of route))) _ _ (fixed (not_allowed (method_of route)))
     (if_meant (is_post route && is_none request.length) _ _ (fixed (error LengthRequired)) (route_meant body route h))
 
 message_meant : (m : Message) → IsMeant (λ s. answers.answered s m.request m.body)
-message_meant m = request_meant m.request m.body (route_of (path_of m.request.target)) (routes_dated (path_of m.request.target))
+message_meant m = request_meant m.request m.body (route_of (path_of m.request.target)) (routes_named (path_of m.request.target))
 
 -- ---- all messages
 
-more_days : (k : Meaning) (ks : List Meaning) → AllByRecursion NamesDays (commands_among (k ∷ [])) → AllByRecursion NamesDays (commands_among ks) → AllByRecursion NamesDays (commands_among (k ∷ ks))
-more_days (Puts (ToDo command)) ks h more = (h.0, more)
-more_days (Puts (ToTell query)) ks h more = more
-more_days (Fixed told) ks h more = more
+names_too : (k : Meaning) (ks : List Meaning) → AllByRecursion Names (commands_among (k ∷ [])) → AllByRecursion Names (commands_among ks) → AllByRecursion Names (commands_among (k ∷ ks))
+names_too (Puts (ToDo command)) ks h more = (h.0, more)
+names_too (Puts (ToTell query)) ks h more = more
+names_too (Fixed told) ks h more = more
 
 record AreMeant (ms : List Message) : Type 0 where
   meanings : List Meaning
   mean : AllMean ms meanings
-  days : AllByRecursion NamesDays (commands_among meanings)
+  names : AllByRecursion Names (commands_among meanings)
 
 all_meant : (ms : List Message) → AreMeant ms
-all_meant [] = record { meanings = []; mean = tt; days = tt }
+all_meant [] = record { meanings = []; mean = tt; names = tt }
 all_meant (m ∷ ms) =
     let one = message_meant m in
     let more = all_meant ms in
-    record { meanings = one.meaning ∷ more.meanings; mean = (one.is, more.mean); days = more_days one.meaning more.meanings one.days more.days }
+    record { meanings = one.meaning ∷ more.meanings; mean = (one.is, more.mean); names = names_too one.meaning more.meanings one.names more.names }
 
 one_state : (s : State) (k : Meaning) (ks : List Meaning) → machine.state_after (carried_out s k).1 (commands_among ks) ≡ machine.state_after s (commands_among (k ∷ ks))
 one_state s (Puts (ToDo command)) ks = refl
@@ -121,6 +123,7 @@ runs_the_machine s new input output end session =
         answers = same_answers (all_messages session) all.meanings s all.mean;
         leaves = session.stops.leaves ∙ last_state (state_after_all s session.messages) session.stops.last
             ∙ sym (state_on session.messages (message_in session.stops.last) s) ∙ machines_state (all_messages session) all.meanings s all.mean;
-        days = all.days;
+        days = all_and Names Names NamesDays (λ command both _. both.0) (commands_among all.meanings) all.names all.names;
+        texts = all_and Names Names NamesTexts (λ command both _. both.1) (commands_among all.meanings) all.names all.names;
       },
     )

@@ -5,14 +5,16 @@ use Rattle.catalogue_core.proofs.EachOf.{all_append, all_split}
 use Rattle.office_core.specs.declared.command.Command.{Command}
 use Rattle.office_core.specs.MixedRuns.{ToDo, ToTell, Replied, Answered}
 use Rattle.office_core.specs.Rules.{state_after, step}
+use Rattle.office_core.specs.SoundOffice.{NamesTexts}
 use Rattle.office_core.specs.Soundness.{IsSound, NamesDays}
 use Rattle.office_core.specs.State.{State}
 use Rattle.office_core.proofs.OrderLaws.{out_apart, issues_the_first}
 use Rattle.office_core.proofs.Published.{only_published}
 use Rattle.office_core.proofs.SoundDesk.{open_to_holders}
 use Rattle.office_core.proofs.StaysSound.{always_sound}
+use Rattle.office_core.proofs.Texts.{always_sound_office}
 use Rattle.http_desk.specs.Headline.{KeepsTheRules, IsOneRun, MakeVisits}
-use Rattle.http_desk.specs.Runs.{Visit, ByHttp, Directly, Happens, AllHappen, CallsNameDays, AreVisits, Brings, AllBring}
+use Rattle.http_desk.specs.Runs.{Visit, ByHttp, Directly, Happens, AllHappen, CallsNameDays, CallsNameTexts, AreVisits, Brings, AllBring}
 use Rattle.http_desk.proofs.Meanings.{runs_the_machine}
 
 keeps_the_rules : (s : State) → IsSound s → KeepsTheRules s
@@ -24,37 +26,39 @@ keeps_the_rules s h = record {
   shown = only_published s;
 }
 
--- the commands of visits, and the machine's state after them
-record HasRun (Bring : List Command → Type 0) (s new : State) : Type 0 where
+-- the commands of visits whose calls are so named, and the machine's state after them
+record HasRun (Bring : List Command → Type 0) (CallsAreNamed : Type 0) (s new : State) : Type 0 where
   commands : List Command
   bring : Bring commands
   days : AllByRecursion NamesDays commands
+  texts : CallsAreNamed → AllByRecursion NamesTexts commands
   leaves : new ≡ state_after s commands
 
-one_visit : (s new : State) (visit : Visit) → CallsNameDays visit → Happens s visit new → HasRun (λ commands. Brings s visit commands new) s new
+one_visit : (s new : State) (visit : Visit) → CallsNameDays visit → Happens s visit new → HasRun (λ commands. Brings s visit commands new) (CallsNameTexts visit) s new
 one_visit s new (ByHttp input output end) named session =
     let it = runs_the_machine s new input output end session in
-    record { commands = it.0; bring = (session, it.1); days = it.1.days; leaves = it.1.leaves }
-one_visit s new (Directly (ToDo command) (Some told)) named h = record { commands = command ∷ []; bring = (refl, h); days = (named, tt); leaves = h.1 }
-one_visit s new (Directly (ToTell query) (Some told)) named h = record { commands = []; bring = (refl, h); days = tt; leaves = h.1 }
-one_visit s new (Directly (ToDo command) None) named h = record { commands = []; bring = (refl, h); days = tt; leaves = h }
-one_visit s new (Directly (ToTell query) None) named h = record { commands = []; bring = (refl, h); days = tt; leaves = h }
+    record { commands = it.0; bring = (session, it.1); days = it.1.days; texts = λ _. it.1.texts; leaves = it.1.leaves }
+one_visit s new (Directly (ToDo command) (Some told)) named h = record { commands = command ∷ []; bring = (refl, h); days = (named, tt); texts = λ text. (text, tt); leaves = h.1 }
+one_visit s new (Directly (ToTell query) (Some told)) named h = record { commands = []; bring = (refl, h); days = tt; texts = λ _. tt; leaves = h.1 }
+one_visit s new (Directly (ToDo command) None) named h = record { commands = []; bring = (refl, h); days = tt; texts = λ _. tt; leaves = h }
+one_visit s new (Directly (ToTell query) None) named h = record { commands = []; bring = (refl, h); days = tt; texts = λ _. tt; leaves = h }
 
 after_both : (first others : List Command) (s : State) → state_after s (first ++ others) ≡ state_after (state_after s first) others
 after_both [] others s = refl
 after_both (asked ∷ first) others s = after_both first others (step s asked).0
 
-two_runs : (s mid new : State) (visit : Visit) (later : List Visit) → HasRun (λ commands. Brings s visit commands mid) s mid
-    → HasRun (λ commands. AllBring mid later commands new) mid new → HasRun (λ commands. AllBring s (visit ∷ later) commands new) s new
+two_runs : (s mid new : State) (visit : Visit) (later : List Visit) → HasRun (λ commands. Brings s visit commands mid) (CallsNameTexts visit) s mid
+    → HasRun (λ commands. AllBring mid later commands new) (AllByRecursion CallsNameTexts later) mid new → HasRun (λ commands. AllBring s (visit ∷ later) commands new) (AllByRecursion CallsNameTexts (visit ∷ later)) s new
 two_runs s mid new visit later one more = record {
   commands = one.commands ++ more.commands;
   bring = (one.commands, more.commands, mid, refl, one.bring, more.bring);
   days = all_append NamesDays one.commands more.commands one.days more.days;
+  texts = λ named. all_append NamesTexts one.commands more.commands (one.texts named.0) (more.texts named.1);
   leaves = more.leaves ∙ ap (λ x. state_after x more.commands) one.leaves ∙ sym (after_both one.commands more.commands s);
 }
 
-all_visits : (s new : State) (visits : List Visit) → AllHappen s visits new → AllByRecursion CallsNameDays visits → HasRun (λ commands. AllBring s visits commands new) s new
-all_visits s new [] same named = record { commands = []; bring = (refl, same); days = tt; leaves = same }
+all_visits : (s new : State) (visits : List Visit) → AllHappen s visits new → AllByRecursion CallsNameDays visits → HasRun (λ commands. AllBring s visits commands new) (AllByRecursion CallsNameTexts visits) s new
+all_visits s new [] same named = record { commands = []; bring = (refl, same); days = tt; texts = λ _. tt; leaves = same }
 all_visits s new (visit ∷ later) (mid, happens, more) named = two_runs s mid new visit later (one_visit s mid visit named.0 happens) (all_visits mid new later more named.1)
 
 pub one_run : (s new : State) (visits : List Visit) → AllHappen s visits new → AllByRecursion CallsNameDays visits → IsSound s → IsOneRun s visits new
@@ -64,10 +68,15 @@ one_run s new visits happen named sound =
       commands = run.commands;
       bring = run.bring;
       days = run.days;
+      texts = run.texts;
       leaves = run.leaves;
       keeps = λ before later e.
           let both = all_split NamesDays before later (subst (λ (l : List Command). AllByRecursion NamesDays l) e run.days) in
           keeps_the_rules (state_after s before) (always_sound s before both.0 sound);
+      office = λ named good before later e.
+          let days = all_split NamesDays before later (subst (λ (l : List Command). AllByRecursion NamesDays l) e run.days) in
+          let texts = all_split NamesTexts before later (subst (λ (l : List Command). AllByRecursion NamesTexts l) e (run.texts named)) in
+          always_sound_office s before days.0 texts.0 good;
     }
 
 module _ {M : Type 0} (shows : M → State → Type 0) (is_intact : M → Type 0) where

@@ -13,10 +13,11 @@ use Rattle.office_core.specs.Queries.{answer}
 use Rattle.office_core.specs.Laws.{OutApart, IssuesTheFirst, OpenToHolders}
 use Rattle.office_core.specs.Rules as machine
 use Rattle.office_core.specs.Secrecy.{ShowsOnlyPublished}
+use Rattle.office_core.specs.SoundOffice.{IsSoundOffice, NamesTexts}
 use Rattle.office_core.specs.Soundness.{IsSound, NamesDays}
 use Rattle.office_core.specs.State.{State}
 use Rattle.http_desk.specs.declared.ended.Ended.{Ended}
-use Rattle.http_desk.specs.Runs.{HasCarriedOut, Visit, ByHttp, Directly, CallsNameDays}
+use Rattle.http_desk.specs.Runs.{HasCarriedOut, Visit, ByHttp, Directly, CallsNameDays, CallsNameTexts}
 use Rattle.http_desk.specs.Runs.{AllHappen, AllBring, IsVisited, AreVisits}
 use Rattle.http_desk.specs.Session.{Session}
 use Rattle.http_desk.specs.Talking.{Talks}
@@ -58,13 +59,17 @@ pub record KeepsTheRules (s : State) : Type 0 where
   pub open_to_holders : OpenToHolders s  -- what is out is open, on that day, to the reader who has it
   pub shown : ShowsOnlyPublished s  -- what the public is shown is printed from published units alone
 
--- Visits make one run of the machine, and the rules are kept at each point of it.
+-- Visits make one run of the machine, and the rules are kept at each point of it. An office that is sound with its texts
+-- is so at each point.
 pub record IsOneRun (s : State) (visits : List Visit) (new : State) : Type 0 where
   pub commands : List Command
   pub bring : AllBring s visits commands new
   pub days : AllByRecursion NamesDays commands
+  pub texts : AllByRecursion CallsNameTexts visits → AllByRecursion NamesTexts commands
   pub leaves : new ≡ machine.state_after s commands
   pub keeps : (before later : List Command) → commands ≡ before ++ later → KeepsTheRules (machine.state_after s before)
+  pub office : AllByRecursion CallsNameTexts visits → IsSoundOffice s
+      → (before later : List Command) → commands ≡ before ++ later → IsSoundOffice (machine.state_after s before)
 
 -- Sessions and calls that lead from a sound state to another are one run.
 abbrev pub VisitsRunTheMachine : Type 0

@@ -6,6 +6,7 @@ use Rattle.office_core.specs.declared.command.Command.{Command}
 use Rattle.office_core.specs.MixedRuns.{Asked, ToDo, ToTell, Told, next_state, told_of}
 use Rattle.office_core.specs.Queries.{answer}
 use Rattle.office_core.specs.Rules as machine
+use Rattle.office_core.specs.SoundOffice.{NamesTexts}
 use Rattle.office_core.specs.Soundness.{NamesDays}
 use Rattle.office_core.specs.State.{State}
 use Rattle.http_messages.specs.Answers.{Answer, of_reply, of_told, answered}
@@ -72,7 +73,8 @@ machines_answers s [] = []
 machines_answers s (meaning ∷ later) = (carried_out s meaning).0 ∷ machines_answers (carried_out s meaning).1 later
 
 -- A session has the machine carry out these commands: those that its messages are, in their order. The answers are the
--- machine's, the state at the end is the machine's, and every day that is named is of the calendar.
+-- machine's, the state at the end is the machine's, every day that is named is of the calendar, and every text that is
+-- named is UTF-8.
 pub record HasCarriedOut {s new : State} {input output : Bytes} {end : Ended}
     (session : Session s input output end new) (commands : List Command) : Type 0 where
   pub meanings : List Meaning
@@ -81,6 +83,7 @@ pub record HasCarriedOut {s new : State} {input output : Bytes} {end : Ended}
   pub answers : answers_of s (all_messages session) ≡ machines_answers s meanings
   pub leaves : new ≡ machine.state_after s commands
   pub days : AllByRecursion NamesDays commands
+  pub texts : AllByRecursion NamesTexts commands
 
 -- ---- sessions and calls, one after the other
 
@@ -105,6 +108,12 @@ abbrev pub CallsNameDays : Visit → Type 0
 CallsNameDays (ByHttp input output end) = Unit {0}
 CallsNameDays (Directly (ToDo command) told) = NamesDays command
 CallsNameDays (Directly (ToTell query) told) = Unit {0}
+
+-- the text that a call names is UTF-8, as every `Text` is
+abbrev pub CallsNameTexts : Visit → Type 0
+CallsNameTexts (ByHttp input output end) = Unit {0}
+CallsNameTexts (Directly (ToDo command) told) = NamesTexts command
+CallsNameTexts (Directly (ToTell query) told) = Unit {0}
 
 -- ---- an office that is seen in a state, and whose store has returned what was written to it
 

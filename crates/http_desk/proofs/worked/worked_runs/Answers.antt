@@ -48,6 +48,7 @@ returns c = record {
       answers = same_answers (list_message ∷ []) (Puts (ToTell query.Fonds) ∷ []) filled (list_means, tt);
       leaves = refl;
       days = tt;
+      texts = tt;
     },
   );
   one_came = (
@@ -62,6 +63,7 @@ returns c = record {
       answers = same_answers (draft_message ∷ page_message ∷ []) (Puts (ToDo (draft 2)) ∷ Puts (ToTell (query.Page 2)) ∷ []) filled (draft_means, (page_means, tt));
       leaves = refl;
       days = (tt, tt);
+      texts = (tt, tt);
     },
   );
 }
