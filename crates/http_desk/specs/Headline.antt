@@ -59,8 +59,8 @@ pub record KeepsTheRules (s : State) : Type 0 where
   pub open_to_holders : OpenToHolders s  -- what is out is open, on that day, to the reader who has it
   pub shown : ShowsOnlyPublished s  -- what the public is shown is printed from published units alone
 
--- Visits make one run of the machine, and the rules are kept at each point of it. An office that is sound with its texts
--- is so at each point.
+-- Visits make one run of the machine, and the rules are kept at each point of it. An office that is sound with its
+-- texts at first is so at each point.
 pub record IsOneRun (s : State) (visits : List Visit) (new : State) : Type 0 where
   pub commands : List Command
   pub bring : AllBring s visits commands new
