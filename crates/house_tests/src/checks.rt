@@ -5,7 +5,7 @@ ghost use Rattle.sqlite.specs.Held.{state};
 ghost use Rattle.tree_core.specs.Versions.{Links};
 ghost use Rattle.office_tables.specs.Step.{InTransaction};
 
-use crate::desk::day_after;
+use crate::desk::{day_after, next_turn};
 use crate::reading_room::furnished;
 use crate::tests::new_office;
 use catalogue_store::StoreFault;
@@ -118,7 +118,7 @@ fn put_all<S: Alter>(conn: &mut Connection<S>, writes: &[Write]) -> Result<(), S
     Ok(())
 }
 
-/// The cause that is told of a sound desk with these rows too, or 0.
+/// The cause that is told of a sound desk with these rows too, once they are committed, or 0.
 #[tactic(auto, using(crate::proofs::Going::in_some))]
 fn told<S: Alter>(
     alloc: Global,
@@ -129,6 +129,7 @@ fn told<S: Alter>(
 {
     served(alloc, conn)?;
     put_all(conn, writes)?;
+    next_turn(conn)?;
     let limits = Limits {
         seats: 2,
         daily: 3,
@@ -348,13 +349,29 @@ fn cause_in_file(rt: &HostRuntime, writes: &[Write]) -> Result<u8, Fail> {
     Ok(cause)
 }
 
-/// The same over a file.
+/// The causes of these desks, each in a new file.
+fn causes_in_files(rt: &HostRuntime, desks: &[&'static [Write]]) -> Result<String, Fail> {
+    let mut text = String::new(rt.alloc());
+    for &writes in desks {
+        let _ = fs::remove_file(rt, FILE);
+        let _ = fs::remove_file(rt, LOG);
+        let cause = cause_in_file(rt, writes)?;
+        write!(text, "{cause}")?;
+    }
+    Ok(text)
+}
+
+/// The same over files, one for each cause.
 #[test]
-fn a_doubtful_file_is_told(rt: HostRuntime) -> Result<(), Fail> {
-    let _ = fs::remove_file(&rt, FILE);
-    let _ = fs::remove_file(&rt, LOG);
-    let cause = cause_in_file(&rt, &[LINE, LOST, SECOND])?;
-    assert_eq!(&rt; cause, 8);
+fn doubtful_files_are_told(rt: HostRuntime) -> Result<(), Fail> {
+    let desks: [&'static [Write]; 4] = [
+        &[LINE, LOST, EMPTY],
+        &[LINE, LOST, THIRD],
+        &[LINE, LOST, SECOND],
+        &[LINE],
+    ];
+    let told = causes_in_files(&rt, &desks)?;
+    assert_eq!(&rt; told.as_str(), "6789");
     fs::remove_file(&rt, FILE)?;
     let _ = fs::remove_file(&rt, LOG);
     Ok(())

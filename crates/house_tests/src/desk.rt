@@ -248,7 +248,7 @@ fn carry_out<S: Alter>(
 }
 
 /// What was done is committed, and another transaction begins.
-fn next_turn<S: Alter>(conn: &mut Connection<S>) -> Result<(), StoreFault>
+pub(crate) fn next_turn<S: Alter>(conn: &mut Connection<S>) -> Result<(), StoreFault>
     requires inside { InTransaction Links (state S.Store conn.old) }
     ensures inside { OnOk result (InTransaction Links (state S.Store conn.new)) }
 {
