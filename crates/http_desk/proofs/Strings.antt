@@ -132,22 +132,22 @@ unfolding content
 by_four a b c d xs more high u =
     known_then IsUtf8 (Spells a b c d) _ (code_unit a b c d) (units a b c d)
     (λ n spells.
-        let rest = past_four a b c d xs spells.ascii u in
-        either_way IsUtf8 (is_high_surrogate n) _ _ (λ e. high n e rest)
-        (λ e. either_way IsUtf8 (is_low_surrogate n) _ _ (λ _. tt)
-        (λ f. prepended (encode_utf8 n) (content plain xs) (IsUtf8-encode n (no_surrogate n spells.fits e f)) (plain_says xs more rest))))
+    let rest = past_four a b c d xs spells.ascii u in
+    either_way IsUtf8 (is_high_surrogate n) _ _ (λ e. high n e rest)
+    (λ e. either_way IsUtf8 (is_low_surrogate n) _ _ (λ _. tt)
+    (λ f. prepended (encode_utf8 n) (content plain xs) (IsUtf8-encode n (no_surrogate n spells.fits e f)) (plain_says xs more rest))))
 
 by_six : (h s t a b c d : ℕ) (xs : List ℕ) → Says plain xs → Says (after_high h) (s ∷ t ∷ a ∷ b ∷ c ∷ d ∷ xs)
 unfolding content
 by_six h s t a b c d xs more e u =
     if_then IsUtf8 ((s == ascii.backslash) && (t == ascii.lower_u)) _
     (λ both.
-        let parts = and_parts (s == ascii.backslash) (t == ascii.lower_u) both in
-        let four = past t (a ∷ b ∷ c ∷ d ∷ xs) (omega (arith, eqb-true t 117 parts.1)) (past s (t ∷ a ∷ b ∷ c ∷ d ∷ xs) (omega (arith, eqb-true s 92 parts.0)) u) in
-        known_then IsUtf8 (Spells a b c d) _ (code_unit a b c d) (units a b c d)
-        (λ l spells. if_then IsUtf8 (is_low_surrogate l) _
-        (λ f. prepended (encode_utf8 (surrogate_pair h l)) (content plain xs) (IsUtf8-encode (surrogate_pair h l) (pair_scalar h l e f))
-        (plain_says xs more (past_four a b c d xs spells.ascii four)))))
+    let parts = and_parts (s == ascii.backslash) (t == ascii.lower_u) both in
+    let four = past t (a ∷ b ∷ c ∷ d ∷ xs) (omega (arith, eqb-true t 117 parts.1)) (past s (t ∷ a ∷ b ∷ c ∷ d ∷ xs) (omega (arith, eqb-true s 92 parts.0)) u) in
+    known_then IsUtf8 (Spells a b c d) _ (code_unit a b c d) (units a b c d)
+    (λ l spells. if_then IsUtf8 (is_low_surrogate l) _
+    (λ f. prepended (encode_utf8 (surrogate_pair h l)) (content plain xs) (IsUtf8-encode (surrogate_pair h l) (pair_scalar h l e f))
+    (plain_says xs more (past_four a b c d xs spells.ascii four)))))
 
 says : (w : Within) (xs : List ℕ) → Says w xs
 unfolding content
