@@ -1,27 +1,30 @@
 #!/usr/bin/env python3
 """Holds days of an office with the program: days.py PROGRAM ROOM [DAY STORE]
 
-Each file days/*.day is asked of `trial`, and of `talk` over a new store, in one piece: both have to print the bytes
-that it has, and the store has to be sound then. With DAY and STORE this one is asked of that store. It prints how many
-days were held, and ends with 1 where something is other than wanted. A day has these lines:
+Each file days/*.day is asked of `trial`, in one piece and byte by byte, and of `talk` over a new store: each has to print
+the bytes that it has, and the store has to be sound then. With DAY and STORE this one is asked of that store. It prints
+how many days were held, and ends with 1 where something is other than wanted. A day has these lines:
 
     # what it is about
     POST PATH BODY      a request; @FILE in place of BODY is a file that lies beside the day
     GET PATH
     200 JSON            its answer; where no JSON is there, the text that follows
     | TEXT              a line of a text
-    > TEXT, < TEXT      a line that is said or answered, ended by CR LF; after >$ and <$ by LF, after >| and <| by
-                        nothing
+    > TEXT, < TEXT      a line that is said or answered, ended by CR LF; after >$ and <$ by LF, after >^ by CR, after >|
+                        and <| by nothing
     ends STATUS TEXT    the exit status, if it is not 0, and the line on standard error
 """
+import contextlib
 import re
+import socket
 import subprocess
 import sys
+import threading
 from pathlib import Path
 
 SETTINGS = "--country GB --repo 0999 --seats 2 --daily 3 --hands 1 --run 2 --day 2024-03-01".split()
 PHRASES = {"200": "OK", "400": "Bad Request", "404": "Not Found", "409": "Conflict"}
-ENDS = {"": b"\r\n", "$": b"\n", "|": b""}
+ENDS = {"": b"\r\n", "$": b"\n", "^": b"\r", "|": b""}
 
 
 def post(path, body):
@@ -31,6 +34,30 @@ def post(path, body):
 def answer(status, kind, body):
     head = f"HTTP/1.1 {status} {PHRASES[status]}\r\nContent-Type: {kind}\r\nContent-Length: {len(body)}\r\n\r\n"
     return head.encode() + body
+
+
+def whole(words, said):
+    """Runs the program with an input that comes as it likes; returns status, output and what was told."""
+    done = subprocess.run([PROGRAM, *words], input=said, capture_output=True, timeout=60)
+    return done.returncode, done.stdout, done.stderr
+
+
+def by_bytes(words, said):
+    """The same where each read gets one byte: a packet of a socket."""
+    ours, theirs = socket.socketpair(socket.AF_UNIX, socket.SOCK_SEQPACKET)
+
+    def feed():
+        with ours, contextlib.suppress(BrokenPipeError, ConnectionResetError):
+            for byte in said:
+                ours.send(bytes([byte]))
+
+    with theirs:
+        program = subprocess.Popen([PROGRAM, *words], stdin=theirs, stdout=subprocess.PIPE, stderr=subprocess.PIPE)
+    feeding = threading.Thread(target=feed)
+    feeding.start()
+    printed, told = program.communicate(timeout=60)
+    feeding.join()
+    return program.returncode, printed, told
 
 
 class Day:
@@ -64,13 +91,11 @@ class Day:
             body = "".join(f"{it[2:]}\n" for it in text).encode()
             self.answered += answer(word, "text/plain; charset=utf-8", body)
 
-    def is_held(self, *words):
+    def is_held(self, *words, run=whole):
         """Whether the program answers as the day has it, and tells where it does not."""
-        done = subprocess.run([PROGRAM, *words], input=self.said, capture_output=True, timeout=60)
-        told = done.returncode, done.stdout, done.stderr
-        wanted = self.status, self.answered, self.told
+        told, wanted = run(words, self.said), (self.status, self.answered, self.told)
         if told != wanted:
-            print(f"WRONG {self.name} by {words[0]}: {told}, wanted {wanted}")
+            print(f"WRONG {self.name} by {words[0]}, {run.__name__}: {told}, wanted {wanted}")
         return told == wanted
 
 
@@ -94,9 +119,10 @@ def main(room, day=None, store=None):
         return not Day(Path(day)).is_held("talk", "--store", store)
     days = [Day(it) for it in sorted((Path(__file__).parent / "days").glob("*.day"))]
     tried = sum(day.is_held("trial", *SETTINGS) for day in days)
+    read = sum(day.is_held("trial", *SETTINGS, run=by_bytes) for day in days)
     kept = sum(is_kept(day, f"{room}/{day.name}.db") for day in days)
-    print(f"of {len(days)} days {tried} were held by trial, and {kept} over a store")
-    return {tried, kept} != {len(days)}
+    print(f"of {len(days)} days {tried} were held by trial, {read} byte by byte, and {kept} over a store")
+    return {tried, read, kept} != {len(days)}
 
 
 if __name__ == "__main__":
