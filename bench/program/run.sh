@@ -75,16 +75,36 @@ bad_settings() {
     wants 'no store of these' 3 '' 'file fault' check --store "$room/no.db" </dev/null
 }
 
-# Three connections by curl: kept alive, HEAD, a body after 100 Continue, 404 and 409.
+# breaks PORT HOW: a connection that sends a part of a registration, and is then closed or reset
+breaks() {
+    python3 - "$@" <<'END'
+import socket
+import struct
+import sys
+
+with socket.create_connection(("127.0.0.1", int(sys.argv[1])), 10) as it:
+    it.sendall(b'POST /desk/register HTTP/1.1\r\nHost: x\r\nContent-Length: 36\r\n\r\n{"name":"Ann"')
+    if sys.argv[2] == "reset":
+        it.setsockopt(socket.SOL_SOCKET, socket.SO_LINGER, struct.pack("ii", 1, 0))
+END
+}
+
+# Five connections: two that break, and three by curl: kept alive, HEAD, a body after 100 Continue, 404 and 409. What
+# the broken ones began to ask for is not done: the next ticket is the first.
 served() {
     local port=$((20000 + RANDOM % 20000)) serving
-    timeout 60 "$program" serve --store "$store" --port "$port" --connections 3 >"$room/served" 2>"$room/err" &
+    cp "$store" "$room/second.db"
+    timeout 60 "$program" serve --store "$store" --port "$port" --connections 5 >"$room/served" 2>"$room/err" &
     serving=$!
     for _ in $(seq 100); do
         grep -q . "$room/served" && break
         sleep 0.1
     done
     same 'the port' "$(cat "$room/served")" "listening $port"
+    wants 'a port that is taken' 3 '' 'net fault' \
+        serve --store "$room/second.db" --port "$port" --connections 1 </dev/null
+    breaks "$port" closed || same 'a connection that is closed' "$?" 0
+    breaks "$port" reset || same 'a connection that is reset' "$?" 0
     local url=http://127.0.0.1:$port ask=(curl -s -S -m 10)
     same 'kept alive' "$("${ask[@]}" "$url/public/aid/1" "$url/public/units/2")" "$(printf '%s\n' \
         'GB 0999 HUL [Fonds] Hull Dock Company' '  GB 0999 HUL/1 [Series] Minutes' 'GB 0999 HUL/1 [Series] Minutes')"
