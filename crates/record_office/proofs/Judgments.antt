@@ -1,12 +1,12 @@
 -- What a check prints.
-use Rattle.std.proofs.Common.{◌≡◌, ◌∙◌, ◌++◌, ℕ, List, [], Option, Some, None, Result, Ok, Err, IfErr, OnOk, ap, codes, inl, subst, sym}
+use Rattle.std.proofs.Common.{◌≡◌, ◌∙◌, ◌++◌, ℕ, List, Option, Some, Result, Ok, Err, IfErr, ap, codes, subst, sym}
 use Rattle.std.specs.Prelude.{IsErrAnd}
 use Rattle.std.specs.Fmt.{decimal}
 use Rattle.std.specs.Io.KnownBytes.{Appends}
 use Rattle.std.proofs.KnownBytes.{Appends-nil}
 use Rattle.running_office.specs.declared.faults.OpenFault.{OpenFault}
 use Rattle.running_office.specs.declared.faults.OpenFault.TheVariants as opening
-use Rattle.record_office.specs.Performed.{JudgmentFails, JudgmentPrinted, Known, MigrateFails, ServerFails, line_feed}
+use Rattle.record_office.specs.Performed.{JudgmentFails, Known, ServerFails, line_feed}
 use Rattle.record_office.specs.Faults.{IsUnopened, fault_of_opening}
 use Rattle.record_office.specs.declared.faults.Fault.{Fault}
 use Rattle.record_office.specs.declared.faults.Fault.TheVariants.{Memory, NotSound}
@@ -33,14 +33,6 @@ pub no_memory : {X : Type 0} (port : ℕ) (held : Known) (r : Result X Fault) �
 no_memory port held (Ok x) is = tt
 no_memory port held (Err f) is = subst (ServerFails port held held) (sym is) (Appends-nil held)
 
--- a store was not brought over
-pub unbrought : {X Y : Type 0} (brought : Result Y Fault) (f : Fault) (held : Known) (r : Result X Fault) → brought ≡ Err f → IfErr brought IsUnopened → IsErrAnd r (λ e. e ≡ f)
-    → IfErr r (MigrateFails held held)
-unbrought brought f held (Ok x) was why is = tt
-unbrought brought f held (Err e) was why is =
-    let not_opened : IsUnopened f = subst (λ b. IfErr b IsUnopened) was why in
-    inl (subst IsUnopened (sym is) not_opened, Appends-nil held)
-
 -- no office was opened
 pub unopened : (why : OpenFault) (fault : Fault) → fault ≡ fault_of_opening why → IsUnopened fault
 unopened why fault is = subst IsUnopened (sym is) (go why)
@@ -48,9 +40,3 @@ unopened why fault is = subst IsUnopened (sym is) (go why)
     go : (why : OpenFault) → IsUnopened (fault_of_opening why)
     go opening.Memory = tt
     go _ = tt
-
--- a check that is done has found nothing
-pub printed_sound : {X : Type 0} (judged : Option OpenFault) (held held_after : Known) (r : Result X Fault) → OnOk r (JudgmentPrinted judged held held_after) → OnOk r (JudgmentPrinted None held held_after)
-printed_sound None held held_after r told = told
-printed_sound (Some why) held held_after (Ok x) told = absurd told
-printed_sound (Some why) held held_after (Err f) told = tt

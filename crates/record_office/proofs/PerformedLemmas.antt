@@ -1,8 +1,10 @@
 -- Lemmas on what a command did with its streams.
-use Rattle.std.proofs.Common.{◌≡◌, List, [], Result, Ok, Err, Option, Some, None, inl, inr, ℕ, IfErr, OnOk, subst, sym}
+use Rattle.std.proofs.Common.{◌≡◌, List, [], Result, Ok, Err, Option, Some, None, inl, inr, ℕ, IfErr, subst, sym}
 use Rattle.std.specs.Prelude.{IsErrAnd}
 use Rattle.std.specs.Io.KnownBytes.{Appends, Consumes}
-use Rattle.std.proofs.KnownBytes.{Appends-nil, Consumes-nil}
+use Rattle.std.proofs.KnownBytes.{Appends-nil}
+use Rattle.sqlite_trees.specs.declared.store.Store.{Ghosts}
+use Rattle.sqlite.specs.Recovery.{Image}
 use Rattle.clap.specs.Simple.{subcommand_of}
 use Rattle.clap.specs.Walk.{Text}
 use Rattle.atom_csv.specs.declared.file.FileFault.{FileFault}
@@ -14,11 +16,11 @@ use Rattle.office_words.specs.CommandLine.{program}
 use Rattle.running_office.specs.declared.faults.OpenFault.{OpenFault}
 use Rattle.running_office.specs.declared.faults.OpenFault.TheVariants as opening
 use Rattle.record_office.specs.Faults.{IsUnopened, RefusesFile, fault_of_opening}
-use Rattle.record_office.specs.Performed.{CheckFails, ComplaintFails, DoesNothing, Fails, FailsWith, ImportFails, IsSilent, JudgmentFails, Known, LineFails, MigrateFails, PreviewFails, PrintsNothing, Reads, ReplyFails, ServeFails, ServerFails, TalkFails, TrialFails, complaint_of, previewed}
+use Rattle.record_office.specs.Performed.{ComplaintFails, Fails, FailsWith, IsSilent, JudgmentFails, Known, LineFails, PreviewFails, PrintsNothing, Reads, ReplyFails, ServerFails, TalkFails, TrialFails, complaint_of, previewed}
 use Rattle.record_office.specs.Streams.{IsFront}
 use Rattle.record_office.specs.Tasks.{IsTaskOf}
 use Rattle.record_office.specs.declared.faults.Fault.{Fault}
-use Rattle.record_office.specs.declared.faults.Fault.TheVariants.{Refused, NotSound, Words, Date, Settings, File, Store, Net, Session, Memory}
+use Rattle.record_office.specs.declared.faults.Fault.TheVariants.{Refused, Words, Date, Settings, File, Memory}
 use Rattle.record_office.specs.declared.tasks.Task.{Task}
 use Rattle.record_office.specs.declared.tasks.Task.TheVariants.{Preview, Init, Trial, Import, Talk, Serve, Check, Migrate}
 
@@ -93,12 +95,6 @@ judgment_no : (judged : Option OpenFault) (held held_after : Known) (f : Fault) 
 judgment_no None held held_after f of why = line_no _ held held_after f of why
 judgment_no (Some why_not) held held_after f of why = complaint_no why_not (complaint_of why_not) held held_after f of why
 
-talk_no : (left left_after held held_after : Known) (f : Fault) → OfWords f → TalkFails left left_after held held_after f → ⊥
-talk_no left left_after held held_after (Words text) of why = why.0
-talk_no left left_after held held_after Date of why = why.0
-talk_no left left_after held held_after Settings of why = why.0
-talk_no left left_after held held_after _ of why = of
-
 preview_no : (country repo : Text) (path : Option Text) (left left_after held held_after : Known) (f : Fault) → OfWords f → PreviewFails country repo path left left_after held held_after f → ⊥
 preview_no country repo path left left_after held held_after (Words text) of why = why
 preview_no country repo path left left_after held held_after Date of why = why
@@ -110,20 +106,6 @@ trial_no founding left left_after held held_after (Words text) of why = why
 trial_no founding left left_after held held_after Date of why = why
 trial_no founding left left_after held held_after Settings of why = why
 trial_no founding left left_after held held_after _ of why = of
-
-none_of_words : (task : Task) (left left_after held held_after : Known) (f : Fault) → OfWords f → FailsWith task left left_after held held_after f → ⊥
-none_of_words (Preview country repo path) left left_after held held_after f of why = preview_no country repo path left left_after held held_after f of why
-none_of_words (Init store founding) left left_after held held_after f of why = unopened_no f of why.0
-none_of_words (Trial founding) left left_after held held_after f of why = trial_no founding left left_after held held_after f of why
-none_of_words (Import store source path) left left_after held held_after f of (unread, inl why) = unopened_no f of why.0
-none_of_words (Import store source path) left left_after held held_after f of (unread, inr why) = reply_no why.0 held held_after f of why.1
-none_of_words (Talk store) left left_after held held_after f of why = talk_no left left_after held held_after f of why
-none_of_words (Serve store port connections) left left_after held held_after f of (unread, inl why) = unopened_no f of why.0
-none_of_words (Serve store port connections) left left_after held held_after f of (unread, inr why) = server_no port held held_after f of why
-none_of_words (Check store) left left_after held held_after f of (unread, inl why) = unopened_no f of why.0
-none_of_words (Check store) left left_after held held_after f of (unread, inr why) = judgment_no why.0 held held_after f of why.1
-none_of_words (Migrate store) left left_after held held_after f of (unread, inl why) = unopened_no f of why.0
-none_of_words (Migrate store) left left_after held held_after f of (unread, inr why) = line_no _ held held_after f of why
 
 silent_reply : (reply : Reply) (held held_after : Known) → ReplyFails reply held held_after Memory → IsSilent held held_after
 silent_reply (Ok done) held held_after why = absurd why
@@ -137,26 +119,51 @@ silent_judgment : (judged : Option OpenFault) (held held_after : Known) → Judg
 silent_judgment None held held_after why = why
 silent_judgment (Some why_not) held held_after why = silent_complaint why_not (complaint_of why_not) held held_after why
 
-silent : (task : Task) (left left_after held held_after : Known) → FailsWith task left left_after held held_after Memory → PrintsNothing left left_after held held_after
-silent (Preview country repo path) left left_after held held_after why = why
-silent (Init store founding) left left_after held held_after why = ([], why.1.0, why.1.1)
-silent (Trial founding) left left_after held held_after why = ([], why.0, why.1)
-silent (Import store source path) left left_after held held_after (unread, inl why) = ([], unread, why.1)
-silent (Import store source path) left left_after held held_after (unread, inr why) = ([], unread, silent_reply why.0 held held_after why.1)
-silent (Talk store) left left_after held held_after why = ([], why.1.0, why.1.1)
-silent (Serve store port connections) left left_after held held_after (unread, inl why) = ([], unread, why.1)
-silent (Serve store port connections) left left_after held held_after (unread, inr why) = ([], unread, why)
-silent (Check store) left left_after held held_after (unread, inl why) = ([], unread, why.1)
-silent (Check store) left left_after held held_after (unread, inr why) = ([], unread, silent_judgment why.0 held held_after why.1)
-silent (Migrate store) left left_after held held_after (unread, inl why) = ([], unread, why.1)
-silent (Migrate store) left left_after held held_after (unread, inr why) = ([], unread, why)
+-- ---- with an office in a store
 
--- a fault that ended a task ended its words
-pub fails : (words : List Text) (task : Task) (left left_after held held_after : Known) (fault : Fault)
-    → IsTaskOf (subcommand_of program words) task → FailsWith task left left_after held held_after fault
-    → Fails words left left_after held held_after fault
-fails words task left left_after held held_after (Words text) is why = absurd (none_of_words task left left_after held held_after (Words text) tt why)
-fails words task left left_after held held_after Date is why = absurd (none_of_words task left left_after held held_after Date tt why)
-fails words task left left_after held held_after Settings is why = absurd (none_of_words task left left_after held held_after Settings tt why)
-fails words task left left_after held held_after Memory is why = silent task left left_after held held_after why
-fails words task left left_after held held_after _ is why = (task, is, why)
+module _ {S : Type 0} (store : Ghosts S) (image : Image) where
+  talk_no : (left left_after held held_after : Known) (f : Fault) → OfWords f → TalkFails store image left left_after held held_after f → ⊥
+  talk_no left left_after held held_after (Words text) of why = why.0
+  talk_no left left_after held held_after Date of why = why.0
+  talk_no left left_after held held_after Settings of why = why.0
+  talk_no left left_after held held_after _ of why = of
+
+  none_of_words : (task : Task) (left left_after held held_after : Known) (f : Fault) → OfWords f → FailsWith store image task left left_after held held_after f → ⊥
+  none_of_words (Preview country repo path) left left_after held held_after f of why = preview_no country repo path left left_after held held_after f of why
+  none_of_words (Init path founding) left left_after held held_after f of why = unopened_no f of why.0
+  none_of_words (Trial founding) left left_after held held_after f of why = trial_no founding left left_after held held_after f of why
+  none_of_words (Import path source file) left left_after held held_after f of (unread, inl why) = unopened_no f of why.0
+  none_of_words (Import path source file) left left_after held held_after f of (unread, inr (reply, taken, why)) = reply_no reply held held_after f of why
+  none_of_words (Talk path) left left_after held held_after f of why = talk_no left left_after held held_after f of why
+  none_of_words (Serve path port connections) left left_after held held_after f of (unread, inl why) = unopened_no f of why.0
+  none_of_words (Serve path port connections) left left_after held held_after f of (unread, inr (served, why)) = server_no port held held_after f of why
+  none_of_words (Check path) left left_after held held_after f of (unread, inl why) = unopened_no f of why.0
+  none_of_words (Check path) left left_after held held_after f of (unread, inr (judged, was, why)) = judgment_no judged held held_after f of why
+  none_of_words (Migrate path) left left_after held held_after f of (unread, inl why) = unopened_no f of why.0
+  none_of_words (Migrate path) left left_after held held_after f of (unread, inr (inl (stays, quiet))) = opening_no stays.why f of stays.told
+  none_of_words (Migrate path) left left_after held held_after f of (unread, inr (inr (brought, why))) = line_no _ held held_after f of why
+
+  silent : (task : Task) (left left_after held held_after : Known) → FailsWith store image task left left_after held held_after Memory → PrintsNothing left left_after held held_after
+  silent (Preview country repo path) left left_after held held_after why = why
+  silent (Init path founding) left left_after held held_after why = ([], why.1.0, why.1.1)
+  silent (Trial founding) left left_after held held_after why = ([], why.0, why.1)
+  silent (Import path source file) left left_after held held_after (unread, inl why) = ([], unread, why.1)
+  silent (Import path source file) left left_after held held_after (unread, inr (reply, taken, why)) = ([], unread, silent_reply reply held held_after why)
+  silent (Talk path) left left_after held held_after why = ([], why.1.0, why.1.1)
+  silent (Serve path port connections) left left_after held held_after (unread, inl why) = ([], unread, why.1)
+  silent (Serve path port connections) left left_after held held_after (unread, inr (served, why)) = ([], unread, why)
+  silent (Check path) left left_after held held_after (unread, inl why) = ([], unread, why.1)
+  silent (Check path) left left_after held held_after (unread, inr (judged, was, why)) = ([], unread, silent_judgment judged held held_after why)
+  silent (Migrate path) left left_after held held_after (unread, inl why) = ([], unread, why.1)
+  silent (Migrate path) left left_after held held_after (unread, inr (inl (stays, quiet))) = ([], unread, quiet)
+  silent (Migrate path) left left_after held held_after (unread, inr (inr (brought, why))) = ([], unread, why)
+
+  -- a fault that ended a task ended its words
+  pub fails : (words : List Text) (task : Task) (left left_after held held_after : Known) (fault : Fault)
+      → IsTaskOf (subcommand_of program words) task → FailsWith store image task left left_after held held_after fault
+      → Fails store image words left left_after held held_after fault
+  fails words task left left_after held held_after (Words text) is why = absurd (none_of_words task left left_after held held_after (Words text) tt why)
+  fails words task left left_after held held_after Date is why = absurd (none_of_words task left left_after held held_after Date tt why)
+  fails words task left left_after held held_after Settings is why = absurd (none_of_words task left left_after held held_after Settings tt why)
+  fails words task left left_after held held_after Memory is why = silent task left left_after held held_after why
+  fails words task left left_after held held_after _ is why = (task, is, why)

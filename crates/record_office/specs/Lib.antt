@@ -1,5 +1,7 @@
 pub mod Faults
+pub mod Kept
 pub mod Performed
 pub mod Served
+pub mod Stores
 pub mod Streams
 pub mod Tasks

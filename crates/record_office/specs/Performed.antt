@@ -1,8 +1,10 @@
 -- What a command did with its streams: left and left_after are the bytes that standard input has before and
 -- after it, held and held_after those that standard output holds.
-use Rattle.std.specs.Prelude.{◌≡◌, ◌⊎◌, ◌++◌, [], List, Option, Some, None, Result, Ok, Err, ℕ, codes, false}
+use Rattle.std.specs.Prelude.{◌≡◌, ◌⊎◌, ◌++◌, [], List, Option, Some, None, Result, Ok, Err, ℕ, codes, true, false}
 use Rattle.std.specs.Fmt.{decimal}
 use Rattle.std.specs.Io.KnownBytes.{Appends, Consumes, IsAtEnd}
+use Rattle.sqlite_trees.specs.declared.store.Store.{Ghosts}
+use Rattle.sqlite.specs.Recovery.{Image}
 use Rattle.clap.specs.Simple.{subcommand_of}
 use Rattle.clap.specs.Takes.{takes}
 use Rattle.clap.specs.Walk.{Text}
@@ -16,12 +18,12 @@ use Rattle.http_desk.specs.declared.ended.Ended.TheVariants as ended
 use Rattle.http_desk.specs.declared.ended.Next.TheVariants.{Ends}
 use Rattle.office_core.specs.Json.{reply_text}
 use Rattle.office_core.specs.Rules.{Reply}
-use Rattle.desk_core.specs.declared.refusal.Refusal.{Refusal}
 use Rattle.desk_core.specs.declared.refusal.Refusal.TheVariants.{BadFile}
 use Rattle.office_words.specs.CommandLine.{program}
 use Rattle.running_office.specs.declared.faults.OpenFault.{OpenFault}
 use Rattle.running_office.specs.declared.faults.OpenFault.TheVariants as opening
 use Rattle.record_office.specs.Faults.{IsUnopened, Refuses, fault_of_opening, line_of, message_of, status_of}
+use Rattle.record_office.specs.Stores.{HasServed, HasTakenIn, IsBroughtOver, IsMade, IsNotBroughtOver, IsTalkedWith, WasJudged}
 use Rattle.record_office.specs.Streams.{IsFront}
 use Rattle.record_office.specs.Tasks.{IsRefusedIn, IsTaskOf}
 use Rattle.record_office.specs.declared.faults.Break.{Break}
@@ -105,7 +107,7 @@ TrialFails founding left left_after held held_after (Session broken) =
 TrialFails founding left left_after held held_after Memory = DoesNothing left left_after held held_after
 TrialFails founding left left_after held held_after _ = ⊥
 
--- ---- offices in files. No clause ties an office to its file: that the tables are the file's is the store's part.
+-- ---- what is printed of an office
 
 -- nothing was printed
 abbrev pub IsSilent : Known → Known → Type 0
@@ -135,47 +137,19 @@ ReplyFails (Ok done) held held_after File = PrintsFront (reply_text (Ok done) ++
 ReplyFails (Ok done) held held_after _ = ⊥
 ReplyFails (Err why) held held_after fault = Refuses why fault × IsSilent held held_after
 
--- an import that is done: its reply was printed
-abbrev pub ImportDone : Known → Known → Type 0
-ImportDone held held_after = (reply : Reply) × ReplyPrinted reply held held_after
-
--- an import that a fault ended: the office was not opened or is busy, or the reply was not printed
-abbrev pub ImportFails : Known → Known → Fault → Type 0
-ImportFails held held_after fault =
-    (IsUnopened fault × IsSilent held held_after) ⊎ ((reply : Reply) × ReplyFails reply held held_after fault)
-
--- what was read was heard, and what was written told; where a session ends with its input, all of standard input was read
-abbrev pub Heard : Known → Known → Known → Known → Ended → Type 0
-Heard left left_after held held_after end =
-    (input output : List ℕ) × Consumes left left_after input × AtEndIf left_after (Ends end)
-    × Appends held held_after output
-
--- a talk that is done ended after an answer
-abbrev pub TalkDone : Known → Known → Known → Known → Type 0
-TalkDone left left_after held held_after = (end : Ended) × EndsWell end × Heard left left_after held held_after end
-
--- a talk that a fault ended: it broke off, or the office was not opened
-abbrev pub TalkFails : Known → Known → Known → Known → Fault → Type 0
-TalkFails left left_after held held_after (Session broken) = Heard left left_after held held_after (ended_by broken)
-TalkFails left left_after held held_after fault = IsUnopened fault × DoesNothing left left_after held held_after
-
 abbrev pub listening : ℕ → List ℕ
 listening port = codes "listening " ++ decimal port ++ line_feed
 
 -- a server has said that it listens
-abbrev pub ServeDone : ℕ → Known → Known → Type 0
-ServeDone port held held_after = Appends held held_after (listening port)
+abbrev pub Listens : ℕ → Known → Known → Type 0
+Listens port held held_after = Appends held held_after (listening port)
 
 -- it had no port or no memory, or standard output failed; or a connection could not be taken
 abbrev pub ServerFails : ℕ → Known → Known → Fault → Type 0
-ServerFails port held held_after Net = IsSilent held held_after ⊎ ServeDone port held held_after
+ServerFails port held held_after Net = IsSilent held held_after ⊎ Listens port held held_after
 ServerFails port held held_after File = PrintsFront (listening port) held held_after
 ServerFails port held held_after Memory = IsSilent held held_after
 ServerFails port held held_after _ = ⊥
-
-abbrev pub ServeFails : ℕ → Known → Known → Fault → Type 0
-ServeFails port held held_after fault =
-    (IsUnopened fault × IsSilent held held_after) ⊎ ServerFails port held held_after fault
 
 -- what is told of an office that is not sound, or of the other version
 abbrev pub complaint_of : OpenFault → Option (List ℕ)
@@ -204,76 +178,128 @@ abbrev pub JudgmentFails : Option OpenFault → Known → Known → Fault → Ty
 JudgmentFails None held held_after fault = LineFails (codes "sound\n") held held_after fault
 JudgmentFails (Some why) held held_after fault = ComplaintFails why (complaint_of why) held held_after fault
 
--- a check that is done: it was printed that the office is sound
-abbrev pub CheckDone : Known → Known → Type 0
-CheckDone held held_after = JudgmentPrinted None held held_after
-
--- a check that a fault ended: no store was opened, or the office is not sound or not of this version
-abbrev pub CheckFails : Known → Known → Fault → Type 0
-CheckFails held held_after fault =
-    (IsUnopened fault × IsSilent held held_after) ⊎ ((judged : Option OpenFault) × JudgmentFails judged held held_after fault)
-
--- a migration that is done was told
-abbrev pub MigrateDone : Known → Known → Type 0
-MigrateDone held held_after = Appends held held_after (codes "migrated\n")
-
--- a migration that a fault ended: the office was not opened or not brought over, or standard output failed
-abbrev pub MigrateFails : Known → Known → Fault → Type 0
-MigrateFails held held_after fault =
-    (IsUnopened fault × IsSilent held held_after) ⊎ LineFails (codes "migrated\n") held held_after fault
+abbrev pub migrated : List ℕ
+migrated = codes "migrated\n"
 
 -- nothing was read of standard input
 abbrev pub Unread : Known → Known → Type 0
 Unread left left_after = Consumes left left_after []
 
--- a task that is done
-abbrev pub Does : Task → Known → Known → Known → Known → Type 0
-Does (Preview country repo path) left left_after held held_after =
-    PreviewDone country repo path left left_after held held_after
-Does (Init store founding) left left_after held held_after = DoesNothing left left_after held held_after
-Does (Trial founding) left left_after held held_after = TrialDone founding left left_after held held_after
-Does (Import store source path) left left_after held held_after = Unread left left_after × ImportDone held held_after
-Does (Talk store) left left_after held held_after = TalkDone left left_after held held_after
-Does (Serve store port connections) left left_after held held_after =
-    Unread left left_after × ServeDone port held held_after
-Does (Check store) left left_after held held_after = Unread left left_after × CheckDone held held_after
-Does (Migrate store) left left_after held held_after = Unread left left_after × MigrateDone held held_after
+-- ---- offices in stores, of which one with this image was found
 
--- a task that a fault ended
-abbrev pub FailsWith : Task → Known → Known → Known → Known → Fault → Type 0
-FailsWith (Preview country repo path) left left_after held held_after fault =
-    PreviewFails country repo path left left_after held held_after fault
-FailsWith (Init store founding) left left_after held held_after fault =
-    IsUnopened fault × DoesNothing left left_after held held_after
-FailsWith (Trial founding) left left_after held held_after fault =
-    TrialFails founding left left_after held held_after fault
-FailsWith (Import store source path) left left_after held held_after fault =
-    Unread left left_after × ImportFails held held_after fault
-FailsWith (Talk store) left left_after held held_after fault = TalkFails left left_after held held_after fault
-FailsWith (Serve store port connections) left left_after held held_after fault =
-    Unread left left_after × ServeFails port held held_after fault
-FailsWith (Check store) left left_after held held_after fault = Unread left left_after × CheckFails held held_after fault
-FailsWith (Migrate store) left left_after held held_after fault =
-    Unread left left_after × MigrateFails held held_after fault
+module _ {S : Type 0} (store : Ghosts S) (image : Image) where
+  -- a new office that is made
+  abbrev pub InitDone : Founding → Known → Known → Known → Known → Type 0
+  InitDone founding left left_after held held_after =
+      IsMade store image founding × DoesNothing left left_after held held_after
 
--- words whose task is done
-abbrev pub IsDone : List Text → Known → Known → Known → Known → Type 0
-IsDone words left left_after held held_after =
-    (task : Task) × IsTaskOf (subcommand_of program words) task
-    × Does task left left_after held held_after
+  -- an import that is done: it was one step, whose reply was printed
+  abbrev pub ImportDone : Text → Known → Known → Type 0
+  ImportDone source held held_after =
+      (reply : Reply) × HasTakenIn store image source reply × ReplyPrinted reply held held_after
 
--- words that a fault ended: they name no task, or its values are refused, and nothing was read or printed; or their
--- task failed
-abbrev pub Fails : List Text → Known → Known → Known → Known → Fault → Type 0
-Fails words left left_after held held_after (Words text) =
-    (takes program words ≡ false) × DoesNothing left left_after held held_after
-Fails words left left_after held held_after Date =
-    IsRefusedIn (subcommand_of program words) tasks.Date × DoesNothing left left_after held held_after
-Fails words left left_after held held_after Settings =
-    IsRefusedIn (subcommand_of program words) tasks.Settings × DoesNothing left left_after held held_after
-Fails words left left_after held held_after Memory = PrintsNothing left left_after held held_after
-Fails words left left_after held held_after fault =
-    (task : Task) × IsTaskOf (subcommand_of program words) task × FailsWith task left left_after held held_after fault
+  -- an import that a fault ended: the office was not opened or is busy; or its step was refused, or was not printed
+  abbrev pub ImportFails : Text → Known → Known → Fault → Type 0
+  ImportFails source held held_after fault =
+      (IsUnopened fault × IsSilent held held_after)
+      ⊎ ((reply : Reply) × HasTakenIn store image source reply × ReplyFails reply held held_after fault)
+
+  -- a talk that is done: a session that ended after an answer
+  abbrev pub TalkDone : Known → Known → Known → Known → Type 0
+  TalkDone left left_after held held_after =
+      (end : Ended) × EndsWell end × IsTalkedWith store image left left_after held held_after end
+
+  -- a talk that a fault ended: its session broke off, or the office was not opened
+  abbrev pub TalkFails : Known → Known → Known → Known → Fault → Type 0
+  TalkFails left left_after held held_after (Session broken) =
+      IsTalkedWith store image left left_after held held_after (ended_by broken)
+  TalkFails left left_after held held_after fault = IsUnopened fault × DoesNothing left left_after held held_after
+
+  -- a server that is done: it has said that it listens, and served all connections
+  abbrev pub ServeDone : ℕ → ℕ → Known → Known → Type 0
+  ServeDone port connections held held_after =
+      HasServed store image connections true × Listens port held held_after
+
+  -- a server that a fault ended: the office was not opened, or it did not listen or not take all connections
+  abbrev pub ServeFails : ℕ → ℕ → Known → Known → Fault → Type 0
+  ServeFails port connections held held_after fault =
+      (IsUnopened fault × IsSilent held held_after)
+      ⊎ (HasServed store image connections false × ServerFails port held held_after fault)
+
+  -- a check that is done: the tables are a sound office's, and that was printed
+  abbrev pub CheckDone : Known → Known → Type 0
+  CheckDone held held_after = WasJudged store image None × JudgmentPrinted None held held_after
+
+  -- a check that a fault ended: no store was opened; or its tables are not such, or that they are was not printed
+  abbrev pub CheckFails : Known → Known → Fault → Type 0
+  CheckFails held held_after fault =
+      (IsUnopened fault × IsSilent held held_after)
+      ⊎ ((judged : Option OpenFault) × WasJudged store image judged × JudgmentFails judged held held_after fault)
+
+  -- a migration that is done, and was told
+  abbrev pub MigrateDone : Known → Known → Type 0
+  MigrateDone held held_after = IsBroughtOver store image × Appends held held_after migrated
+
+  -- a migration that a fault ended: no store was opened; or its tables stay as they are; or it was done, and not told
+  -- whole
+  abbrev pub MigrateFails : Known → Known → Fault → Type 0
+  MigrateFails held held_after fault =
+      (IsUnopened fault × IsSilent held held_after)
+      ⊎ ((IsNotBroughtOver store image fault × IsSilent held held_after)
+      ⊎ (IsBroughtOver store image × LineFails migrated held held_after fault))
+
+  -- a task that is done
+  abbrev pub Does : Task → Known → Known → Known → Known → Type 0
+  Does (Preview country repo path) left left_after held held_after =
+      PreviewDone country repo path left left_after held held_after
+  Does (Init path founding) left left_after held held_after = InitDone founding left left_after held held_after
+  Does (Trial founding) left left_after held held_after = TrialDone founding left left_after held held_after
+  Does (Import path source file) left left_after held held_after =
+      Unread left left_after × ImportDone source held held_after
+  Does (Talk path) left left_after held held_after = TalkDone left left_after held held_after
+  Does (Serve path port connections) left left_after held held_after =
+      Unread left left_after × ServeDone port connections held held_after
+  Does (Check path) left left_after held held_after = Unread left left_after × CheckDone held held_after
+  Does (Migrate path) left left_after held held_after = Unread left left_after × MigrateDone held held_after
+
+  -- a task that a fault ended
+  abbrev pub FailsWith : Task → Known → Known → Known → Known → Fault → Type 0
+  FailsWith (Preview country repo path) left left_after held held_after fault =
+      PreviewFails country repo path left left_after held held_after fault
+  FailsWith (Init path founding) left left_after held held_after fault =
+      IsUnopened fault × DoesNothing left left_after held held_after
+  FailsWith (Trial founding) left left_after held held_after fault =
+      TrialFails founding left left_after held held_after fault
+  FailsWith (Import path source file) left left_after held held_after fault =
+      Unread left left_after × ImportFails source held held_after fault
+  FailsWith (Talk path) left left_after held held_after fault = TalkFails left left_after held held_after fault
+  FailsWith (Serve path port connections) left left_after held held_after fault =
+      Unread left left_after × ServeFails port connections held held_after fault
+  FailsWith (Check path) left left_after held held_after fault =
+      Unread left left_after × CheckFails held held_after fault
+  FailsWith (Migrate path) left left_after held held_after fault =
+      Unread left left_after × MigrateFails held held_after fault
+
+  -- words whose task is done
+  abbrev pub IsDone : List Text → Known → Known → Known → Known → Type 0
+  IsDone words left left_after held held_after =
+      (task : Task) × IsTaskOf (subcommand_of program words) task
+      × Does task left left_after held held_after
+
+  -- words that a fault ended: they name no task, or its values are refused, and nothing was read or printed; or their
+  -- task failed
+  abbrev pub Fails : List Text → Known → Known → Known → Known → Fault → Type 0
+  Fails words left left_after held held_after (Words text) =
+      (takes program words ≡ false) × DoesNothing left left_after held held_after
+  Fails words left left_after held held_after Date =
+      IsRefusedIn (subcommand_of program words) tasks.Date × DoesNothing left left_after held held_after
+  Fails words left left_after held held_after Settings =
+      IsRefusedIn (subcommand_of program words) tasks.Settings × DoesNothing left left_after held held_after
+  Fails words left left_after held held_after Memory = PrintsNothing left left_after held held_after
+  Fails words left left_after held held_after fault =
+      (task : Task) × IsTaskOf (subcommand_of program words) task × FailsWith task left left_after held held_after fault
+
+-- ---- with standard error
 
 -- on standard error, which held told and then holds told_after, a front of the text was written: all of it, or
 -- as much as it took
@@ -282,8 +308,8 @@ Tells told told_after text = (front : List ℕ) × IsFront front text × Appends
 
 -- the words were done, and nothing was told, or a fault ended them, and its message was told; this is the
 -- exit status
-abbrev pub Performs : List Text → Known → Known → Known → Known → Known → Known → ℕ → Type 0
-Performs words left left_after held held_after told told_after status =
-    ((status ≡ 0) × IsDone words left left_after held held_after × Appends told told_after [])
-    ⊎ ((fault : Fault) × (status ≡ status_of fault) × Fails words left left_after held held_after fault
+abbrev pub Performs : {S : Type 0} → Ghosts S → Image → List Text → Known → Known → Known → Known → Known → Known → ℕ → Type 0
+Performs store image words left left_after held held_after told told_after status =
+    ((status ≡ 0) × IsDone store image words left left_after held held_after × Appends told told_after [])
+    ⊎ ((fault : Fault) × (status ≡ status_of fault) × Fails store image words left left_after held held_after fault
     × Tells told told_after (message_of fault))

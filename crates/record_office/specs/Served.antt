@@ -1,5 +1,5 @@
 -- Sessions, one after the other.
-use Rattle.std.specs.Prelude.{◌≡◌, ℕ, zero, suc, Bool, true, false}
+use Rattle.std.specs.Prelude.{◌≡◌, ◌≤◌, ℕ, zero, suc, Bool, true, false}
 use Rattle.isad_core.specs.Texts.{Bytes}
 use Rattle.office_core.specs.State.{State}
 use Rattle.http_desk.specs.Session.{Session}
@@ -16,3 +16,10 @@ AreSessions (suc n) s t =
 abbrev pub sessions_of : Bool → ℕ
 sessions_of true = 1
 sessions_of false = 0
+
+-- From one office to another, while its store has returned what was written: at most so many sessions, and all of them
+-- where that is told.
+abbrev pub Serves : {M : Type 0} → (M → State → Type 0) → (M → Type 0) → ℕ → M → M → Bool → Type 0
+Serves shows is_intact most old new all =
+    is_intact new → (s : State) → shows old s
+    → (n : ℕ) × (t : State) × shows new t × AreSessions n s t × (n ≤ most) × (all ≡ true → n ≡ most)

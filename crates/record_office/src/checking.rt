@@ -1,19 +1,24 @@
 //! Tells whether the tables of a store are those of a sound office.
-ghost use Rattle.std.specs.Prelude.{◌≡◌, None, false, IfErr, IfNone, IfSome, OnOk};
+ghost use Rattle.std.specs.Prelude.{◌≡◌, None, false, IfErr, IfNone, IfOk, IfSome, OnOk};
+ghost use Rattle.sqlite.specs.Files.{file_state};
 ghost use Rattle.sqlite.specs.Held.{state};
 ghost use Rattle.sqlite.specs.State.{HasCleanDisk, Survives};
+ghost use Rattle.sqlite.specs.WalFiles.{image_at};
 ghost use Rattle.office_checks.specs.Verdicts.{IsVerdict};
 ghost use Rattle.office_checks.specs.declared.verdict.Verdict.TheVariants as verdict;
 ghost use Rattle.office_tables.specs.Faults.{IsUnlimited};
 ghost use Rattle.running_office.specs.Adopting.{HasAdoptCause};
 ghost use Rattle.tree_core.specs.Versions.{Spans};
+ghost use Rattle.record_office.specs.Kept.{IsJudgedIn};
 ghost use Rattle.record_office.specs.Performed.{JudgmentFails, JudgmentPrinted};
 
 use crate::faults::Fault;
 use crate::streams::write_whole;
+use isad_core::Text;
 use office::{Office, OpenFault};
+use office_files::{FileFault, FileStoreFrom, find};
 use span_places::SpanPlaces;
-use sqlite::{Alter, Connection};
+use sqlite::{Alter, Connection, Start};
 use std::alloc::Global;
 use std::io::Write;
 
@@ -31,6 +36,19 @@ pub fn judge<S: Alter>(alloc: Global, conn: Connection<S>) -> (Option<OpenFault>
         Ok(office) => (None, office.into_connection()),
         Err((fault, conn)) => (Some(fault), conn),
     }
+}
+
+/// The same of the tables in a file.
+pub fn judge_file<S: Start>(
+    rt: &HostRuntime,
+    alloc: Global,
+    store: &Text,
+    start: S,
+) -> Result<(Option<OpenFault>, Connection<FileStoreFrom<S>>), FileFault>
+    ensures { IfOk result (λ r. HasCleanDisk (file_state r.1) → IsJudgedIn (image_at S.Start) r.0) }
+{
+    let conn = find(rt, store.as_str(), start)?;
+    Ok(judge(alloc, conn))
 }
 
 /// Prints what was judged.

@@ -1,15 +1,17 @@
 //! Does the task that the words name.
-ghost use Rattle.std.specs.Prelude.{◌≡◌, IfErr, OnOk, map};
+ghost use Rattle.std.specs.Prelude.{◌≡◌, true, false, IfErr, OnOk, map};
 ghost use Rattle.std.specs.String.{string_bytes};
+ghost use Rattle.sqlite.specs.WalFiles.{image_at};
 ghost use Rattle.record_office.specs.Faults.{IsUnopened};
 ghost use Rattle.record_office.specs.Performed.{CheckDone, CheckFails, Does, Fails, FailsWith, ImportDone, ImportFails};
-ghost use Rattle.record_office.specs.Performed.{IsDone, MigrateDone, MigrateFails, ServeDone, ServeFails};
-ghost use Rattle.record_office.specs.Performed.{ServerFails, TalkDone, TalkFails};
+ghost use Rattle.record_office.specs.Performed.{IsDone, Listens, MigrateDone, MigrateFails};
+ghost use Rattle.record_office.specs.Performed.{ServeDone, ServeFails, ServerFails, TalkDone, TalkFails};
+ghost use Rattle.record_office.specs.Served.{Serves};
+ghost use Rattle.record_office.specs.Stores.{IsMade};
 
-use crate::checking::{judge, tell_judgment};
+use crate::checking::{judge_file, tell_judgment};
 use crate::faults::Fault;
 use crate::importing::{take_in, tell_reply};
-use crate::migrating::bring_over;
 use crate::previewing::{file_bytes, print_preview};
 use crate::serving::serve;
 use crate::stores::{close_office, make_office, open_office};
@@ -18,49 +20,83 @@ use crate::talking::{talk_with, try_office};
 use crate::tasks::Task;
 use crate::words::task;
 use isad_core::Text;
-use office::Machine;
-use office_files::{close, find};
-use sqlite::Wary;
+use office::{Machine, Settings};
+use office_files::{FileStoreFrom, close, find};
+use sqlite::Start;
+use sqlite_trees::store::Store;
 use std::alloc::Global;
 use std::io::{Read, Write};
 use std::net::{Ipv4Addr, SocketAddr, SocketAddrV4, TcpListener};
 
+// Makes a new office in a file.
+fn init<S: Start>(rt: &HostRuntime, store: &Text, settings: Settings, start: S) -> Result<(), Fault>
+    ensures done { OnOk result (IsMade ⟦<FileStoreFrom<S> as Store>⟧ (image_at S.Start) settings) }
+    ensures fault { IfErr result IsUnopened }
+{
+    let office = make_office(rt, store, settings, start)?;
+    close_office(office);
+    Ok(())
+}
+
 // Takes a file into the office in a file. The descriptions are read before the office is opened.
-fn import<W: Write>(
+fn import<S: Start, W: Write>(
     rt: &HostRuntime,
     alloc: Global,
     store: &Text,
     source: Text,
     file: &Text,
     out: &mut W,
+    start: S,
 ) -> Result<(), Fault>
-    ensures done { OnOk result (ImportDone (W.contents out.old) (W.contents out.new)) }
-    ensures fault { IfErr result (ImportFails (W.contents out.old) (W.contents out.new)) }
+    ensures done { OnOk result (ImportDone ⟦<FileStoreFrom<S> as Store>⟧ (image_at S.Start) source
+        (W.contents out.old) (W.contents out.new)) }
+    ensures fault { IfErr result (ImportFails ⟦<FileStoreFrom<S> as Store>⟧ (image_at S.Start) source
+        (W.contents out.old) (W.contents out.new)) }
 {
     let bytes = file_bytes(rt, alloc, file)?;
-    let mut office = open_office(rt, alloc, store)?;
+    let mut office = open_office(rt, alloc, store, start)?;
     let taken = take_in(alloc, &mut office, source, bytes);
     close_office(office);
     tell_reply(alloc, taken?, out)
 }
 
 // Answers requests on the office in a file.
-fn talk<R: Read, W: Write>(
+fn talk<S: Start, R: Read, W: Write>(
     rt: &HostRuntime,
     alloc: Global,
     store: &Text,
     reader: &mut R,
     out: &mut W,
+    start: S,
 ) -> Result<(), Fault>
-    ensures done { OnOk result (TalkDone (R.remaining reader.old) (R.remaining reader.new)
-        (W.contents out.old) (W.contents out.new)) }
-    ensures fault { IfErr result (TalkFails (R.remaining reader.old) (R.remaining reader.new)
-        (W.contents out.old) (W.contents out.new)) }
+    ensures done { OnOk result (TalkDone ⟦<FileStoreFrom<S> as Store>⟧ (image_at S.Start)
+        (R.remaining reader.old) (R.remaining reader.new) (W.contents out.old) (W.contents out.new)) }
+    ensures fault { IfErr result (TalkFails ⟦<FileStoreFrom<S> as Store>⟧ (image_at S.Start)
+        (R.remaining reader.old) (R.remaining reader.new) (W.contents out.old) (W.contents out.new)) }
 {
-    let mut office = open_office(rt, alloc, store)?;
+    let mut office = open_office(rt, alloc, store, start)?;
     let talked = talk_with(alloc, &mut office, reader, out);
     close_office(office);
     talked
+}
+
+// Listens on a port of this machine, and says so.
+fn listen<W: Write>(
+    rt: &HostRuntime,
+    alloc: Global,
+    port: u16,
+    out: &mut W,
+) -> Result<TcpListener, Fault>
+    ensures done { OnOk result (Listens port (W.contents out.old) (W.contents out.new)) }
+    ensures fault { IfErr result (ServerFails port (W.contents out.old) (W.contents out.new)) }
+{
+    let here = SocketAddr::V4(SocketAddrV4::new(Ipv4Addr::LOCALHOST, port));
+    let Ok(listener) = TcpListener::bind(rt, here) else {
+        return Err(Fault::Net);
+    };
+    let line = format!(in alloc; "listening {port}\n")?;
+    write_whole(out, line.as_bytes())?;
+    Ok(listener)
 }
 
 // Serves an office on a port of this machine, and says so once the port is there.
@@ -72,16 +108,13 @@ fn serve_on_port<M: Machine, W: Write>(
     office: &mut M,
     out: &mut W,
 ) -> Result<(), Fault>
-    ensures done { OnOk result (ServeDone port (W.contents out.old) (W.contents out.new)) }
-    ensures fault { IfErr result (ServerFails port (W.contents out.old) (W.contents out.new)) }
+    ensures done { OnOk result (Listens port (W.contents out.old) (W.contents out.new)
+        × Serves M.shows M.is_intact connections office.old office.new true) }
+    ensures fault { IfErr result (λ f. ServerFails port (W.contents out.old) (W.contents out.new) f
+        × Serves M.shows M.is_intact connections office.old office.new false) }
     ensures intact { M.is_intact office.new → M.is_intact office.old }
 {
-    let here = SocketAddr::V4(SocketAddrV4::new(Ipv4Addr::LOCALHOST, port));
-    let Ok(listener) = TcpListener::bind(rt, here) else {
-        return Err(Fault::Net);
-    };
-    let line = format!(in alloc; "listening {port}\n")?;
-    write_whole(out, line.as_bytes())?;
+    let listener = listen(rt, alloc, port, out)?;
     if serve(alloc, &listener, connections, office) {
         Ok(())
     } else {
@@ -90,46 +123,59 @@ fn serve_on_port<M: Machine, W: Write>(
 }
 
 // Serves the office in a file.
-fn serve_store<W: Write>(
+fn serve_store<S: Start, W: Write>(
     rt: &HostRuntime,
     alloc: Global,
     store: &Text,
     port: u16,
     connections: u32,
     out: &mut W,
+    start: S,
 ) -> Result<(), Fault>
-    ensures done { OnOk result (ServeDone port (W.contents out.old) (W.contents out.new)) }
-    ensures fault { IfErr result (ServeFails port (W.contents out.old) (W.contents out.new)) }
+    ensures done { OnOk result (ServeDone ⟦<FileStoreFrom<S> as Store>⟧ (image_at S.Start) port connections
+        (W.contents out.old) (W.contents out.new)) }
+    ensures fault { IfErr result (ServeFails ⟦<FileStoreFrom<S> as Store>⟧ (image_at S.Start) port connections
+        (W.contents out.old) (W.contents out.new)) }
 {
-    let mut office = open_office(rt, alloc, store)?;
+    let mut office = open_office(rt, alloc, store, start)?;
     let served = serve_on_port(rt, alloc, port, connections, &mut office, out);
     close_office(office);
     served
 }
 
 // Tells whether the office in a file is sound.
-fn check<W: Write>(rt: &HostRuntime, alloc: Global, store: &Text, out: &mut W) -> Result<(), Fault>
-    ensures done { OnOk result (CheckDone (W.contents out.old) (W.contents out.new)) }
-    ensures fault { IfErr result (CheckFails (W.contents out.old) (W.contents out.new)) }
+fn check<S: Start, W: Write>(
+    rt: &HostRuntime,
+    alloc: Global,
+    store: &Text,
+    out: &mut W,
+    start: S,
+) -> Result<(), Fault>
+    ensures done { OnOk result (CheckDone ⟦<FileStoreFrom<S> as Store>⟧ (image_at S.Start)
+        (W.contents out.old) (W.contents out.new)) }
+    ensures fault { IfErr result (CheckFails ⟦<FileStoreFrom<S> as Store>⟧ (image_at S.Start)
+        (W.contents out.old) (W.contents out.new)) }
 {
-    let conn = find(rt, store.as_str(), Wary)?;
-    let (judged, conn) = judge(alloc, conn);
+    let (judged, conn) = judge_file(rt, alloc, store, start)?;
     close(conn);
     tell_judgment(alloc, judged, out)
 }
 
 // Brings the office in a file from version 1 to version 2.
-fn migrate<W: Write>(
+fn migrate<S: Start, W: Write>(
     rt: &HostRuntime,
     alloc: Global,
     store: &Text,
     out: &mut W,
+    start: S,
 ) -> Result<(), Fault>
-    ensures done { OnOk result (MigrateDone (W.contents out.old) (W.contents out.new)) }
-    ensures fault { IfErr result (MigrateFails (W.contents out.old) (W.contents out.new)) }
+    ensures done { OnOk result (MigrateDone ⟦<FileStoreFrom<S> as Store>⟧ (image_at S.Start)
+        (W.contents out.old) (W.contents out.new)) }
+    ensures fault { IfErr result (MigrateFails ⟦<FileStoreFrom<S> as Store>⟧ (image_at S.Start)
+        (W.contents out.old) (W.contents out.new)) }
 {
-    let conn = find(rt, store.as_str(), Wary)?;
-    let (brought, conn) = bring_over(alloc, conn);
+    let mut conn = find(rt, store.as_str(), start)?;
+    let brought = office::migrate(alloc, &mut conn);
     close(conn);
     brought?;
     write_whole(out, b"migrated\n")?;
@@ -137,16 +183,17 @@ fn migrate<W: Write>(
 }
 
 // Does a task.
-fn do_task<R: Read, W: Write>(
+fn do_task<S: Start, R: Read, W: Write>(
     rt: &HostRuntime,
     alloc: Global,
     task: Task,
     reader: &mut R,
     out: &mut W,
+    start: S,
 ) -> Result<(), Fault>
-    ensures done { OnOk result (Does task
+    ensures done { OnOk result (Does ⟦<FileStoreFrom<S> as Store>⟧ (image_at S.Start) task
         (R.remaining reader.old) (R.remaining reader.new) (W.contents out.old) (W.contents out.new)) }
-    ensures fault { IfErr result (FailsWith task
+    ensures fault { IfErr result (FailsWith ⟦<FileStoreFrom<S> as Store>⟧ (image_at S.Start) task
         (R.remaining reader.old) (R.remaining reader.new) (W.contents out.old) (W.contents out.new)) }
 {
     match task {
@@ -155,37 +202,38 @@ fn do_task<R: Read, W: Write>(
             repo,
             file,
         } => print_preview(rt, alloc, &country, &repo, file.as_ref(), reader, out),
-        Task::Init { store, settings } => make_office(rt, &store, settings),
+        Task::Init { store, settings } => init(rt, &store, settings, start),
         Task::Trial { settings } => try_office(alloc, settings, reader, out),
         Task::Import {
             store,
             source,
             file,
-        } => import(rt, alloc, &store, source, &file, out),
-        Task::Talk { store } => talk(rt, alloc, &store, reader, out),
+        } => import(rt, alloc, &store, source, &file, out, start),
+        Task::Talk { store } => talk(rt, alloc, &store, reader, out, start),
         Task::Serve {
             store,
             port,
             connections,
-        } => serve_store(rt, alloc, &store, port, connections, out),
-        Task::Check { store } => check(rt, alloc, &store, out),
-        Task::Migrate { store } => migrate(rt, alloc, &store, out),
+        } => serve_store(rt, alloc, &store, port, connections, out, start),
+        Task::Check { store } => check(rt, alloc, &store, out, start),
+        Task::Migrate { store } => migrate(rt, alloc, &store, out, start),
     }
 }
 
-/// Does the task that the words name, with these as standard input and output.
-pub fn run<R: Read, W: Write>(
+/// Does the task that the words name, with these as standard input and output, and with files that held what `S` says.
+pub fn run<S: Start, R: Read, W: Write>(
     rt: &HostRuntime,
     alloc: Global,
     words: &[String],
     reader: &mut R,
     out: &mut W,
+    start: S,
 ) -> Result<(), Fault>
-    ensures done { OnOk result (IsDone (map string_bytes words.now)
+    ensures done { OnOk result (IsDone ⟦<FileStoreFrom<S> as Store>⟧ (image_at S.Start) (map string_bytes words.now)
         (R.remaining reader.old) (R.remaining reader.new) (W.contents out.old) (W.contents out.new)) }
-    ensures fault { IfErr result (Fails (map string_bytes words.now)
+    ensures fault { IfErr result (Fails ⟦<FileStoreFrom<S> as Store>⟧ (image_at S.Start) (map string_bytes words.now)
         (R.remaining reader.old) (R.remaining reader.new) (W.contents out.old) (W.contents out.new)) }
 {
     let task = task(alloc, words)?;
-    do_task(rt, alloc, task, reader, out)
+    do_task(rt, alloc, task, reader, out, start)
 }

@@ -1,17 +1,12 @@
 //! The program: one command of a record office, from its words and streams to its exit status.
 #![tactic(auto)]
 
-#[cfg(test)]
-mod catalogue_days;
 mod checking;
 mod commands;
-#[cfg(test)]
-mod desk_days;
 #[cfg(test)]
 mod fakes;
 mod faults;
 mod importing;
-mod migrating;
 #[cfg(test)]
 mod office_messages;
 mod perform;
@@ -19,8 +14,6 @@ mod previewing;
 #[cfg(test)]
 mod printed_help;
 mod serving;
-#[cfg(test)]
-mod steps;
 #[cfg(test)]
 mod store_tests;
 mod stores;
@@ -31,6 +24,7 @@ mod tasks;
 mod tests;
 mod words;
 
+use sqlite::Wary;
 use std::process::ExitCode;
 
 fn main(rt: HostRuntime) -> ExitCode {
@@ -42,6 +36,7 @@ fn main(rt: HostRuntime) -> ExitCode {
             &mut rt.stdin(),
             &mut rt.stdout(),
             &mut rt.stderr(),
+            Wary,
         ),
         Err(fault) => perform::tell(&fault.into(), &mut rt.stderr()),
     };

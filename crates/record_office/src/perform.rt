@@ -1,29 +1,36 @@
 //! One command, from its words and streams to its exit status.
 ghost use Rattle.std.specs.Prelude.{◌≡◌, ◌≤◌, map};
 ghost use Rattle.std.specs.String.{string_bytes};
+ghost use Rattle.sqlite.specs.WalFiles.{image_at};
 ghost use Rattle.record_office.specs.Faults.{message_of, status_of};
 ghost use Rattle.record_office.specs.Performed.{Performs, Tells};
 
 use crate::commands::run;
 use crate::faults::Fault;
 use crate::streams::write_whole;
+use office_files::FileStoreFrom;
+use sqlite::Start;
+use sqlite_trees::store::Store;
 use std::alloc::Global;
 use std::io::{Read, Write};
 
-/// Does one command with these as standard input, output and error, and gives the exit status.
-pub fn perform<R: Read, W: Write, E: Write>(
+/// Does one command with these as standard input, output and error, and gives the exit status. A file that it opens
+/// as a store may have held anything: that is what `S` says.
+pub fn perform<S: Start, R: Read, W: Write, E: Write>(
     rt: &HostRuntime,
     alloc: Global,
     words: &[String],
     reader: &mut R,
     out: &mut W,
     err: &mut E,
+    start: S,
 ) -> u8
-    ensures performs { Performs (map string_bytes words.now) (R.remaining reader.old) (R.remaining reader.new)
-        (W.contents out.old) (W.contents out.new) (E.contents err.old) (E.contents err.new) result }
+    ensures performs { Performs ⟦<FileStoreFrom<S> as Store>⟧ (image_at S.Start) (map string_bytes words.now)
+        (R.remaining reader.old) (R.remaining reader.new) (W.contents out.old) (W.contents out.new)
+        (E.contents err.old) (E.contents err.new) result }
     ensures status { result ≤ 3 }
 {
-    match run(rt, alloc, words, reader, out) {
+    match run(rt, alloc, words, reader, out, start) {
         Ok(()) => 0,
         Err(fault) => tell(&fault, err),
     }

@@ -1,7 +1,6 @@
 //! Serves an office on a port of this machine.
-ghost use Rattle.std.specs.Prelude.{◌≡◌, ◌≤◌, true, ℕ};
 ghost use Rattle.office_core.specs.State.{State};
-ghost use Rattle.record_office.specs.Served.{AreSessions, sessions_of};
+ghost use Rattle.record_office.specs.Served.{AreSessions, Serves, sessions_of};
 
 use http_desk::session::talk;
 use office::Machine;
@@ -32,9 +31,7 @@ pub fn serve<M: Machine>(
     office: &mut M,
 ) -> bool
     ensures intact { M.is_intact office.new → M.is_intact office.old }
-    ensures served { M.is_intact office.new → (s : State) → M.shows office.old s
-        → (n : ℕ) × (t : State) × M.shows office.new t × AreSessions n s t × (n ≤ connections)
-        × (result ≡ true → n ≡ connections) }
+    ensures served { Serves M.shows M.is_intact connections office.old office.new result }
 {
     for _connection in 0..connections {
         if !serve_one(alloc, listener, office) {

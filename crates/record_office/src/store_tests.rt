@@ -2,12 +2,11 @@
 
 use crate::fakes::{Page, Pieces};
 use crate::serving::serve;
-use crate::stores::Kept;
 use crate::tests::{FONDS, Host, expect};
 use catalogue_store::LinkPlaces;
 use isad_core::Day;
 use office::{Office, Settings};
-use office_files::{close, find, make, unmake};
+use office_files::{FileStoreFrom, close, find, make, unmake};
 use span_places::SpanPlaces;
 use sqlite::{Connection, MemStore, Wary};
 use std::alloc::Global;
@@ -126,7 +125,7 @@ fn an_old_office_is_migrated(rt: HostRuntime) -> Result<(), Fail> {
     let store = new_path(&rt, alloc, "record_office_old.db")?;
     let store = store.as_str();
     let conn = make(&rt, store, Wary).ok().ok_or("no file")?;
-    let office = Office::<LinkPlaces, Kept>::create(conn, settings(alloc)?)
+    let office = Office::<LinkPlaces, FileStoreFrom<Wary>>::create(conn, settings(alloc)?)
         .ok()
         .ok_or("no office")?;
     close(office.into_connection());

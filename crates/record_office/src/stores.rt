@@ -1,28 +1,42 @@
 //! Offices in files.
-ghost use Rattle.std.specs.Prelude.{IfErr};
+//!
+//! What is said of a file's content is said for every start `S`: for whatever the file held when it was opened.
+ghost use Rattle.std.specs.Prelude.{IfErr, IfOk};
+ghost use Rattle.sqlite.specs.Files.{file_state};
+ghost use Rattle.sqlite.specs.State.{HasCleanDisk};
+ghost use Rattle.sqlite.specs.WalFiles.{image_at};
+ghost use Rattle.office.specs.Founding.{founded};
+ghost use Rattle.running_office.specs.Resting.{IsIn};
+ghost use Rattle.span_places.specs.Shows.{ShowsSpanRows};
+ghost use Rattle.tree_core.specs.Versions.{Spans};
 ghost use Rattle.record_office.specs.Faults.{IsUnopened};
+ghost use Rattle.record_office.specs.Kept.{IsFound};
 
 use crate::faults::Fault;
 use isad_core::Text;
 use office::{Office, Settings};
 use office_files::{FileStoreFrom, close, find, make, unmake};
 use span_places::SpanPlaces;
-use sqlite::Wary;
+use sqlite::Start;
 use std::alloc::Global;
 
-/// What keeps an office in a file. It supposes nothing of a write that a crash tears.
-pub type Kept = FileStoreFrom<Wary>;
+/// An office in a file that held what `S` says.
+pub type KeptOffice<S> = Office<SpanPlaces, FileStoreFrom<S>>;
 
 /// Makes a new office in a file that is not there yet. Where that fails, the file is taken away again.
-pub fn make_office(rt: &HostRuntime, store: &Text, settings: Settings) -> Result<(), Fault>
-    ensures { IfErr result IsUnopened }
+pub fn make_office<S: Start>(
+    rt: &HostRuntime,
+    store: &Text,
+    settings: Settings,
+    start: S,
+) -> Result<KeptOffice<S>, Fault>
+    ensures founded { IfOk result (λ office. HasCleanDisk (file_state office)
+        → IsIn ShowsSpanRows Spans (founded settings) (file_state office)) }
+    ensures fault { IfErr result IsUnopened }
 {
-    let conn = make(rt, store.as_str(), Wary)?;
-    match Office::<SpanPlaces, Kept>::create(conn, settings) {
-        Ok(office) => {
-            close(office.into_connection());
-            Ok(())
-        }
+    let conn = make(rt, store.as_str(), start)?;
+    match KeptOffice::<S>::create(conn, settings) {
+        Ok(office) => Ok(office),
         Err((fault, conn)) => {
             close(conn);
             unmake(rt, store.as_str());
@@ -31,16 +45,19 @@ pub fn make_office(rt: &HostRuntime, store: &Text, settings: Settings) -> Result
     }
 }
 
-/// Opens the office in a file.
-pub fn open_office(
+/// Opens the office in a file: the one that the tables in the file say.
+pub fn open_office<S: Start>(
     rt: &HostRuntime,
     alloc: Global,
     store: &Text,
-) -> Result<Office<SpanPlaces, Kept>, Fault>
-    ensures { IfErr result IsUnopened }
+    start: S,
+) -> Result<KeptOffice<S>, Fault>
+    ensures found { IfOk result (λ office. HasCleanDisk (file_state office)
+        → IsFound (image_at S.Start) (file_state office)) }
+    ensures fault { IfErr result IsUnopened }
 {
-    let conn = find(rt, store.as_str(), Wary)?;
-    match Office::<SpanPlaces, Kept>::adopt(alloc, conn) {
+    let conn = find(rt, store.as_str(), start)?;
+    match KeptOffice::<S>::adopt(alloc, conn) {
         Ok(office) => Ok(office),
         Err((fault, conn)) => {
             close(conn);
@@ -50,6 +67,6 @@ pub fn open_office(
 }
 
 /// Closes the file of an office.
-pub fn close_office(office: Office<SpanPlaces, Kept>) {
+pub fn close_office<S: Start>(office: KeptOffice<S>) {
     close(office.into_connection());
 }

@@ -3,7 +3,7 @@
 //! At most 4294967295 reads are made of a stream, and as many writes: an interrupted one counts and
 //! is tried again, and where one more would be needed the stream has failed. Flushes are counted by
 //! themselves.
-ghost use Rattle.std.specs.Prelude.{◌≡◌, ◌++◌, ℕ, List, [], IfOk, OnOk, codes};
+ghost use Rattle.std.specs.Prelude.{◌≡◌, ◌≤◌, ◌++◌, ℕ, List, [], IfOk, OnOk, codes};
 ghost use Rattle.std.specs.Io.KnownBytes.{Appends, Consumes, IsAtEnd};
 ghost use Rattle.record_office.specs.Streams.{IsFront};
 
@@ -86,26 +86,38 @@ pub fn write_whole<W: Write>(writer: &mut W, bytes: &[u8]) -> Result<(), WriteFa
     flush(writer)
 }
 
-/// Writes the bytes and a line feed, and flushes.
+/// Writes the bytes and a line feed, which count as one text, and flushes.
 pub fn write_line<W: Write>(writer: &mut W, bytes: &[u8]) -> Result<(), WriteFault>
     ensures whole { OnOk result (Appends (W.contents writer.old) (W.contents writer.new) (bytes.now ++ codes "\n")) }
     ensures front { (written : List ℕ) × IsFront written (bytes.now ++ codes "\n")
         × Appends (W.contents writer.old) (W.contents writer.new) written }
 {
-    write_whole(writer, bytes)?;
-    write_whole(writer, b"\n")
+    line_within(writer, bytes, CALLS)?;
+    flush(writer)
 }
 
-// Writes the bytes, in at most so many writes.
-fn write_within<W: Write>(writer: &mut W, bytes: &[u8], writes: u32) -> Result<(), WriteFault>
+// Writes the bytes and a line feed, in at most so many writes in all.
+fn line_within<W: Write>(writer: &mut W, bytes: &[u8], writes: u32) -> Result<(), WriteFault>
+    ensures whole { OnOk result (Appends (W.contents writer.old) (W.contents writer.new) (bytes.now ++ codes "\n")) }
+    ensures front { (written : List ℕ) × IsFront written (bytes.now ++ codes "\n")
+        × Appends (W.contents writer.old) (W.contents writer.new) written }
+{
+    let left = write_within(writer, bytes, writes)?;
+    write_within(writer, b"\n", left)?;
+    Ok(())
+}
+
+// Writes the bytes, in at most so many writes, and gives how many of these are left.
+fn write_within<W: Write>(writer: &mut W, bytes: &[u8], writes: u32) -> Result<u32, WriteFault>
     ensures whole { OnOk result (Appends (W.contents writer.old) (W.contents writer.new) bytes.now) }
+    ensures left { IfOk result (λ left. left ≤ writes) }
     ensures front { (written : List ℕ) ×
         IsFront written bytes.now × Appends (W.contents writer.old) (W.contents writer.new) written }
 {
     let mut rest = bytes;
-    for _write in 0..writes {
+    for write in 0..writes {
         if rest.is_empty() {
-            return Ok(());
+            return Ok(writes - write);
         }
         match writer.write(rest) {
             Ok(0) => return Err(WriteFault),
@@ -118,7 +130,7 @@ fn write_within<W: Write>(writer: &mut W, bytes: &[u8], writes: u32) -> Result<(
         }
     }
     if rest.is_empty() {
-        Ok(())
+        Ok(0)
     } else {
         Err(WriteFault)
     }
@@ -147,7 +159,8 @@ mod tests {
     use crate::fakes::{Page, Pieces};
     use std::test::Fail;
 
-    // Three bytes and the end come in eight reads, four of them interrupted, and go in six writes.
+    // Three bytes and the end come in eight reads, four of them interrupted, and go in six writes; so do two and a
+    // line feed.
     #[test]
     fn calls_are_counted(rt: HostRuntime) -> Result<(), Fail> {
         for reads in 0..10u32 {
@@ -158,6 +171,9 @@ mod tests {
             let mut page = Page::interrupted(Vec::new(rt.alloc()), 1);
             let written = write_within(&mut page, b"abc", writes);
             assert_eq!(rt; written.is_ok(), writes >= 6, "{writes} writes");
+            let mut page = Page::interrupted(Vec::new(rt.alloc()), 1);
+            let written = line_within(&mut page, b"ab", writes);
+            assert_eq!(rt; written.is_ok(), writes >= 6, "{writes} writes of a line");
         }
         let mut full = Page::interrupted(Vec::new(rt.alloc()), 0);
         assert!(rt; write_within(&mut full, b"abc", 10).is_err());

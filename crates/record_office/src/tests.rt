@@ -3,6 +3,7 @@ use crate::perform::perform;
 use crate::printed_help::HELP;
 use crate::tasks::{Task, TaskFault};
 use crate::words::{given, task};
+use sqlite::Wary;
 use std::alloc::Global;
 use std::process::Abort;
 use std::test::Fail;
@@ -95,6 +96,7 @@ pub fn expect<R: Abort + Host>(
         &mut reader,
         &mut out,
         &mut err,
+        Wary,
     );
     let (wanted_status, wanted_out, wanted_err) = wanted;
     assert_eq!(rt; status, wanted_status, "status of {words}");
@@ -261,6 +263,7 @@ fn a_status_stands_without_its_text(rt: HostRuntime) -> Result<(), Fail> {
             &mut reader,
             &mut out,
             &mut err,
+            Wary,
         );
         assert_eq!(rt; status, 1);
         assert_eq!(rt; err.held.as_slice(), &told[..n]);

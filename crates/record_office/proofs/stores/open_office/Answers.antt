@@ -1,5 +1,22 @@
+use Rattle.sqlite.specs.Files.{file_state}
+use Rattle.office_tables.proofs.Calls.{early}
 use Rattle.record_office.proofs.Judgments.{unopened}
+use Rattle.record_office.proofs.StoreLemmas.{held_in}
 use Rattle.record_office.proofs.stores.open_office.Goals as goal
 
-pub returns-in-Err : goal.returns-in-Err
-returns-in-Err c = unopened c.in-Err.fault c.from.result c.from.ensures
+pub returns-in-Ok-clause-found : goal.returns-in-Ok-clause-found
+returns-in-Ok-clause-found g c clean =
+    let found = file_state c.in_ok-conn.conn in
+    let clean_found = early found (file_state c.in-Ok.office) _ c.in-Ok.ensures.crash clean in
+    let opened = c.in-Ok.ensures.opens clean in
+    record {
+      found = found.now;
+      held = held_in _ found (c.in_ok-conn.ensures.opened clean_found).0 (c.in_ok-conn.ensures.found clean_found);
+      verdict = opened.sound;
+      same = opened.same;
+      shows = c.in-Ok.ensures.shows clean;
+      sound = λ whole open_still. c.in-Ok.ensures.sound clean open_still whole;
+    }
+
+pub returns-in-Err-clause-fault : goal.returns-in-Err-clause-fault
+returns-in-Err-clause-fault g c = unopened c.in-Err.fault c.from.result c.from.ensures
