@@ -1,6 +1,6 @@
 #!/usr/bin/env bash
 # Measures the calls of a crate: bench/measure.sh desk, forests, tables, reading_room (the desk's tables), or office
-# (commands and questions in a file).
+# (commands and questions in a file: bench/measure.sh office [2000|20000|200000|growth ..], without a word 20000).
 # The program is built beside a copy of the crates, so that nothing is left behind here.
 set -euo pipefail
 top=$(cd "$(dirname "$0")/.." && pwd)
@@ -9,9 +9,11 @@ desk) needs="isad_core desk_core anyhow" ;;
 forests) needs="tree_core" ;;
 tables) needs="isad_core tree_core catalogue_core office_tables catalogue_rows catalogue_store desk_store sqlite" ;;
 reading_room) needs="isad_core tree_core desk_core catalogue_core office_tables catalogue_rows catalogue_store desk_checks desk_store sqlite" ;;
-office) needs="isad_core desk_core catalogue_store span_places office_core running_office sqlite" ;;
-*) echo "usage: bench/measure.sh desk|forests|tables|reading_room|office" >&2; exit 2 ;;
+office) needs="isad_core desk_core catalogue_store span_places place_checks office_core running_office sqlite" ;;
+*) echo "usage: bench/measure.sh desk|forests|tables|reading_room|office [WORDS]" >&2; exit 2 ;;
 esac
+words=("${@:2}")
+[ "$1" != office ] || [ $# -gt 1 ] || words=(20000)
 copy=$(mktemp -d)
 trap 'rm -rf "$copy"' EXIT
 cp -r "$top/crates" "$copy/crates"
@@ -24,4 +26,4 @@ if [ -d "$top/bench/$1" ]; then
     find "$copy/crates/measured/proofs" -name '*.proof' | while read -r file; do mv "$file" "${file%.proof}.antt"; done
 fi
 cd "$copy/crates/measured"
-rt run
+rt run -- "${words[@]}"
