@@ -3,6 +3,7 @@ use Rattle.std.proofs.Common.{◌≡◌, ℕ, suc, ◌+◌, Bool, true, false, n
 use Rattle.std.specs.Prelude.{nat_lt, option_map}
 use Rattle.std.specs.Option.{option_to_list}
 use Rattle.std.specs.Str.{bytes_eq}
+use Rattle.std.proofs.lemmas.Slice.Eq.{bytes_eq-Decides}
 use Rattle.isad_core.specs.Limits.{most_deep}
 use Rattle.isad_core.specs.Texts.{Bytes}
 use Rattle.atom_csv.specs.declared.file.Row.{Row}
@@ -29,6 +30,19 @@ module _ (f : Forest Unit) (source : Bytes) where
     count = omega arith;
   }
 
+  -- how deep a row below a catalogued unit lies was asked for, and is known from then on
+  pub knows_parent : (above : List Row) (below after : Bytes → Option ℕ) (p : Bytes) (d : ℕ) → KnowsDepths f source above below
+      → below p ≡ None → depth_under f source (Some p) [] ≡ Some d → ((q : Bytes) → after q ≡ cond (bytes_eq q p) (Some d) (below q))
+      → KnowsDepths f source above after
+  knows_parent above below after p d knows none depth more parent =
+      at (bytes_eq parent p) refl ∙ sym (ap (λ o. or_there o (depth_under f source (Some parent) [])) (more parent))
+    where
+      at : (b : Bool) → bytes_eq parent p ≡ b → depth_under f source (Some parent) above ≡ or_there (cond b (Some d) (below parent)) (depth_under f source (Some parent) [])
+      at true e =
+          let same : parent ≡ p = (bytes_eq-Decides parent p).0 e in
+          ap (λ q. depth_under f source (Some q) above) same ∙ (knows p ∙ (ap (λ o. or_there o (depth_under f source (Some p) [])) none ∙ depth))
+      at false e = knows parent
+
   abbrev sorted : Bool → Row → List Row → List Row
   sorted known row rest = cond (not known) (row ∷ new_of f source rest) (new_of f source rest)
 
@@ -45,14 +59,15 @@ module _ (f : Forest Unit) (source : Bytes) where
           deep true h = absurd (cc)
           deep false h = absurd (cc)
 
-  pub goes_known : (below : Bytes → Option ℕ) (new : ℕ) (all rest : List Row) (row : Row) → (it : IsPlanned below new all (row ∷ rest)) → placing.Known ≡ placing_of f source it.above row → IsPlanned below new all rest
-  goes_known below new all rest row it e =
-      let known : new_of f source (row ∷ rest) ≡ new_of f source rest = ap (λ (b : Bool). sorted b row rest) (known_so it.above row e) in
+  pub goes_known : (below known : Bytes → Option ℕ) (new : ℕ) (all rest : List Row) (row : Row) → (it : IsPlanned below new all (row ∷ rest)) → KnowsDepths f source it.above known
+      → placing.Known ≡ placing_of f source it.above row → IsPlanned known new all rest
+  goes_known below known new all rest row it knows e =
+      let same : new_of f source (row ∷ rest) ≡ new_of f source rest = ap (λ (b : Bool). sorted b row rest) (known_so it.above row e) in
       record {
         above = it.above;
-        knows = it.knows;
-        faults = it.faults ∙ ap (faults_below f source it.above) known;
-        count = it.count ∙ ap (λ rows. new + length rows) known;
+        knows = knows;
+        faults = it.faults ∙ ap (faults_below f source it.above) same;
+        count = it.count ∙ ap (λ rows. new + length rows) same;
       }
 
   -- the row is new, and lies so deep or cannot be placed
@@ -80,9 +95,9 @@ module _ (f : Forest Unit) (source : Bytes) where
       → faults_below f source above (row ∷ rest) ≡ option_to_list (option_map (λ cause. (row.row, cause)) cause) ++ faults_below f source (row ∷ above) rest
   told_cause row above rest cause e = ap (λ (o : Option ℕ). option_to_list (option_map (λ cause. (row.row, cause)) o) ++ faults_below f source (row ∷ above) rest) e
 
-  pub goes_new : (below after : Bytes → Option ℕ) (new : ℕ) (all rest : List Row) (row : Row) (k : ℕ) → (it : IsPlanned below new all (row ∷ rest)) → placing.Fits k ≡ placing_of f source it.above row
-      → ((q : Bytes) → after q ≡ cond (bytes_eq q row.legacy) (Some k) (below q)) → IsPlanned after (new + 1) all rest
-  goes_new below after new all rest row k it e more =
+  pub goes_new : (below known after : Bytes → Option ℕ) (new : ℕ) (all rest : List Row) (row : Row) (k : ℕ) → (it : IsPlanned below new all (row ∷ rest)) → KnowsDepths f source it.above known
+      → placing.Fits k ≡ placing_of f source it.above row → ((q : Bytes) → after q ≡ cond (bytes_eq q row.legacy) (Some k) (known q)) → IsPlanned after (new + 1) all rest
+  goes_new below known after new all rest row k it knows e more =
       let at = comes_at it.above row k e in
       let d = at.0 in
       let come = at.1 in
@@ -95,9 +110,9 @@ module _ (f : Forest Unit) (source : Bytes) where
       }
     where
       deeper : (d : ℕ) → depth_under f source row.parent it.above ≡ Some d → k ≡ suc d → (parent : Bytes) (b : Bool)
-          → cond b (option_map suc (depth_under f source row.parent it.above)) (depth_under f source (Some parent) it.above) ≡ or_there (cond b (Some k) (below parent)) (depth_under f source (Some parent) [])
+          → cond b (option_map suc (depth_under f source row.parent it.above)) (depth_under f source (Some parent) it.above) ≡ or_there (cond b (Some k) (known parent)) (depth_under f source (Some parent) [])
       deeper d depth is parent true = ap (option_map suc) depth ∙ ap Some (sym is)
-      deeper d depth is parent false = it.knows parent
+      deeper d depth is parent false = knows parent
 
   -- ---- the end
 

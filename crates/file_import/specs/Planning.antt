@@ -43,8 +43,8 @@ abbrev pub or_there : Option ℕ → Option ℕ → Option ℕ
 or_there None there = there
 or_there (Some depth) there = Some depth
 
--- By the numbers of the new rows above it is known how deep a row right below each lies; any other parent is looked for in
--- the catalogue.
+-- By the numbers of the new rows above, and of the catalogued units that were asked for, it is known how deep a row right
+-- below each lies; any other parent is looked for in the catalogue.
 abbrev pub KnowsDepths : Forest Unit → Bytes → List Row → (Bytes → Option ℕ) → Type 0
 KnowsDepths f source above below =
     (parent : Bytes) → depth_under f source (Some parent) above ≡ or_there (below parent) (depth_under f source (Some parent) [])

@@ -50,19 +50,21 @@ enum Placing {
     Faulty { cause: u8 },
 }
 
-/// How deep a new row lies, where a top is 1; none where its parent is not there.
+/// How deep a new row lies, where a top is 1; none where its parent is not there. Of a parent that is catalogued the path
+/// is asked for once: it takes a statement for each row beside it, and many rows of a file may have the same parent.
 fn depth_of<P: Places, S: Alter>(
     alloc: Global,
     conn: &mut Connection<S>,
     source: &Text,
-    depths: &ByLegacy,
+    depths: &mut ByLegacy,
     row: &Row,
 ) -> Result<Option<u64>, StoreFault>
     requires inside { InTransaction P.version (state S.Store conn.old) }
     ensures tells { Tells S.Store (Shows P.shows P.version) IsKept conn.old conn.new result (λ _. ⊤)
         (λ _ c depth. AreGoodUnits c
-        → (above : List RowTold) → KnowsDepths c.forest source.now above (get_by_text depths.now)
-        → depth ≡ depth_under c.forest source.now row.now.parent above) }
+        → (above : List RowTold) → KnowsDepths c.forest source.now above (get_by_text depths.old)
+        → (depth ≡ depth_under c.forest source.now row.now.parent above)
+        × KnowsDepths c.forest source.now above (get_by_text depths.new)) }
 {
     let Some(parent) = &row.parent else {
         return Ok(Some(1));
@@ -74,7 +76,9 @@ fn depth_of<P: Places, S: Alter>(
     if path.is_empty() {
         return Ok(None);
     }
-    Ok(Some(path.len() as u64 + 1))
+    let depth = path.len() as u64 + 1;
+    remember(depths, alloc, parent, depth)?;
+    Ok(Some(depth))
 }
 
 /// What becomes of a new row that lies so deep.
@@ -93,14 +97,15 @@ fn place<P: Places, S: Alter>(
     alloc: Global,
     conn: &mut Connection<S>,
     source: &Text,
-    depths: &ByLegacy,
+    depths: &mut ByLegacy,
     row: &Row,
 ) -> Result<Placing, StoreFault>
     requires inside { InTransaction P.version (state S.Store conn.old) }
     ensures tells { Tells S.Store (Shows P.shows P.version) IsKept conn.old conn.new result (λ _. ⊤)
         (λ _ c placing. AreGoodUnits c
-        → (above : List RowTold) → KnowsDepths c.forest source.now above (get_by_text depths.now)
-        → placing ≡ placing_of c.forest source.now above row.now) }
+        → (above : List RowTold) → KnowsDepths c.forest source.now above (get_by_text depths.old)
+        → (placing ≡ placing_of c.forest source.now above row.now)
+        × KnowsDepths c.forest source.now above (get_by_text depths.new)) }
 {
     if known(alloc, conn, source, &row.legacy)?.is_some() {
         return Ok(Placing::Known);
@@ -123,7 +128,7 @@ pub(crate) fn plan<P: Places, S: Alter>(
     let mut depths = ByLegacy::new(alloc);
     let mut new = 0;
     for row in rows {
-        match place::<P, S>(alloc, conn, source, &depths, row)? {
+        match place::<P, S>(alloc, conn, source, &mut depths, row)? {
             Placing::Known => {}
             Placing::Fits { below } => {
                 remember(&mut depths, alloc, &row.legacy, below)?;

@@ -34,7 +34,7 @@ returns-then-is_some g c =
         answers = λ clean o k it good above knows.
             let is = is_from c.args.source.now c.args.row.now.legacy in
             let there : is_known k.forest c.args.source.now c.args.row.now ≡ true = sym (finds_so is k.forest c.in_ok-known.field-0 (told.answers clean tt k.forest it.catalogue.units)) ∙ sym c.is_some.ensures ∙ c.if-is_some.true in
-            sym (ap (λ (b : Bool). cond b placing.Known (at_depth (depth_under k.forest c.args.source.now c.args.row.now.parent above))) there);
+            (sym (ap (λ (b : Bool). cond b placing.Known (at_depth (depth_under k.forest c.args.source.now c.args.row.now.parent above))) there), knows);
         looks = told.looks;
         cut = tt;
         faults = λ o k it may kept clean free. tt;
@@ -54,9 +54,11 @@ returns g c =
             let at_b = early b d _ deep.looks.goes.on.crash clean in
             let is = is_from c.args.source.now c.args.row.now.legacy in
             let new : is_known k.forest c.args.source.now c.args.row.now ≡ false = sym (finds_so is k.forest c.in_ok-known.field-0 (told.answers at_b tt k.forest it.catalogue.units)) ∙ sym c.is_some.ensures ∙ c.if-is_some.false in
-            let depth = deep.answers clean o k (subst (λ (db : Database). Shows g.P.Places.shows g.P.Places.version db o k) (sym (told.looks.same at_b)) it) good above knows in
-            c.placed.ensures ∙ (ap at_depth depth
-            ∙ sym (ap (λ (b : Bool). cond b placing.Known (at_depth (depth_under k.forest c.args.source.now c.args.row.now.parent above))) new));
+            let depth = deep.answers clean o k (subst (λ (db : Database). Shows g.P.Places.shows g.P.Places.version db o k) (sym (told.looks.same at_b)) it) good above knows in (
+              c.placed.ensures ∙ (ap at_depth depth.0
+                  ∙ sym (ap (λ (b : Bool). cond b placing.Known (at_depth (depth_under k.forest c.args.source.now c.args.row.now.parent above))) new)),
+              depth.1,
+            );
         looks = looks_then a b d told.looks deep.looks;
         cut = tt;
         faults = λ o k it may kept clean free. tt;

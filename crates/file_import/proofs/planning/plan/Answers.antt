@@ -28,7 +28,7 @@ returns-in-Faulty g c =
             let planned = subst (IsPlanned k.forest c.args.source.now (get_by_text c.loop-row.depths) c.loop-row.new rows) rest (c.loop-row.invariant.so_far at_b o k it good) in
             let shown = subst (λ (db : Database). Shows g.P.Places.shows g.P.Places.version db o k) (sym (looks.same at_b)) it in
             ends_faulty k.forest c.args.source.now (get_by_text c.loop-row.depths) c.loop-row.new rows (drop (i + 1) rows) item c.in-Faulty.cause planned
-            (sym c.in-Faulty.is ∙ told.answers clean o k shown good planned.above planned.knows);
+            (sym c.in-Faulty.is ∙ (told.answers clean o k shown good planned.above planned.knows).0);
         looks = looks_then a b d looks told.looks;
         cut = tt;
         faults = λ o k it may kept clean free. tt;
@@ -59,14 +59,15 @@ loop-row-preserved g c =
           let at_b = early b d _ told.looks.goes.on.crash clean in
           let planned = subst (IsPlanned k.forest c.args.source.now (get_by_text c.loop-row.depths) c.loop-row.new rows) rest (c.loop-row.invariant.so_far at_b o k it good) in
           let shown = subst (λ (db : Database). Shows g.P.Places.shows g.P.Places.version db o k) (sym (looks.same at_b)) it in
-          let is = told.answers clean o k shown good planned.above planned.knows in
+          let both = told.answers clean o k shown good planned.above planned.knows in
+          let is = both.0 in
           elim c.match-branch-2.branch [
             | in-Known w ↦
                 rw (w.depths-is, w.new-is)
-                (goes_known k.forest c.args.source.now (get_by_text c.loop-row.depths) c.loop-row.new rows (drop (i + 1) rows) item planned (sym w.in-Known.is ∙ is))
+                (goes_known k.forest c.args.source.now (get_by_text c.loop-row.depths) (get_by_text c.place.new.depths) c.loop-row.new rows (drop (i + 1) rows) item planned both.1 (sym w.in-Known.is ∙ is))
             | in-Fits+in_ok-remember-in-Fits w ↦
                 rw (w.depths-is, w.new-is)
-                (goes_new k.forest c.args.source.now (get_by_text c.loop-row.depths) (get_by_text w.remember.new.kept) c.loop-row.new rows (drop (i + 1) rows) item w.in-Fits.below planned (sym w.in-Fits.is ∙ is) w.in_ok-remember-in-Fits.ensures)
+                (goes_new k.forest c.args.source.now (get_by_text c.loop-row.depths) (get_by_text c.place.new.depths) (get_by_text w.remember.new.kept) c.loop-row.new rows (drop (i + 1) rows) item w.in-Fits.below planned both.1 (sym w.in-Fits.is ∙ is) w.in_ok-remember-in-Fits.ensures)
           ];
     }
 
