@@ -40,7 +40,7 @@ impl FromRow for WaitingOrder {
 }
 
 /// The orders that wait for a container, by number. They are found by the index of the orders by
-/// state and container, so that those that have ended are not looked at.
+/// state, container and ticket, so that those that have ended are not looked at.
 pub(crate) fn waiting_for<S: Alter>(
     alloc: Global,
     conn: &mut Connection<S>,
@@ -64,7 +64,7 @@ pub(crate) fn waiting_for<S: Alter>(
     )
 }
 
-/// How many orders wait for a container. They are counted by the index of the orders by state and container.
+/// How many orders wait for a container. They are counted by the same index.
 fn count_waiting<S: Alter>(conn: &mut Connection<S>, container: u64) -> Result<u32, StoreFault>
     requires inside { InOffice (state S.Store conn.old) }
     requires small { IsNumber container }
