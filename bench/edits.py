@@ -1,6 +1,6 @@
 """Tries edits that the prover has to refuse, many of different functions in one check of a copy of the crate.
 
-  edits.sh [--gate] [--jobs N] [--said FOLDER] [CRATE | CRATE/EDIT ..]
+  edits.sh [--gate] [--over] [--jobs N] [--said FOLDER] [CRATE | CRATE/EDIT ..]
 
 An edit is a file of bench/edits/CRATE (with --gate: of crates/CRATE/must-fail), written as `rt ci` reads it: lines
 `file: PATH`, `old: TEXT`, `new: TEXT`. It counts as refused where the check says of the edited function itself that
@@ -9,9 +9,11 @@ edit a function, and none whose text another of the round changes. What a round 
 nothing is hidden by the other edits. An edit outside any function (a constant, a definition) is always tried by
 itself, and is refused where any function or lemma of the crate is.
 
-The copy stands over the work that `rt check` kept in out/, so check the crate first. Verdicts: `refused`, `PROVED`
-(the contracts let the wrong body through), `unreadable` (its text is gone, or what it makes does not compile). The
-last line has the counts; the exit status is 1 where one is proved or unreadable.
+The copy stands over the work that `rt check` kept in out/, so check the crate first. With --over each check is
+bench/check.sh's, over the libraries that are there: no walk over what they were made from, which takes minutes in the
+upper crates. Verdicts: `refused`, `PROVED` (the contracts let the wrong body through), `unreadable` (its text is gone,
+or what it makes does not compile). The last line has the counts; the exit status is 1 where one is proved or
+unreadable.
 """
 
 import argparse
@@ -123,8 +125,9 @@ def round_of(edits, folder):
 class Bench:
     """A copy of a crate, over the work that its last check kept, and of what it stands on."""
 
-    def __init__(self, crate, room, jobs, said):
-        self.crate, self.jobs, self.said, self.folder = crate, jobs, said, f"{room}/crates/{crate}"
+    def __init__(self, crate, room, words, said):
+        self.crate, self.said, self.folder = crate, said, f"{room}/crates/{crate}"
+        self.words = [it.format(room=room, crate=crate) for it in words]
         lines = [it for it in open(f"{TOP}/crates.txt", encoding="utf-8") if re.match(r"\w+", it)]
         below = {it.split(":")[0].split()[0]: it.split(":")[1].split() for it in lines}
         wanted, queue = set(), [crate]
@@ -139,6 +142,8 @@ class Bench:
             shutil.copytree(f"{TOP}/crates/{name}", f"{room}/crates/{name}", ignore=leave)
         with open(f"{room}/crates.txt", "w", encoding="utf-8") as out:
             out.writelines(it for it in lines if re.match(r"\w+", it)[0] in wanted)
+        os.mkdir(f"{room}/bench")
+        shutil.copy(f"{TOP}/bench/check.sh", f"{room}/bench")
         if os.path.isfile(f"{TOP}/HANDLES"):
             shutil.copy(f"{TOP}/HANDLES", room)
 
@@ -148,8 +153,7 @@ class Bench:
         before = {path: open(f"{self.folder}/{path}", encoding="utf-8").read() for path in texts}
         try:
             self.write(texts)
-            words = ["rt", "check", "--jobs", str(self.jobs)]
-            ran = subprocess.run(words, cwd=self.folder, stdin=subprocess.DEVNULL, capture_output=True, text=True)
+            ran = subprocess.run(self.words, cwd=self.folder, stdin=subprocess.DEVNULL, capture_output=True, text=True)
             self.keep(f"=== {' '.join(it.name for it in edits)}\n{ran.stdout}{ran.stderr}\n")
             return ran.stdout + ran.stderr
         finally:
@@ -215,10 +219,12 @@ def try_edits(bench, edits):
 def main():
     words = argparse.ArgumentParser(prog="edits.sh", description=__doc__.split("\n")[0])
     words.add_argument("--gate", action="store_true", help="the edits of crates/CRATE/must-fail")
+    words.add_argument("--over", action="store_true", help="check over the libraries that are there")
     words.add_argument("--jobs", type=int, default=1, help="the processors of one check")
     words.add_argument("--said", metavar="FOLDER", help="keep what each check said there")
     words.add_argument("names", nargs="*", metavar="CRATE | CRATE/EDIT", help="those of a crate, or one edit")
     given = words.parse_args()
+    check = ["{room}/bench/check.sh", "{crate}"] if given.over else ["rt", "check", "--jobs", str(given.jobs)]
     of = (lambda it: f"{TOP}/crates/{it}/must-fail") if given.gate else (lambda it: f"{TOP}/bench/edits/{it}")
     crates = [it for it in sorted(os.listdir(f"{TOP}/crates")) if os.path.isdir(of(it))]
     names = dict.fromkeys(it.split("/")[0] for it in given.names) or crates
@@ -229,7 +235,7 @@ def main():
         edits = [Edit(f"{of(crate)}/{it}", crate, f"{TOP}/crates/{crate}") for it in files]
         print(f"{crate}: {len(edits)} edits", flush=True)
         with tempfile.TemporaryDirectory(prefix="edits-") as room:
-            try_edits(Bench(crate, room, given.jobs, given.said), edits)
+            try_edits(Bench(crate, room, check, given.said), edits)
         for edit in edits:
             counts[edit.verdict] += 1
             print(f"{edit.verdict:10} {crate}/{edit.name}: {edit.why[:200]}", flush=True)

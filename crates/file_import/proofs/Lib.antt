@@ -1,6 +1,7 @@
 pub mod Tellings
 pub mod FoundPaths
 pub mod Planned
+pub mod Climbed
 pub mod Remarked
 pub mod SameValues
 pub mod GoodMerges

@@ -22,10 +22,10 @@ module _ (f : Forest Unit) (source : Bytes) where
     pub faults : faults_below f source [] (new_of f source all) ≡ faults_below f source above (new_of f source rest)
     pub count : length (new_of f source all) ≡ new + length (new_of f source rest)
 
-  pub begins : (below : Bytes → Option ℕ) (all : List Row) → ((q : Bytes) → below q ≡ None) → IsPlanned below 0 all all
-  begins below all none = record {
+  pub begins : (below : Bytes → Option ℕ) (all : List Row) → KnowsDepths f source [] below → IsPlanned below 0 all all
+  begins below all knows = record {
     above = [];
-    knows = λ parent. sym (ap (λ o. or_there o (depth_under f source (Some parent) [])) (none parent));
+    knows = knows;
     faults = refl;
     count = omega arith;
   }

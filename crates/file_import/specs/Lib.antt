@@ -2,5 +2,6 @@ pub mod Entering
 pub mod Turns
 pub mod Arriving
 pub mod Planning
+pub mod Climbing
 pub mod Remarking
 pub mod Importing

@@ -2,6 +2,7 @@
 #![tactic(auto)]
 
 mod arriving;
+mod climbing;
 mod entering;
 mod importing;
 mod legacy;

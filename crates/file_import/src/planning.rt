@@ -12,6 +12,7 @@ ghost use Rattle.office_tables.specs.Step.{InTransaction};
 ghost use Rattle.catalogue_rows.specs.Shows.{Shows};
 ghost use Rattle.file_import.specs.Planning.{KnowsDepths, at_depth, placing_of, plan_of};
 
+use crate::climbing::depths_below_many;
 use crate::legacy::{ByLegacy, remember};
 use crate::paths::path_of;
 use atom_csv::Row;
@@ -51,7 +52,7 @@ enum Placing {
 }
 
 /// How deep a new row lies, where a top is 1; none where its parent is not there. Of a parent that is catalogued the path
-/// is asked for once: it takes a statement for each row beside it, and many rows of a file may have the same parent.
+/// is asked for once, as many rows of a file may have the same parent.
 fn depth_of<P: Places, S: Alter>(
     alloc: Global,
     conn: &mut Connection<S>,
@@ -125,7 +126,7 @@ pub(crate) fn plan<P: Places, S: Alter>(
     ensures tells { Tells S.Store (Shows P.shows P.version) IsKept conn.old conn.new result (λ _. ⊤)
         (λ _ c told. AreGoodUnits c → told ≡ plan_of c.forest source.now rows.now) }
 {
-    let mut depths = ByLegacy::new(alloc);
+    let mut depths = depths_below_many::<P, S>(alloc, conn, source, rows)?;
     let mut new = 0;
     for row in rows {
         match place::<P, S>(alloc, conn, source, &mut depths, row)? {

@@ -13,8 +13,8 @@ use Rattle.file_import.proofs.planning.plan.Given as goal
 abbrev pub invariant-loop-row : goal.invariant-loop-row
 invariant-loop-row g l = record {
   inside : InTransaction g.P.Places.version (state g.S.Store l.conn);
-  looks : Looks (state g.S.Store l.initial.conn) (state g.S.Store l.conn);
+  looks : Looks (state g.S.Store l.fn.conn) (state g.S.Store l.conn);
   few : l.new ≤ l.row-index;
-  so_far : HasCleanDisk (state g.S.Store l.conn) → (o : OfficeRow) (c : Catalogue) → Shows g.P.Places.shows g.P.Places.version (state g.S.Store l.initial.conn).now o c → AreGoodUnits c
+  so_far : HasCleanDisk (state g.S.Store l.conn) → (o : OfficeRow) (c : Catalogue) → Shows g.P.Places.shows g.P.Places.version (state g.S.Store l.fn.conn).now o c → AreGoodUnits c
       → IsPlanned c.forest l.source (get_by_text l.depths) l.new l.rows (drop l.row-index l.rows);
 }
