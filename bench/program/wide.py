@@ -1,0 +1,66 @@
+#!/usr/bin/env python3
+"""Measures pages of units that stand among many side by side, with the built program over an office in a file:
+
+    bench/program/wide.py [--program PROGRAM] [--room DIRECTORY] [EACH]
+
+One fonds has five series, and each of these so many files right below it, 3998 where no number is named (then 19,996 units
+in one import). For some places among the files it prints the milliseconds of a page by the clock and of the processor, the
+mean of fifty requests of one session, the opening not in them. Every answer has to be a 200.
+"""
+import argparse
+import os
+import tempfile
+import time
+
+import measure
+
+SERIES = 5
+REQUESTS = 50
+PLACES = [10, 100, 500, 1000, 2000, 3000, 3900]
+
+
+class Wide:
+    """The rows of such an office. Units get their numbers in the order of the rows."""
+
+    def __init__(self, each):
+        self.each, self.rows = each, 1 + SERIES * (1 + each)
+        self.series = [2 + nth * (1 + each) for nth in range(SERIES)]
+
+    def row(self, unit, parent, level):
+        return (
+            f"{unit},{parent},{unit},Minutes of the board {unit},{level},Published,1774-1893,1 volume,"
+            f'"{measure.SCOPE}",Box {unit},Strongroom\n'
+        )
+
+    def write(self, file, name):
+        with open(name, "w", encoding="utf-8") as it:
+            it.write(measure.HEADER + self.row(1, "", "Fonds"))
+            for series in self.series:
+                it.write(self.row(series, 1, "Series"))
+                it.writelines(self.row(series + nth, series, "File") for nth in range(1, self.each + 1))
+
+    def pages(self, place):
+        """Pages of files from this place on, in each series in turn."""
+        units = [self.series[nth % SERIES] + place + nth // SERIES for nth in range(REQUESTS)]
+        return [measure.get(f"/public/units/{unit}") for unit in units]
+
+
+def main():
+    words = argparse.ArgumentParser(description=__doc__, formatter_class=argparse.RawDescriptionHelpFormatter)
+    words.add_argument("--program", default=measure.BUILT)
+    words.add_argument("--room")
+    words.add_argument("each", nargs="?", type=int, default=3998)
+    told = words.parse_args()
+    office = Wide(told.each)
+    with tempfile.TemporaryDirectory(dir=told.room) as folder:
+        program = measure.Program(os.path.realpath(told.program), folder)
+        program.begin()
+        program.import_file(office, 0, "new")
+        print(f"{office.rows:,} units, {time.strftime('%Y-%m-%d %H:%M')}, load {os.getloadavg()[0]:.1f}")
+        for place in (it for it in PLACES if it + REQUESTS // SERIES <= office.each):
+            spent = program.ask(office.pages(place))
+            print(f"file {place:,} of {office.each:,}: {spent.wall * 1000 / REQUESTS:.2f} {spent.processor * 1000 / REQUESTS:.2f}")
+
+
+if __name__ == "__main__":
+    main()
