@@ -47,7 +47,7 @@ class Function:
         impls = list(IMPL.finditer(text, 0, self.start)) if at[1] else []
         self.type = impls[-1][1] if impls else ""
         where = re.escape("::".join([crate, *module]))
-        held = rf"{self.type}\w*" if self.type else ""
+        held = rf"{self.type}[\w+]*" if self.type else ""
         self.line = re.compile(rf"{where}::(?:{held}::)?(?:fn::)?(?:{held}::)?{self.name}(?![A-Za-z0-9_])")
         self.key = (path, self.type, self.name)
 

@@ -2,11 +2,12 @@
 # Tests of the built program over stores in files, by other programs too. rt ci builds it (crates/record_office/out).
 #   bench/program/run.sh [PROGRAM]
 # Here: each exit status, `serve` by curl, a store by sqlite3, what `check` says where sqlite3 changed a row, and the
-# file of version 1 that is kept beside this. days.py: days of an office, over `trial` and over `talk`. rounds.py: every
-# command and question fifty times in one session. stopped.py: commands that are stopped after each change of their
-# files. killed.py: kill -9 in the middle of imports and sessions.
+# file of version 1 that is kept beside this. days.py: days of an office, over `trial` and over `talk`. limits.py: days at
+# the limits of an office and of a connection. rounds.py: every command and question fifty times in one session.
+# stopped.py: commands that are stopped after each change of their files. killed.py: kill -9 in the middle of imports and
+# sessions.
 # It ends with 1 where something is other than wanted. What wants curl, sqlite3 or a C compiler is left out, and said,
-# where that is missing and cannot be installed.
+# where that is missing and cannot be installed; in CI that too is wrong.
 set -euo pipefail
 here=$(cd "$(dirname "$0")" && pwd)
 program=$(realpath "${1:-$here/../../crates/record_office/out/record_office}")
@@ -36,10 +37,12 @@ wants() {
 
 # has NAME [PACKAGE]: whether there is such a program, or it can be installed
 has() {
-    command -v "$1" >/dev/null || timeout 120 apt-get install -y -q "${2:-$1}" >/dev/null 2>&1 || {
-        echo "left out what wants $1, which is not here"
-        return 1
-    }
+    command -v "$1" >/dev/null && return
+    timeout 120 apt-get update -q >/dev/null 2>&1 || true
+    timeout 120 apt-get install -y -q "${2:-$1}" >/dev/null 2>&1 && return
+    echo "left out what wants $1, which is not here"
+    if [ -n "${CI:-}" ]; then wrong=1; fi
+    return 1
 }
 
 printf '%s\n' 'legacyId,parentId,identifier,title,levelOfDescription,publicationStatus' \
@@ -61,10 +64,21 @@ one_store() {
     wants 'version 2 already' 3 '' 'store fault' migrate --store "$store" </dev/null
     head -c 4096 /dev/zero >"$room/zeros.db"
     wants 'no store' 3 '' 'store fault' check --store "$room/zeros.db" </dev/null
+    which_fault_first
     printf 'GET /public/fonds HTTP/1.1\r\nHost: x\r\n\r\nGET' >"$room/cut"
     local answer=$'HTTP/1.1 200 OK\r\nContent-Type: text/plain; charset=utf-8\r\nContent-Length: 40\r\n\r\n'
     answer+='1 GB 0999 HUL [Fonds] Hull Dock Company'
     wants 'a session that is cut' 3 "$answer" 'cut' talk --store "$store" <"$room/cut"
+}
+
+# Of two faults the first is told: of file, store and port.
+which_fault_first() {
+    local zeros=(import --store "$room/zeros.db" --source a) none=(import --store "$room/none.db" --source a)
+    wants 'no file for no store' 3 '' 'file fault' "${zeros[@]}" "$room/none.csv" </dev/null
+    wants 'a file for no store' 3 '' 'store fault' "${zeros[@]}" "$room/fonds.csv" </dev/null
+    wants 'a bad file for no store' 3 '' 'store fault' "${zeros[@]}" /dev/null </dev/null
+    wants 'a file for a store that is not there' 3 '' 'file fault' "${none[@]}" "$room/fonds.csv" </dev/null
+    wants 'a session with no store' 3 '' 'store fault' talk --store "$room/zeros.db" </dev/null
 }
 
 # Words that say no settings: of an option that stands twice clap takes neither, so each stands once.
@@ -103,6 +117,10 @@ served() {
     same 'the port' "$(cat "$room/served")" "listening $port"
     wants 'a port that is taken' 3 '' 'net fault' \
         serve --store "$room/second.db" --port "$port" --connections 1 </dev/null
+    wants 'a port that is taken for no store' 3 '' 'store fault' \
+        serve --store "$room/zeros.db" --port "$port" --connections 1 </dev/null
+    wants 'a port that is taken for a store that is not there' 3 '' 'file fault' \
+        serve --store "$room/none.db" --port "$port" --connections 1 </dev/null
     breaks "$port" closed || same 'a connection that is closed' "$?" 0
     breaks "$port" reset || same 'a connection that is reset' "$?" 0
     local url=http://127.0.0.1:$port ask=(curl -s -S -m 10)
@@ -116,6 +134,21 @@ served() {
         --next "${told[@]}" -d '{"ticket":1,"container":7}' "$url/public/orders")" \
         $'{"ticket":1} 200\n{"error":"not found"} 404\n{"code":5,"refused":"NotAvailable"} 409'
     wait "$serving" || same 'the end of serve' "$?" 0
+    served_again "$port"
+}
+
+# served_again PORT: a service manager begins the server again, right after its end, on the same port.
+served_again() {
+    local serving
+    timeout 60 "$program" serve --store "$store" --port "$1" --connections 1 >"$room/served" 2>"$room/err" &
+    serving=$!
+    for _ in $(seq 100); do
+        grep -q . "$room/served" "$room/err" && break
+        sleep 0.1
+    done
+    same 'the same port again' "$(cat "$room/served" "$room/err")" "listening $1"
+    same 'a list again' "$(curl -s -S -m 10 "http://127.0.0.1:$1/public/fonds")" '1 GB 0999 HUL [Fonds] Hull Dock Company'
+    wait "$serving" || same 'the second end of serve' "$?" 0
 }
 
 # What sqlite3 finds in the file: nothing wrong, and a branch by its numbers.
@@ -124,6 +157,17 @@ read_by_sqlite() {
     same 'foreign_key_check' "$(sqlite3 "$store" 'PRAGMA foreign_key_check')" ''
     same 'a branch' "$(sqlite3 "$store" 'SELECT below.id, below.lft, below.rgt FROM span AS top, span AS below
         WHERE top.id = 1 AND below.lft BETWEEN top.lft AND top.rgt ORDER BY below.lft')" $'1|1|4\n2|2|3'
+}
+
+# A file of SQLite's that is no office: no command takes it.
+other_tables() {
+    local other=$room/other.db
+    sqlite3 "$other" 'CREATE TABLE unit (id INTEGER PRIMARY KEY); INSERT INTO unit VALUES (1)'
+    wants 'tables of another' 3 '' 'store fault' check --store "$other" </dev/null
+    wants 'a file for tables of another' 3 '' 'store fault' import --store "$other" --source a "$room/fonds.csv" </dev/null
+    wants 'a session with tables of another' 3 '' 'store fault' talk --store "$other" </dev/null
+    wants 'a migration of tables of another' 3 '' 'store fault' migrate --store "$other" </dev/null
+    same 'tables of another still' "$(sqlite3 "$other" .dump | grep -c 'unit')" 2
 }
 
 # What `check` says where a statement of sqlite3 has changed the store of a day.
@@ -178,10 +222,12 @@ bad_settings
 if has curl; then served; fi
 if has sqlite3; then
     read_by_sqlite
+    other_tables
     changed_by_sqlite
 fi
 an_old_store
-python3 "$here/days.py" "$program" "$fast" || wrong=1
+timeout 600 python3 "$here/days.py" "$program" "$fast" || wrong=1
+timeout 300 python3 "$here/limits.py" "$program" "$fast" || wrong=1
 timeout 120 python3 "$here/rounds.py" "$program" || wrong=1
 if has sqlite3 && has cc gcc; then timeout 900 python3 "$here/stopped.py" "$program" "$fast" all none || wrong=1; fi
 timeout 600 python3 "$here/killed.py" "$program" "$fast" || wrong=1

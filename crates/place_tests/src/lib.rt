@@ -4,6 +4,8 @@
 #[cfg(test)]
 mod catalogues;
 #[cfg(test)]
+mod changes;
+#[cfg(test)]
 mod links;
 #[cfg(test)]
 mod offices;

@@ -51,7 +51,10 @@ fn put<P: Places, S: Alter>(
 }
 
 /// Puts the units of the forest at their places, one after another.
-fn put_all<P: Places, S: Alter>(alloc: Global, conn: &mut Connection<S>) -> Result<(), StoreFault>
+pub(crate) fn put_all<P: Places, S: Alter>(
+    alloc: Global,
+    conn: &mut Connection<S>,
+) -> Result<(), StoreFault>
     requires inside { InTransaction P.version (state S.Store conn.old) }
     ensures inside { OnOk result (InTransaction P.version (state S.Store conn.new)) }
 {
