@@ -1,8 +1,8 @@
--- What lies in a container is the same without a branch, where neither its unit, nor one above it, nor one below it names
--- the container.
-use Rattle.std.proofs.Common.{◌≡◌, ℕ, ℤ, Bool, true, false, cond, not, ◌&&◌, List, [], ◌∷◌, ◌++◌, filter, nat_eq, refl, sym, ap, ap₂, ◌∙◌}
-use Rattle.std.specs.Prelude.{◌||◌}
-use Rattle.std.specs.List.{list_any, list_all, AllByRecursion}
+-- What lies in a container is the same without a branch, where its unit does not lie there, and none of its units names the
+-- container.
+use Rattle.std.proofs.Common.{◌≡◌, ℕ, ℤ, Bool, true, false, cond, not, ◌&&◌, List, [], ◌∷◌, ◌++◌, append_assoc, filter, nat_eq, Option, Some, None, refl, sym, ap, ap₂, ◌∙◌}
+use Rattle.std.specs.Prelude.{◌||◌, option_to_list}
+use Rattle.std.specs.List.{last_or, list_any, list_all, AllByRecursion}
 use Rattle.std.proofs.Math.Path.{fun_ext}
 use Rattle.std.proofs.lemmas.Bool.{and_parts, eqb-true}
 use Rattle.std.proofs.lemmas.List.{append-nil}
@@ -17,7 +17,8 @@ use Rattle.tree_core.proofs.MarkWalks.{list_all-append}
 use Rattle.tree_core.proofs.SpanShifts.{cut_none}
 use Rattle.catalogue_core.specs.Housing.{own_or, housed_below, housed, paths_below, is_withheld_from, is_some_there, is_open}
 use Rattle.catalogue_core.specs.Units.{Unit, has_id}
-use Rattle.shown_office.specs.Gate.{near}
+use Rattle.office_core.proofs.Words.{or_false}
+use Rattle.shown_office.specs.Gate.{names_some, near}
 
 -- ---- truths
 
@@ -56,6 +57,18 @@ module _ (box : BoxKey) where
       by_boxes [] e = above
       by_boxes (b ∷ boxes) e = e
 
+  -- a unit lies where the nearest that names some names the container
+  by_nearest : (found : Option Unit) (above : List BoxKey) → in_it above ≡ list_any names_box (option_to_list found) → (way : List Unit)
+      → in_it (housed_below above way) ≡ list_any names_box (option_to_list (last_or found (filter names_some way)))
+  by_nearest found above so [] = so
+  by_nearest found above so (unit ∷ way) = at unit.values.boxes refl (λ found above so. by_nearest found above so way)
+    where
+      at : (boxes : List BoxKey) → unit.values.boxes ≡ boxes
+          → ((found : Option Unit) (above : List BoxKey) → in_it above ≡ list_any names_box (option_to_list found) → in_it (housed_below above way) ≡ list_any names_box (option_to_list (last_or found (filter names_some way))))
+          → in_it (housed_below (own_or boxes above) way) ≡ list_any names_box (option_to_list (last_or found (cond (is_some_there boxes) (unit ∷ filter names_some way) (filter names_some way))))
+      at [] is further = further found above so
+      at (b ∷ boxes) is further = further (Some unit) (b ∷ boxes) (sym (ap in_it is) ∙ sym (or_false (names_box unit)))
+
   parted : (A : List Unit) (a : Unit) (c o : Forest Unit) → lying A (Node a c o) ≡ cond (lies (A ++ a ∷ [])) ((A ++ a ∷ []) ∷ (lying (A ++ a ∷ []) c ++ lying A o)) (lying (A ++ a ∷ []) c ++ lying A o)
   parted A a c o = ap (λ l. cond (lies (A ++ a ∷ [])) ((A ++ a ∷ []) ∷ l) l) (filter-append lies (paths_below (A ++ a ∷ []) c) (paths_below A o))
 
@@ -77,41 +90,39 @@ module _ (box : BoxKey) where
     has_by_id f = has-each (nat_eq u) id_of f
 
     -- the place of the unit: here, below, or beside
-    at_node : (A : List Unit) (a : Unit) (c o : Forest Unit) (is below : Bool) → nat_eq u a.id ≡ is → has (has_id u) c ≡ below → HasDistinctIds (each id_of (Node a c o)) → lies A ≡ false
-        → list_any names_box (cond is (a ∷ []) (cond below (a ∷ path (has_id u) c) (path (has_id u) o)) ++ nodes (cond is (Node a c Empty) (cond below (tree (has_id u) c) (tree (has_id u) o)))) ≡ false
-        → ((B : List Unit) → HasDistinctIds (each id_of c) → lies B ≡ false → list_any names_box (near u c) ≡ false → lying B c ≡ lying B (gone c))
-        → (HasDistinctIds (each id_of o) → list_any names_box (near u o) ≡ false → lying A o ≡ lying A (gone o))
+    at_node : (A : List Unit) (a : Unit) (c o : Forest Unit) (is below : Bool) → nat_eq u a.id ≡ is → has (has_id u) c ≡ below → HasDistinctIds (each id_of (Node a c o))
+        → lies (A ++ cond is (a ∷ []) (cond below (a ∷ path (has_id u) c) (path (has_id u) o))) ≡ false
+        → list_any names_box (nodes (cond is (Node a c Empty) (cond below (tree (has_id u) c) (tree (has_id u) o)))) ≡ false
+        → ((B : List Unit) → HasDistinctIds (each id_of c) → lies (B ++ path (has_id u) c) ≡ false → list_any names_box (branch (has_id u) c) ≡ false → lying B c ≡ lying B (gone c))
+        → (HasDistinctIds (each id_of o) → lies (A ++ path (has_id u) o) ≡ false → list_any names_box (branch (has_id u) o) ≡ false → lying A o ≡ lying A (gone o))
         → lying A (Node a c o) ≡ lying A (cond is (gone o) (Node a (gone c) (gone o)))
-    at_node A a c o true below here inside d above none in_c in_o =
+    at_node A a c o true below here inside d shut none in_c in_o =
         let p = parts a.id (each id_of c) (each id_of o) d in
-        let split = none_in names_box (a ∷ []) (a ∷ (nodes c ++ [])) none in
-        let one = neither (names_box a) (list_any names_box (nodes c ++ [])) split.1 in
+        let one = neither (names_box a) (list_any names_box (nodes c ++ [])) none in
         let quiet : list_any names_box (nodes c) ≡ false = ap (list_any names_box) (sym (append-nil (nodes c))) ∙ one.1 in
-        let shut = lies_no_more A a above one.0 in
         let absent : has (has_id u) o ≡ false = sym (has_by_id o) ∙ ap (λ n. has (nat_eq n) (each id_of o)) (eqb-true u a.id here) ∙ p.not_beside in
         parted A a c o
         ∙ ap (λ b. cond b ((A ++ a ∷ []) ∷ (lying (A ++ a ∷ []) c ++ lying A o)) (lying (A ++ a ∷ []) c ++ lying A o)) shut
         ∙ ap (λ l. l ++ lying A o) (nothing_below (A ++ a ∷ []) c shut quiet)
         ∙ ap (lying A) (sym (cut_none (has_id u) o absent))
-    at_node A a c o false true here inside d above none in_c in_o =
+    at_node A a c o false true here inside d shut none in_c in_o =
         let p = parts a.id (each id_of c) (each id_of o) d in
-        let one = neither (names_box a) (list_any names_box (path (has_id u) c ++ branch (has_id u) c)) none in
-        let shut = lies_no_more A a above one.0 in
         let absent : has (has_id u) o ≡ false = sym (has_by_id o) ∙ p.apart u (has_by_id c ∙ inside) in
+        let below : lies ((A ++ a ∷ []) ++ path (has_id u) c) ≡ false = ap lies (append_assoc A (a ∷ []) (path (has_id u) c)) ∙ shut in
         parted A a c o
-        ∙ ap₂ (λ x y. cond (lies (A ++ a ∷ [])) ((A ++ a ∷ []) ∷ (x ++ y)) (x ++ y)) (in_c (A ++ a ∷ []) p.children_distinct shut one.1) (ap (lying A) (sym (cut_none (has_id u) o absent)))
+        ∙ ap₂ (λ x y. cond (lies (A ++ a ∷ [])) ((A ++ a ∷ []) ∷ (x ++ y)) (x ++ y)) (in_c (A ++ a ∷ []) p.children_distinct below none) (ap (lying A) (sym (cut_none (has_id u) o absent)))
         ∙ sym (parted A a (gone c) (gone o))
-    at_node A a c o false false here inside d above none in_c in_o =
+    at_node A a c o false false here inside d shut none in_c in_o =
         let p = parts a.id (each id_of c) (each id_of o) d in
         parted A a c o
-        ∙ ap₂ (λ x y. cond (lies (A ++ a ∷ [])) ((A ++ a ∷ []) ∷ (x ++ y)) (x ++ y)) (ap (lying (A ++ a ∷ [])) (sym (cut_none (has_id u) c inside))) (in_o p.others_distinct none)
+        ∙ ap₂ (λ x y. cond (lies (A ++ a ∷ [])) ((A ++ a ∷ []) ∷ (x ++ y)) (x ++ y)) (ap (lying (A ++ a ∷ [])) (sym (cut_none (has_id u) c inside))) (in_o p.others_distinct shut none)
         ∙ sym (parted A a (gone c) (gone o))
 
-    pub same_lying : (A : List Unit) (f : Forest Unit) → HasDistinctIds (each id_of f) → lies A ≡ false → list_any names_box (near u f) ≡ false → lying A f ≡ lying A (gone f)
-    same_lying A Empty d above none = refl
-    same_lying A (Node a c o) d above none =
-        at_node A a c o (nat_eq u a.id) (has (has_id u) c) refl refl d above none
-        (λ B apart quiet none. same_lying B c apart quiet none) (λ apart none. same_lying A o apart above none)
+    same_lying : (A : List Unit) (f : Forest Unit) → HasDistinctIds (each id_of f) → lies (A ++ path (has_id u) f) ≡ false → list_any names_box (branch (has_id u) f) ≡ false → lying A f ≡ lying A (gone f)
+    same_lying A Empty d shut none = refl
+    same_lying A (Node a c o) d shut none =
+        at_node A a c o (nat_eq u a.id) (has (has_id u) c) refl refl d shut none
+        (λ B apart shut none. same_lying B c apart shut none) (λ apart shut none. same_lying A o apart shut none)
 
     -- what is seen of all that lies there, is seen of what is left
     module _ (seen : List Unit → Bool) where
@@ -180,12 +191,18 @@ module _ (box : BoxKey) where
   some_named A Empty above = refl
   some_named A (Node a c o) above = some_here A a c o above (λ shut. some_named (A ++ a ∷ []) c shut) (some_named A o above)
 
+-- The same lies there without the branch as with it.
+pub lying_without : (f : Forest Unit) (u : ℕ) (box : BoxKey) → HasDistinctIds (each id_of f) → list_any (names_box box) (near u f) ≡ false → lying box [] f ≡ lying box [] (cut (has_id u) f)
+lying_without f u box d none =
+    let apart = none_in (names_box box) (branch (has_id u) f) (option_to_list (last_or None (filter names_some (path (has_id u) f)))) none in
+    same_lying box u [] f d (by_nearest box None [] refl (path (has_id u) f) ∙ apart.1) apart.0
+
 -- The container is as open without the branch as with it.
 pub open_without : (f : Forest Unit) (u : ℕ) (box : BoxKey) (permitted : ℕ → Bool) (day : ℤ) → HasDistinctIds (each id_of f) → list_any (names_box box) (near u f) ≡ false
     → is_open f box permitted day ≡ is_open (cut (has_id u) f) box permitted day
 unfolding is_open
 open_without f u box permitted day d none =
-    ap (λ (found : List (List Unit)). is_some_there found && list_all (λ way. not (is_withheld_from permitted day way)) found) (same_lying box u [] f d refl none)
+    ap (λ (found : List (List Unit)). is_some_there found && list_all (λ way. not (is_withheld_from permitted day way)) found) (lying_without f u box d none)
 
 -- ---- a change of the units of a branch
 

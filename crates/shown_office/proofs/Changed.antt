@@ -1,11 +1,10 @@
 -- What the tables show after a change of the units or of their places.
-use Rattle.std.proofs.Common.{◌≡◌, ℕ, true, List, refl}
+use Rattle.std.proofs.Common.{◌≡◌, ℕ, true, List}
 use Rattle.sqlite.specs.Effect.{Database}
 use Rattle.sqlite.specs.Tree.{Trees}
 use Rattle.tree_core.specs.Forest.{Forest}
 use Rattle.tree_core.specs.Versions.{Version}
 use Rattle.catalogue_core.specs.LegibleCatalogues.{IsLegibleCatalogue}
-use Rattle.catalogue_core.specs.Merging.{Catalogue}
 use Rattle.catalogue_core.specs.Units.{Unit}
 use Rattle.catalogue_rows.specs.Shows.{Shows}
 use Rattle.office_core.specs.SoundOffice.{AreTexts}

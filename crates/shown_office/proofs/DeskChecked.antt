@@ -1,7 +1,6 @@
 -- The check of the desk's tables tells what the list of causes does.
-use Rattle.std.proofs.Common.{◌≡◌, ℕ, ℤ, List, [], ◌∷◌, ◌++◌, Bool, true, false, cond, ◌||◌, nat_eq, Option, Some, None, is_none, filter_map, option_map, refl, sym, ap, ap₂, ◌∙◌}
+use Rattle.std.proofs.Common.{◌≡◌, ℕ, ℤ, List, [], ◌∷◌, Bool, true, false, cond, ◌||◌, nat_eq, Option, Some, None, is_none, filter_map, option_map, refl, sym, ap, ap₂, ◌∙◌}
 use Rattle.std.specs.List.{list_any, cons_option}
-use Rattle.std.specs.Option.{option_map_or}
 use Rattle.std.specs.Cmp.{both_ways}
 use Rattle.std.proofs.lemmas.Bool.{or_parts, eqb-true, eq-eqb}
 use Rattle.sqlite.specs.Order.{Row, column}
@@ -10,7 +9,7 @@ use Rattle.tree_core.specs.Versions.{Version}
 use Rattle.desk_core.specs.DeskCauses.{Around}
 use Rattle.desk_core.specs.Orders.{in_order}
 use Rattle.desk_core.specs.declared.reader.Limits.{Limits}
-use Rattle.catalogue_core.specs.CatalogueRows.{OfficeRow, UnitRow, ContainerRow}
+use Rattle.catalogue_core.specs.CatalogueRows.{UnitRow, ContainerRow}
 use Rattle.catalogue_core.specs.CatalogueCauses.{places_are_bad, units_are_bad, elements_are_bad, containers_are_bad}
 use Rattle.office_tables.specs.Cells.{has_unread, number_in, whole_in, text_in, flag_in, or_null_in}
 use Rattle.office_tables.specs.CatalogueCells.{read_office, read_unit, read_element, read_container, read_housing}
@@ -22,11 +21,10 @@ use Rattle.doubtful_rows.specs.TableRows.{by, places_are_unread}
 use Rattle.office_rows.specs.CellCauses.{rows_in}
 use Rattle.office_rows.specs.Reading.{OfficeRows}
 use Rattle.office_rows.proofs.Judging.{none_held}
-use Rattle.desk_checks.specs.Checks.{around_in, is_numbered, cause_of, registration_is_doubtful, orders_are_doubtful, holdings_are_doubtful, runs_are_doubtful, doubt_of_desk, doubtful_desk}
+use Rattle.desk_checks.specs.Checks.{around_in, is_numbered, cause_of, registration_is_doubtful, orders_are_doubtful, holdings_are_doubtful, runs_are_doubtful, doubt_of_desk}
 use Rattle.doubtful_rows.specs.Readings.{read_number}
-use Rattle.desk_checks.specs.declared.doubt.DeskDoubt.{DeskDoubt}
 use Rattle.desk_checks.specs.declared.doubt.DeskDoubt.TheVariants.{Readers, Orders, Holdings, Runs}
-use Rattle.shown_office.specs.DeskChecked.{AreOfOffice, of_desk, DeskChecksTellTheCause}
+use Rattle.shown_office.specs.DeskChecked.{of_desk, DeskChecksTellTheCause}
 
 -- ---- which units and containers there are
 

@@ -1,6 +1,6 @@
 -- Where the rows say that containers are, also after one of them went to another place.
-use Rattle.std.proofs.Common.{◌≡◌, ◌≢◌, ℕ, zero, suc, ◌+◌, ◌<◌, ◌≤◌, pos, true, false, not, nat_eq, List, [], ◌∷◌, length, filter, Option, Some, None, Equal, Greater, inl, inr, refl, sym, ap, ◌∙◌, arith}
-use Rattle.std.specs.Prelude.{filter_map, is_some, nat_lt}
+use Rattle.std.proofs.Common.{◌≡◌, ℕ, zero, suc, ◌+◌, ◌<◌, ◌≤◌, pos, true, false, not, nat_eq, List, [], ◌∷◌, length, filter, Some, None, Equal, Greater, inl, inr, refl, sym, ap, ◌∙◌, arith}
+use Rattle.std.specs.Prelude.{filter_map, nat_lt}
 use Rattle.std.specs.List.{AllByRecursion, cons_option}
 use Rattle.std.specs.Ordering.{int_cmp}
 use Rattle.std.proofs.lemmas.Bool.{cases_eq}
@@ -11,7 +11,7 @@ use Rattle.desk_core.specs.declared.reader.Place.TheVariants.{Shelf, Desk, Out}
 use Rattle.desk_store.specs.Holdings.{placed_at, put_down}
 use Rattle.office_core.specs.Laws.{numbers_from}
 use Rattle.office_core.specs.State.{State, is_container}
-use Rattle.office_core.specs.Words.{numbered, numbers_to, put}
+use Rattle.office_core.specs.Words.{numbers_to, put}
 use Rattle.office_core.proofs.Counts.{numbered_from_one}
 use Rattle.office_core.proofs.Words.{numbered_within, put_here, put_there, same_number}
 use Rattle.office_rows.specs.DeskShown.{holding_row, holding_rows}

@@ -1,14 +1,17 @@
 -- The containers that the units near a unit name, as they are read from rows.
-use Rattle.std.proofs.Common.{◌≡◌, ℕ, ◌+◌, ◌<◌, Bool, true, false, cond, List, [], ◌∷◌, ◌++◌, length, map, filter, take, get_or, nat_eq, refl, sym, ap, ap₂, subst, ◌∙◌}
-use Rattle.std.specs.Prelude.{◌&&◌, ◌||◌, IsPermutation}
-use Rattle.std.specs.List.{AllByRecursion, list_any}
+use Rattle.std.proofs.Common.{◌≡◌, ℕ, ◌+◌, ◌<◌, Bool, true, false, cond, not, List, [], ◌∷◌, ◌++◌, length, map, filter, take, get_or, nat_eq, refl, sym, ap, ap₂, subst, ◌∙◌, arith}
+use Rattle.std.specs.Prelude.{◌&&◌, ◌||◌, IsPermutation, Option, Some, None, option_map, option_to_list}
+use Rattle.std.specs.List.{AllByRecursion, last_or, list_any}
+use Rattle.std.proofs.lemmas.Bool.Decides.{nat_tests}
 use Rattle.std.proofs.lemmas.List.{append-nil, take_more}
+use Rattle.std.proofs.lemmas.List.Elements.{filter_more}
 use Rattle.std.proofs.lemmas.List.Folds.{list_any-append}
 use Rattle.std.proofs.lemmas.List.Sorted.{list_any-IsPermutation}
 use Rattle.sqlite.specs.Tree.{Trees}
 use Rattle.isad_core.specs.declared.values.BoxKey.{BoxKey}
 use Rattle.tree_core.specs.Forest.{Forest, Empty, Node, branch, has, nodes, path, tree}
 use Rattle.tree_core.proofs.Lists.{any_agree, eqb_comm, list_any-map}
+use Rattle.catalogue_core.specs.Housing.{is_some_there}
 use Rattle.catalogue_core.specs.Marking.{names}
 use Rattle.catalogue_core.specs.Merging.{box_number}
 use Rattle.catalogue_core.specs.Units.{Unit, has_id}
@@ -18,7 +21,7 @@ use Rattle.catalogue_rows.specs.Rows.{HousingRow, counted_from}
 use Rattle.catalogue_rows.specs.Shows.{ShowsHousings, housing_cells, housings_of}
 use Rattle.catalogue_rows.specs.declared.answer.Housing.{Housing}
 use Rattle.office_core.proofs.Words.{or_false}
-use Rattle.shown_office.specs.Gate.{is_one_of, near, says_so}
+use Rattle.shown_office.specs.Gate.{has_row, is_one_of, names_some, near, says_so}
 
 -- ---- lists
 
@@ -57,6 +60,16 @@ one_more xs n i units found named low before here =
     ∙ ap₂ ◌||◌ before (here ∙ sym (or_false (told (get_or units i 0))))
     ∙ sym (ap (list_any told) (take_more units i 0 low) ∙ list_any-append told (take i units) (get_or units i 0 ∷ []))
 
+ended : {X : Type 0} (x : X) (b : Bool) (found : Option X) (xs : List X) → last_or found (xs ++ cond b (x ∷ []) []) ≡ cond b (Some x) (last_or found xs)
+ended x true found [] = refl
+ended x true found (y ∷ xs) = ended x true (Some y) xs
+ended x false found xs = ap (last_or found) (append-nil xs)
+
+-- the last that is so, with one more
+pub last_more : (is : ℕ → Bool) (units : List ℕ) (i : ℕ) → i < length units
+    → last_or None (filter is (take (i + 1) units)) ≡ cond (is (get_or units i 0)) (Some (get_or units i 0)) (last_or None (filter is (take i units)))
+last_more is units i low = ap (last_or None) (filter_more is units i 0 low) ∙ ended (get_or units i 0) (is (get_or units i 0)) None (filter is (take i units))
+
 -- ---- the units near a unit
 
 pub all_path : {A : Type 0} (P : A → Type 0) (is : A → Bool) (f : Forest A) → AllByRecursion P (nodes f) → AllByRecursion P (path is f)
@@ -80,6 +93,35 @@ all_branch P is (Node a c o) h =
     at true below own in_c in_o = (h.0, own)
     at false true own in_c in_o = in_c
     at false false own in_c in_o = in_o
+
+pub all_last : {A : Type 0} (P : A → Type 0) (is : A → Bool) (found : Option A) (xs : List A) → AllByRecursion P (option_to_list found) → AllByRecursion P xs → AllByRecursion P (option_to_list (last_or found (filter is xs)))
+all_last P is found [] h all = h
+all_last P is found (x ∷ xs) h all = at (is x) (all_last P is (Some x) xs (all.0, tt) all.1) (all_last P is found xs h all.1)
+  where
+    at : (b : Bool) → AllByRecursion P (option_to_list (last_or (Some x) (filter is xs))) → AllByRecursion P (option_to_list (last_or found (filter is xs)))
+        → AllByRecursion P (option_to_list (last_or found (cond b (x ∷ filter is xs) (filter is xs))))
+    at true taken left = taken
+    at false taken left = left
+
+pub all_near : (P : Unit → Type 0) (u : ℕ) (f : Forest Unit) → AllByRecursion P (nodes f) → AllByRecursion P (near u f)
+all_near P u f h =
+    all_append P (branch (has_id u) f) (option_to_list (last_or None (filter names_some (path (has_id u) f))))
+    (all_branch P (has_id u) f h) (all_last P names_some None (path (has_id u) f) tt (all_path P (has_id u) f h))
+
+-- the last that is so, of others for which the same is so
+pub last_of_others : {X Y : Type 0} (g : X → Y) (p : Y → Bool) (q : X → Bool) (found : Option X) (xs : List X) → AllByRecursion (λ x. p (g x) ≡ q x) xs
+    → option_to_list (last_or (option_map g found) (filter p (map g xs))) ≡ map g (option_to_list (last_or found (filter q xs)))
+last_of_others g p q None [] all = refl
+last_of_others g p q (Some x) [] all = refl
+last_of_others g p q found (x ∷ xs) all =
+    ap (λ b. option_to_list (last_or (option_map g found) (cond b (g x ∷ filter p (map g xs)) (filter p (map g xs))))) all.0
+    ∙ at (q x) (last_of_others g p q (Some x) xs all.1) (last_of_others g p q found xs all.1)
+  where
+    at : (b : Bool) → option_to_list (last_or (Some (g x)) (filter p (map g xs))) ≡ map g (option_to_list (last_or (Some x) (filter q xs)))
+        → option_to_list (last_or (option_map g found) (filter p (map g xs))) ≡ map g (option_to_list (last_or found (filter q xs)))
+        → option_to_list (last_or (option_map g found) (cond b (g x ∷ filter p (map g xs)) (filter p (map g xs)))) ≡ map g (option_to_list (last_or found (cond b (x ∷ filter q xs) (filter q xs))))
+    at true taken left = taken
+    at false taken left = left
 
 -- ---- what the rows of the units near it say
 
@@ -112,4 +154,52 @@ module _ (db : Trees) (f : Forest Unit) (containers : List BoxKey) (shown : Show
   unfolding IsSaid
   near_named u =
       let each_said : AllByRecursion IsSaid (nodes f) = all_so (λ (unit : Unit). IsPermutation (housing_cells containers unit.values) (housings_of unit.id shown.housings)) IsSaid says (nodes f) shown.are in
-      all_said (near u f) (all_append IsSaid (path (has_id u) f) (branch (has_id u) f) (all_path IsSaid (has_id u) f each_said) (all_branch IsSaid (has_id u) f each_said))
+      all_said (near u f) (all_near IsSaid u f each_said)
+
+-- ---- which unit has containers of its own
+
+some_counted : (k : ℕ) (boxes : List BoxKey) → list_any (λ _. true) (counted_from k boxes) ≡ is_some_there boxes
+some_counted k [] = refl
+some_counted k (b ∷ boxes) = refl
+
+some_filtered : {X : Type 0} (p : X → Bool) (xs : List X) → list_any (λ _. true) (filter p xs) ≡ list_any p xs
+some_filtered p [] = refl
+some_filtered p (x ∷ xs) = at (p x) (some_filtered p xs)
+  where
+    at : (b : Bool) → list_any (λ _. true) (filter p xs) ≡ list_any p xs → list_any (λ _. true) (cond b (x ∷ filter p xs) (filter p xs)) ≡ (b || list_any p xs)
+    at true e = refl
+    at false e = e
+
+pub some_told : {X Y : Type 0} (f : X → Y) (xs : List X) → not (nat_eq (length (map f xs)) 0) ≡ list_any (λ _. true) xs
+some_told f [] = refl
+some_told f (x ∷ xs) = grind (arith, nat_tests)
+
+-- the rows of a unit are none where no row is of the unit
+pub rows_of_unit : (xs ys : List HousingRow) (unit : ℕ) → IsPermutation (filter (λ (h : HousingRow). nat_eq unit h.unit) xs) ys → has_row xs unit ≡ list_any (λ _. true) ys
+rows_of_unit xs ys unit same =
+    sym (some_filtered (λ (h : HousingRow). nat_eq unit h.unit) xs)
+    ∙ list_any-IsPermutation (λ _. true) (filter (λ (h : HousingRow). nat_eq unit h.unit) xs) ys same
+
+module _ (db : Trees) (f : Forest Unit) (containers : List BoxKey) (shown : ShowsHousings db f containers) where
+  own_cell : HousingRow → ℕ × ℕ
+  own_cell h = (h.ord, h.container)
+
+  HasRows : Unit → Type 0
+  HasRows unit = has_row shown.housings unit.id ≡ names_some unit
+
+  has_rows : (unit : Unit) → IsPermutation (housing_cells containers unit.values) (housings_of unit.id shown.housings) → HasRows unit
+  unfolding own_cell HasRows
+  has_rows unit same =
+      let mine : HousingRow → Bool = λ (h : HousingRow). nat_eq unit.id h.unit in
+      sym (some_filtered mine shown.housings)
+      ∙ sym (list_any-map (λ _. true) own_cell (filter mine shown.housings))
+      ∙ sym (list_any-IsPermutation (λ _. true) (housing_cells containers unit.values) (housings_of unit.id shown.housings) same)
+      ∙ list_any-map (λ _. true) (λ (box : ℕ × BoxKey). (let c : ℕ × ℕ = (box.0, box_number containers box.1) in c)) (counted_from 1 unit.values.boxes)
+      ∙ some_counted 1 unit.values.boxes
+
+  -- the last of a path that has rows is the last that names some
+  pub last_with_rows : (u : ℕ) → option_to_list (last_or None (filter (has_row shown.housings) (map (λ (unit : Unit). unit.id) (path (has_id u) f)))) ≡ map (λ (unit : Unit). unit.id) (option_to_list (last_or None (filter names_some (path (has_id u) f))))
+  unfolding HasRows
+  last_with_rows u =
+      let each_has : AllByRecursion HasRows (nodes f) = all_so (λ (unit : Unit). IsPermutation (housing_cells containers unit.values) (housings_of unit.id shown.housings)) HasRows has_rows (nodes f) shown.are in
+      last_of_others (λ (unit : Unit). unit.id) (has_row shown.housings) names_some None (path (has_id u) f) (all_path HasRows (has_id u) f each_has)

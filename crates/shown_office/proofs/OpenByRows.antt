@@ -27,7 +27,6 @@ use Rattle.office_core.specs.State as office
 use Rattle.office_core.specs.State.{State, is_permitted, opens}
 use Rattle.office_core.specs.Words.{is_empty, numbered, some_and}
 use Rattle.office_rows.specs.DeskShown.{permit_rows}
-use Rattle.office_rows.specs.Reading.{permits_said}
 use Rattle.office_rows.proofs.ReadBack.{permits_known}
 use Rattle.shown_office.specs.Judging.{CanBeJudged}
 use Rattle.shown_office.specs.Openness.{TellsAllClean, allows}

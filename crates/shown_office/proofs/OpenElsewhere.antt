@@ -1,7 +1,7 @@
 -- After a change near a unit, what is out elsewhere is open to the reader who has it, as it was.
 use Rattle.std.proofs.Common.{◌≡◌, ℕ, ℤ, Bool, true, false, cond, not, List, [], ◌∷◌, ◌++◌, map, Option, Some, None, nat_eq, refl, sym, ap, ap₂, ◌∙◌}
-use Rattle.std.specs.Prelude.{◌&&◌, ◌||◌, IsPermutation}
-use Rattle.std.specs.List.{AllByRecursion, list_all, list_any}
+use Rattle.std.specs.Prelude.{◌&&◌, ◌||◌, IsPermutation, filter, option_to_list}
+use Rattle.std.specs.List.{AllByRecursion, last_or, list_all, list_any}
 use Rattle.std.proofs.Math.Path.{fun_ext}
 use Rattle.std.proofs.lemmas.Bool.{and_parts, false≢true}
 use Rattle.std.proofs.lemmas.List.Sorted.{list_any-IsPermutation}
@@ -19,12 +19,12 @@ use Rattle.office_core.specs.Rules.{is_kept_from_holder}
 use Rattle.office_core.specs.SoundOffice.{IsSoundOffice}
 use Rattle.office_core.specs.State.{Order, Permit, State, is_permitted, opens, order_out}
 use Rattle.office_core.specs.Words.{numbered, some_and}
-use Rattle.shown_office.specs.Gate.{OthersAreOpen, is_named_near, near}
+use Rattle.shown_office.specs.Gate.{OthersAreOpen, is_named_near, names_some, near}
 use Rattle.shown_office.specs.Judging.{CanBeJudged}
-use Rattle.shown_office.proofs.BranchesApart.{cut_alike, fewer, lying, names_box, open_without, same_lying, some_named}
+use Rattle.shown_office.proofs.BranchesApart.{cut_alike, fewer, lying, lying_without, names_box, open_without, some_named}
 use Rattle.shown_office.proofs.Judged.{judged_now}
 use Rattle.shown_office.proofs.NamedContainers.{names_one}
-use Rattle.shown_office.proofs.NearRows.{all_branch, all_path}
+use Rattle.shown_office.proofs.NearRows.{all_near, last_of_others}
 use Rattle.shown_office.proofs.OpenByPermits.{IsAlike, open_alike}
 
 abbrev id_of : Unit → ℕ
@@ -49,7 +49,7 @@ named_near s judged u n box is =
     let f = s.catalogue.forest in
     let P = IsKnown s.catalogue.containers in
     let known = judged.containers.known in
-    named_alike s.catalogue.containers judged.containers.apart n box is (near u f) (all_append P (path (has_id u) f) (branch (has_id u) f) (all_path P (has_id u) f known) (all_branch P (has_id u) f known))
+    named_alike s.catalogue.containers judged.containers.apart n box is (near u f) (all_near P u f known)
 
 -- ---- what is out elsewhere
 
@@ -103,10 +103,17 @@ module _ (g : Unit → Unit) (u : ℕ) (f : Forest Unit) (ids : (unit : Unit) �
   same_test : (λ (unit : Unit). has_id u (g unit)) ≡ has_id u
   same_test = fun_ext (λ (unit : Unit). ap (nat_eq u) (ids unit))
 
+  names_alike : (units : List Unit) → AllByRecursion (λ unit. names_some (g unit) ≡ names_some unit) units
+  names_alike [] = tt
+  names_alike (unit ∷ units) = (ap is_some_there (boxes unit), names_alike units)
+
   near_alike : near u (each g f) ≡ map g (near u f)
   near_alike =
-      ap₂ ◌++◌ (path-each (has_id u) g f ∙ ap (λ is. map g (path is f)) same_test) (branch-each (has_id u) g f ∙ ap (λ is. map g (branch is f)) same_test)
-      ∙ sym (map-append g (path (has_id u) f) (branch (has_id u) f))
+      let way : List Unit = path (has_id u) f in
+      ap₂ ◌++◌ (branch-each (has_id u) g f ∙ ap (λ is. map g (branch is f)) same_test)
+      (ap (λ units. option_to_list (last_or None (filter names_some units))) (path-each (has_id u) g f ∙ ap (λ is. map g (path is f)) same_test)
+      ∙ last_of_others g names_some names_some None way (names_alike way))
+      ∙ sym (map-append g (branch (has_id u) f) (option_to_list (last_or None (filter names_some way))))
 
   named_as_before : (box : BoxKey) → list_any (names_box box) (near u (each g f)) ≡ list_any (names_box box) (near u f)
   named_as_before box =
@@ -131,7 +138,7 @@ stays_moved u old new once cuts same box permitted day far was =
     let seen : List Unit → Bool = λ way. not (is_withheld_from permitted day way) in
     let parts = and_parts (is_some_there (lying box [] old)) (list_all seen (lying box [] old)) was in
     let some : is_some_there (lying box [] (cut (has_id u) new)) ≡ true =
-    ap is_some_there (sym (same_lying box u [] new once refl far))
+    ap is_some_there (sym (lying_without new u box once far))
     ∙ some_named box [] new refl
     ∙ sym (list_any-IsPermutation (names_box box) (nodes old) (nodes new) same)
     ∙ sym (some_named box [] old refl)

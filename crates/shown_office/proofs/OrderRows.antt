@@ -6,7 +6,7 @@ use Rattle.desk_core.specs.DeskRows.{OrderRow}
 use Rattle.desk_store.specs.Orders.{IsThere, order_with}
 use Rattle.desk_store.specs.Orders as store
 use Rattle.desk_store.specs.declared.orders.PlacedOrder.{PlacedOrder}
-use Rattle.office_core.specs.Laws.{Standing, Waiting, WithItsReader, Ended, stands_as, standing}
+use Rattle.office_core.specs.Laws.{Waiting, WithItsReader, Ended, stands_as, standing}
 use Rattle.office_core.specs.State.{Cancelled, Done, End, Order, State, container_of, waits}
 use Rattle.office_core.specs.Words.{numbered, some_and}
 use Rattle.office_rows.specs.DeskShown.{order_row, state_number}

@@ -1,9 +1,9 @@
 -- Where a container is and who waits for it, as the rows of the desk tell.
-use Rattle.std.proofs.Common.{◌≡◌, ℕ, Bool, true, false, cond, ◌&&◌, nat_eq, List, [], ◌∷◌, map, filter, Some, None, refl, sym, ap, subst, ◌∙◌, inl, inr}
+use Rattle.std.proofs.Common.{◌≡◌, ℕ, Bool, true, false, cond, ◌&&◌, nat_eq, List, [], ◌∷◌, map, filter, Some, refl, sym, ap, subst, ◌∙◌, inl, inr}
 use Rattle.std.specs.Prelude.{filter_map, find, option_map}
 use Rattle.std.specs.List.{cons_option}
 use Rattle.catalogue_core.specs.Members.{StandsIn}
-use Rattle.desk_core.specs.DeskRows.{HoldingRow, OrderRow, waiting_for}
+use Rattle.desk_core.specs.DeskRows.{HoldingRow, OrderRow}
 use Rattle.desk_core.specs.declared.reader.Place.{Place}
 use Rattle.desk_core.specs.declared.reader.Place.TheVariants.{Shelf, Desk, Out}
 use Rattle.desk_store.specs.Orders.{IsAt}

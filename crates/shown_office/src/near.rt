@@ -1,8 +1,8 @@
 //! After a change within a branch of units, nothing that is out may be withheld from the reader who has it. Only a
-//! container that a unit of the branch, or one above it, names can be: where much is out, only these are asked.
+//! container in which a unit of the branch lies can be: where more than a few are out, only these are asked.
 
-ghost use Rattle.std.specs.Prelude.{◌≡◌, ⊤, ℕ, List, map, filter, nat_eq, IfOk};
-ghost use Rattle.std.specs.List.{AllByRecursion, list_any};
+ghost use Rattle.std.specs.Prelude.{◌≡◌, ⊤, ℕ, List, ◌++◌, None, map, filter, nat_eq, option_to_list, IfOk};
+ghost use Rattle.std.specs.List.{AllByRecursion, last_or, list_any};
 ghost use Rattle.std.specs.List.Sorted.{IsNonDecreasing};
 ghost use Rattle.sqlite.specs.Held.{state};
 ghost use Rattle.sqlite.specs.State.{HasCleanDisk};
@@ -16,7 +16,7 @@ ghost use Rattle.office_tables.specs.Faults.{Excused};
 ghost use Rattle.office_tables.specs.Numbered.{HoldsNumbered};
 ghost use Rattle.office_tables.specs.Schema as tables;
 ghost use Rattle.office_tables.specs.Step.{InOffice, InTransaction};
-ghost use Rattle.shown_office.specs.Gate.{AreAsked, AreEnough, AreNear, OthersAreOpen, gated, is_one_of, says_so};
+ghost use Rattle.shown_office.specs.Gate.{AreAsked, AreEnough, AreNear, OthersAreOpen, gated, has_row, is_one_of, says_so};
 ghost use Rattle.shown_office.specs.Judging.{CanBeJudged, ShowsWhole};
 
 use crate::gate::first_closed;
@@ -31,9 +31,9 @@ use office_tables::value::NO_NUMBER;
 use sqlite::{Alter, Connection};
 use std::alloc::{AllocError, Global};
 
-/// Up to so many containers that are out are all asked, at a fifth of a millisecond each. To find those near a unit, all
-/// units of its branch are read, and what houses each: that takes up to a second where the branch is large.
-const FEW: usize = 64;
+/// Up to so many containers that are out are all asked, at a fifth of a millisecond each and more where a large branch lies
+/// in one. To find those near a unit, the units of its branch are read, and what houses each.
+const FEW: usize = 8;
 
 /// The containers of these rows.
 fn numbers_of(alloc: Global, housings: &[Housing]) -> Result<Vec<u64>, AllocError>
@@ -92,7 +92,64 @@ fn containers_of_each<S: Alter>(
     Ok(all)
 }
 
-/// The containers that the unit, one above it or one below it names.
+/// Whether a unit has containers of its own.
+fn has_containers<S: Alter>(
+    alloc: Global,
+    conn: &mut Connection<S>,
+    unit: u64,
+) -> Result<bool, StoreFault>
+    requires inside { InOffice (state S.Store conn.old) }
+    requires small { IsNumber unit }
+    ensures reads { Reads (state S.Store conn.old) (state S.Store conn.new) result }
+    ensures rows { HasCleanDisk (state S.Store conn.new)
+        → (xs : List HousingRow) → HoldsNumbered tables.housing housing_row (state S.Store conn.old) xs
+        → IfOk result (λ yes. yes ≡ has_row xs unit) }
+    ensures faults { (xs : List HousingRow) → HoldsNumbered tables.housing housing_row (state S.Store conn.old) xs
+        → Excused (state S.Store conn.old) (state S.Store conn.new) result }
+{
+    let housings = housings_of(alloc, conn, unit)?;
+    Ok(!housings.is_empty())
+}
+
+/// The last of these units that has containers of its own.
+fn last_with_containers<S: Alter>(
+    alloc: Global,
+    conn: &mut Connection<S>,
+    units: &[u64],
+) -> Result<Option<u64>, StoreFault>
+    requires inside { InOffice (state S.Store conn.old) }
+    ensures reads { Reads (state S.Store conn.old) (state S.Store conn.new) result }
+    ensures rows { HasCleanDisk (state S.Store conn.new)
+        → (xs : List HousingRow) → HoldsNumbered tables.housing housing_row (state S.Store conn.old) xs
+        → IfOk result (λ last. last ≡ last_or None (filter (has_row xs) units.now)) }
+    ensures faults { (xs : List HousingRow) → HoldsNumbered tables.housing housing_row (state S.Store conn.old) xs
+        → AllByRecursion IsNumber units.now → Excused (state S.Store conn.old) (state S.Store conn.new) result }
+{
+    let mut last = None;
+    for unit in units {
+        let unit = *unit;
+        if unit >= NO_NUMBER {
+            return Err(StoreFault::Schema);
+        }
+        if has_containers(alloc, conn, unit)? {
+            last = Some(unit);
+        }
+    }
+    Ok(last)
+}
+
+/// These units, and one more where there is one.
+fn and_one(units: Vec<u64>, more: Option<u64>) -> Result<Vec<u64>, AllocError>
+    ensures { IfOk result (λ all. all.items ≡ units.items ++ option_to_list more) }
+{
+    let mut units = units;
+    if let Some(unit) = more {
+        units.push(unit)?;
+    }
+    Ok(units)
+}
+
+/// The containers in which the unit lies, or one below it.
 fn containers_near<P: Places, S: Alter>(
     alloc: Global,
     conn: &mut Connection<S>,
@@ -103,9 +160,10 @@ fn containers_near<P: Places, S: Alter>(
     ensures tells { Tells S.Store (ShowsWhole P.shows P.version) CanBeJudged conn.old conn.new result (λ _. ⊤)
         (λ _ s found. AreNear unit s found.items) }
 {
-    let mut units = P::path(alloc, conn, unit)?;
+    let path = P::path(alloc, conn, unit)?;
+    let boxed = last_with_containers(alloc, conn, &path)?;
     let branch = P::branch(alloc, conn, unit)?;
-    units.extend_from_slice(&branch)?;
+    let units = and_one(branch, boxed)?;
     containers_of_each(alloc, conn, &units)
 }
 
@@ -185,8 +243,8 @@ pub fn pass_of<P: Places, S: Alter>(
     }
 }
 
-/// What is told of a change that bears on a unit, on those above it and on those below it alone: what was done, unless
-/// it withholds what is out.
+/// What is told of a change that bears on a unit and on those below it alone: what was done, unless it withholds what is
+/// out.
 pub fn pass_near<P: Places, S: Alter>(
     alloc: Global,
     conn: &mut Connection<S>,

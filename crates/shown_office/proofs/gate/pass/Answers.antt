@@ -1,6 +1,5 @@
-use Rattle.std.proofs.Common.{◌≡◌, ap, sym, ◌∙◌, Some, None, Ok, Err}
+use Rattle.std.proofs.Common.{◌≡◌, ap, sym, ◌∙◌, Ok, Err}
 use Rattle.std.specs.Prelude.{⊤, Option, ℕ, option_map}
-use Rattle.sqlite.specs.Held.{state}
 use Rattle.desk_core.specs.declared.refusal.Refusal.TheVariants.{WithReader}
 use Rattle.desk_store.proofs.ToldCalls.{ends_well}
 use Rattle.office_tables.proofs.CallEnds.{same_fault, tells_not}

@@ -1,4 +1,4 @@
-use Rattle.std.proofs.Common.{◌≡◌, ap, sym, ◌∙◌}
+use Rattle.std.proofs.Common.{ap, sym, ◌∙◌}
 use Rattle.std.specs.List.{list_any}
 use Rattle.tree_core.specs.declared.marks.Mark.{Mark}
 use Rattle.catalogue_core.specs.OpenMarks.{is_opened_above}
