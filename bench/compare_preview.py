@@ -4,7 +4,8 @@ compare_preview.py FILES SEED PLAIN PROGRAM [WORD ..]
 
 PLAIN is the plain program as rustc built it. PROGRAM and its words read a file from standard input and
 write its finding aids, as `record_office preview --country GB --repo 0999` does. Of a file with a fault
-the row and the cause are compared. A file on which they differ is kept beside this script.
+the row and the cause are compared. A file on which they differ is kept beside this script. It ends with 1 where
+they differ, or where no file had finding aids.
 """
 
 import pathlib
@@ -138,6 +139,7 @@ def main():
             else:
                 told += bool(ours[1])
     print(f"{files} files, {told} with finding aids, faults by cause {dict(sorted(faults.items()))}, {differ} differ")
+    return 1 if differ or not told else 0
 
 
-main()
+sys.exit(main())

@@ -13,7 +13,7 @@ The copy stands over the work that `rt check` kept in out/, so check the crate f
 bench/check.sh's, over the libraries that are there: no walk over what they were made from, which takes minutes in the
 upper crates. Verdicts: `refused`, `PROVED` (the contracts let the wrong body through), `unreadable` (its text is gone,
 or what it makes does not compile). The last line has the counts; the exit status is 1 where one is proved or
-unreadable.
+unreadable, or none was tried.
 """
 
 import argparse
@@ -240,7 +240,7 @@ def main():
             counts[edit.verdict] += 1
             print(f"{edit.verdict:10} {crate}/{edit.name}: {edit.why[:200]}", flush=True)
     print(", ".join(f"{number} {verdict}" for verdict, number in counts.items()))
-    return 1 if counts["PROVED"] or counts["unreadable"] else 0
+    return 1 if counts["PROVED"] or counts["unreadable"] or not counts["refused"] else 0
 
 
 if __name__ == "__main__":

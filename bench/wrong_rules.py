@@ -3,7 +3,8 @@
 
 bench/wrong_rules.py [--dry] [WORD ..]: tries those rules whose label has one of the words, or all of them. It edits
 one definition at a time in a copy and checks the office. Build the libraries first (rt check in crates/office_rows).
-With --dry it only looks whether each text that would be edited stands once in its file."""
+With --dry it only looks whether each text that would be edited stands once in its file. It ends with 1 where a rule is let
+through or was not tried."""
 import os, re, subprocess, sys, tempfile, time
 SRC=os.path.dirname(os.path.dirname(os.path.abspath(__file__)))
 W=os.path.join(tempfile.mkdtemp(),'copy')
@@ -289,7 +290,7 @@ if __name__=='__main__':
         sys.exit(1 if missing else 0)
     subprocess.run(['cp','-a',SRC,W])
     for crate in LOWER: subprocess.run(['cp','-a',f'{W}/crates/{crate}/out',f'{W}/crates/{crate}/out.kept'])
-    passed=[]; n=0
+    passed=[]; untried=not_applied(only); n=0
     for label,f,old,new in E:
         if only and not any(o in label for o in only): continue
         p=W+'/'+f; orig=open(p).read()
@@ -298,8 +299,10 @@ if __name__=='__main__':
         line,through=tried(label,f,W+'/crates/office_rows')
         print(line,flush=True)
         if through: passed.append(label)
+        if line.startswith('DOES NOT READ'): untried.append(label)
         open(p,'w').write(orig)
         if f.split('/')[1] in LOWER:
             kept=f'{W}/crates/{f.split("/")[1]}/out'
             subprocess.run(f'rm -rf {kept} && cp -a {kept}.kept {kept}',shell=True)
     print(f'{n} tried, {len(passed)} let through: {passed}')
+    sys.exit(1 if passed or untried or not n else 0)

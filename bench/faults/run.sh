@@ -1,36 +1,53 @@
 #!/usr/bin/env bash
-# Refuses each allocation, and fails, interrupts or shortens each read and write of the built program in turn,
-# and counts how the runs end. shim.c is loaded before the C library. First: cd crates/record_office && rt run
+# Refuses each allocation, and fails, interrupts or shortens each read and write of previews in turn: run.sh [PROGRAM]
+# Each run has to end with the fault that is due, or as it does undisturbed; equal endings are counted (a sum and a length
+# stand for what is printed). shim.c is loaded before the C library. It ends with 1 where one ends otherwise, or where
+# there was nothing to disturb. First: cd crates/record_office && rt run
 set -euo pipefail
 top=$(cd "$(dirname "$0")/../.." && pwd)
-program="$top/crates/record_office/out/record_office"
+program=$(realpath "${1:-$top/crates/record_office/out/record_office}")
 fonds="$top/examples/fonds.csv"
 room=$(mktemp -d)
 trap 'rm -r "$room"' EXIT
 cc -shared -fPIC -O2 -o "$room/shim.so" "$top/bench/faults/shim.c" -ldl
+nothing=$(cksum </dev/null)
+wrong=0
 
-# each NAME VARIABLE COUNT INPUT WORD ..: a run for each number from 1 to COUNT, equal endings counted
+# ending HOW INPUT WORD ..: how the program ends that the shim disturbs so
+ending() {
+    local how=$1 input=$2 status=0
+    shift 2
+    env $how LD_PRELOAD="$room/shim.so" "$program" "$@" <"$input" >"$room/out" 2>"$room/err" || status=$?
+    echo "status $status, out $(cksum <"$room/out"), err $(tr '\n' '~' <"$room/err")"
+}
+
+# each NAME CALLS FAULT HOW INPUT WORD ..: a run for each call of that kind, disturbed so
 each() {
-    local name=$1 variable=$2 count=$3 input=$4 status
-    shift 4
-    for n in $(seq 1 "$count"); do
-        status=0
-        env "$variable=$n" ${EXTRA:-} LD_PRELOAD="$room/shim.so" "$program" "$@" \
-            <"$input" >"$room/out" 2>"$room/err" || status=$?
-        echo "$name: status $status, out $(wc -c <"$room/out"), err $(tr '\n' '~' <"$room/err" | cut -c1-60)"
-    done | sort | uniq -c
+    local name=$1 calls=$2 fault=$3 how=$4 input=$5 count whole
+    shift 5
+    whole=$(ending "" "$input" "$@")
+    count=$(ending SHOW=1 "$input" "$@" | sed "s/.*$calls=\([0-9]*\).*/\1/")
+    for n in $(seq 1 "$count"); do ending "${how/N/$n}" "$input" "$@"; done | sort | uniq -c >"$room/ends"
+    sed "s/^/$name:/" "$room/ends" | cut -c1-120
+    if [ ! -s "$room/ends" ] || sed 's/^ *[0-9]* //' "$room/ends" | grep -vxF -e "$whole" -e "$fault"; then
+        echo "WRONG $name"
+        wrong=1
+    fi
 }
 
 preview=(preview --country GB --repo 0999)
-each "allocations, standard input" FA 118 "$fonds" "${preview[@]}"
-each "allocations, FILE" FA 127 /dev/null "${preview[@]}" "$fonds"
-each "allocations, empty file" FA 50 /dev/null "${preview[@]}"
-each "allocations, wrong words" FA 67 /dev/null preview
-each "failing reads" FR 2 "$fonds" "${preview[@]}"
-each "failing reads of FILE" FR 2 /dev/null "${preview[@]}" "$fonds"
-each "failing writes" FW 1 "$fonds" "${preview[@]}"
-each "failing writes of messages" FW 1 /dev/null "${preview[@]}"
+no_memory="status 3, out $nothing, err no memory~"
+file_fault="status 3, out $nothing, err file fault~"
+each 'allocations, standard input' allocs "$no_memory" FA=N "$fonds" "${preview[@]}"
+each 'allocations, FILE' allocs "$no_memory" FA=N /dev/null "${preview[@]}" "$fonds"
+each 'allocations, empty file' allocs "$no_memory" FA=N /dev/null "${preview[@]}"
+each 'allocations, wrong words' allocs "$no_memory" FA=N /dev/null preview
+each 'failing reads' reads "$file_fault" FR=N "$fonds" "${preview[@]}"
+each 'failing reads of FILE' reads "$file_fault" FR=N /dev/null "${preview[@]}" "$fonds"
+each 'failing writes' writes "$file_fault" FW=N "$fonds" "${preview[@]}"
+each 'failing writes of messages' writes "status 1, out $nothing, err " FW=N /dev/null "${preview[@]}"
 for how in INTR=1 SHORT=1; do
-    EXTRA=$how each "reads with $how" FR 2 "$fonds" "${preview[@]}"
-    EXTRA=$how each "writes with $how" FW 1 "$fonds" "${preview[@]}"
+    each "reads with $how" reads undisturbed "FR=N $how" "$fonds" "${preview[@]}"
+    each "writes with $how" writes undisturbed "FW=N $how" "$fonds" "${preview[@]}"
 done
+exit "$wrong"

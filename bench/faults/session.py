@@ -3,7 +3,8 @@
 
 The built program opens an office in a file and talks: two readers are registered. Whatever allocation is refused after
 the opening, there are right answers, then at most one 503 with which the session is closed; and the file has the readers
-that were answered, no other. shim.c is loaded before the C library. It ends with 1 where something is other than wanted."""
+that were answered, no other. shim.c is loaded before the C library. It ends with 1 where something is other than wanted,
+or where the session made no allocation."""
 import contextlib
 import os
 import shutil
@@ -86,7 +87,7 @@ def main(program):
     print(f"each allocation from {before + 1} to {last} of a session of two requests refused:")
     for how, count in sorted(ends.items()):
         print(f"{count:7} {how}")
-    return 1 if wrong else 0
+    return 1 if wrong or not ends else 0
 
 
 if __name__ == "__main__":

@@ -3,7 +3,8 @@
 
 Each of the two is killed TIMES times (50), at some moment of about as long as it takes undisturbed. After each kill
 the store has to open and be sound, an import has to be there whole or not at all, and all that was answered has to be
-there. It prints how often the kill came in the midst, and ends with 1 where something is other than wanted.
+there. It prints how often the kill came in the midst, and ends with 1 where something is other than wanted, or where too
+few came in the midst.
 """
 import os
 import random
@@ -18,6 +19,8 @@ STORE = f"{ROOM}/killed.db"
 SETTINGS = "--country GB --repo 0999 --seats 200 --daily 50 --hands 10 --run 100 --day 2024-03-01".split()
 ROWS = 300
 REQUESTS = 300
+# Some two thirds of the kills come in the midst; where fewer than a tenth do, next to nothing was tried.
+FEWEST = max(1, TIMES // 10)
 wrong = 0
 
 
@@ -129,4 +132,7 @@ if os.path.exists(STORE):
 want("init", run("init", "--store", STORE, *SETTINGS), (0, b""))
 midst = imports(), requests()
 print(f"of {TIMES} imports {midst[0]} were killed in the midst, of {TIMES} sessions {midst[1]}")
+if min(midst) < FEWEST:
+    print(f"WRONG: fewer than {FEWEST} were killed in the midst")
+    wrong = 1
 sys.exit(wrong)
