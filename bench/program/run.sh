@@ -1,11 +1,11 @@
 #!/usr/bin/env bash
 # Tests of the built program over stores in files, by other programs too. rt ci builds it (crates/record_office/out).
 #   bench/program/run.sh [PROGRAM]
-# Here: each exit status, `serve` by curl, a store by sqlite3, what `check` says where sqlite3 changed a row, and the
-# file of version 1 that is kept beside this. days.py: days of an office, over `trial` and over `talk`. limits.py: days at
+# Here: each exit status, `serve` by curl, a backup after a server that was stopped, a store by sqlite3, what `check` says
+# where sqlite3 changed a row, and the file of version 1 that is kept beside this. days.py: days of an office, over `trial` and over `talk`. limits.py: days at
 # the limits of an office and of a connection. rounds.py: every command and question fifty times in one session.
 # stopped.py: commands that are stopped after each change of their files. killed.py: kill -9 in the middle of imports and
-# sessions.
+# sessions. ../faults/init.py: allocations of `init` that are refused.
 # It ends with 1 where something is other than wanted. What wants curl, sqlite3 or a C compiler is left out, and said,
 # where that is missing and cannot be installed; in CI that too is wrong.
 set -euo pipefail
@@ -137,18 +137,61 @@ served() {
     served_again "$port"
 }
 
-# served_again PORT: a service manager begins the server again, right after its end, on the same port.
-served_again() {
-    local serving
-    timeout 60 "$program" serve --store "$store" --port "$1" --connections 1 >"$room/served" 2>"$room/err" &
+# begins STORE PORT CONNECTIONS: a server, which is $serving, once it has said that it listens
+begins() {
+    timeout 60 "$program" serve --store "$1" --port "$2" --connections "$3" >"$room/served" 2>"$room/err" &
     serving=$!
     for _ in $(seq 100); do
         grep -q . "$room/served" "$room/err" && break
         sleep 0.1
     done
-    same 'the same port again' "$(cat "$room/served" "$room/err")" "listening $1"
+    same 'what a server says' "$(cat "$room/served" "$room/err")" "listening $2"
+}
+
+# served_again PORT: a service manager begins the server again, right after its end, on the same port.
+served_again() {
+    local serving
+    begins "$store" "$1" 1
     same 'a list again' "$(curl -s -S -m 10 "http://127.0.0.1:$1/public/fonds")" '1 GB 0999 HUL [Fonds] Hull Dock Company'
     wait "$serving" || same 'the second end of serve' "$?" 0
+}
+
+# registers STORE TICKET NAME: a server that registers a reader, and is stopped as a service manager stops it
+registers() {
+    local port=$((20000 + RANDOM % 20000)) serving is=0
+    begins "$1" "$port" 9
+    same 'a registration' "$(curl -s -S -m 10 -d "{\"name\":\"$3\",\"until\":\"2024-12-31\"}" \
+        "http://127.0.0.1:$port/desk/register")" "{\"ticket\":$2}"
+    kill -TERM "$serving"
+    wait "$serving" || is=$?
+    same 'a server that is stopped' "$is" 143
+}
+
+# readers STORE: the names that have the first two tickets
+readers() {
+    printf 'GET /desk/readers/%d HTTP/1.1\r\nHost: x\r\n\r\n' 1 2 |
+        timeout 60 "$program" talk --store "$1" | grep -o '"name":"[A-Z]*"' | cut -d '"' -f 4 | xargs
+}
+
+# A server that is stopped leaves the newest changes in the log alone. `check` brings them into the file, which then is the
+# whole office; going back to it takes the log of what came later away.
+backed_up() {
+    local kept=$room/kept.db
+    wants 'an office to be backed up' 0 '' '' init --store "$kept" "${settings[@]}" </dev/null
+    registers "$kept" 1 ANN
+    cp "$kept" "$room/early.db"
+    wants 'a check before the copy' 0 sound '' check --store "$kept" </dev/null
+    same 'a log that holds nothing' "$(stat -c %s "$kept-wal")" 41
+    cp "$kept" "$room/backup.db"
+    same 'a copy of before the check' "$(readers "$room/early.db")" ''
+    registers "$kept" 2 BEN
+    cp "$kept" "$room/both.db"
+    cp "$kept-wal" "$room/both.db-wal"
+    same 'a copy with its log' "$(readers "$room/both.db")" 'ANN BEN'
+    rm "$kept" "$kept-wal"
+    cp "$room/backup.db" "$kept"
+    wants 'the backup' 0 sound '' check --store "$kept" </dev/null
+    same 'who is in the backup' "$(readers "$kept")" ANN
 }
 
 # What sqlite3 finds in the file: nothing wrong, and a branch by its numbers.
@@ -217,18 +260,34 @@ compare_migrated() {
     done
 }
 
+# A file of version 1 that is no sound office's: `migrate` leaves it as it is.
+an_unsound_old_store() {
+    local old=$room/unsound.db was
+    cp "$here/version1.db" "$old"
+    sqlite3 "$old" 'DELETE FROM seat'
+    was=$(sqlite3 "$old" .dump)
+    wants 'a version 1 that is not sound' 1 'old version' '' check --store "$old" </dev/null
+    wants 'a migration of what is not sound' 3 '' 'store fault' migrate --store "$old" </dev/null
+    same 'what is not sound still' "$(sqlite3 "$old" .dump)" "$was"
+}
+
 one_store
 bad_settings
-if has curl; then served; fi
+if has curl; then
+    served
+    backed_up
+fi
 if has sqlite3; then
     read_by_sqlite
     other_tables
     changed_by_sqlite
+    an_unsound_old_store
 fi
 an_old_store
 timeout 600 python3 "$here/days.py" "$program" "$fast" || wrong=1
 timeout 300 python3 "$here/limits.py" "$program" "$fast" || wrong=1
 timeout 120 python3 "$here/rounds.py" "$program" || wrong=1
+if has cc gcc; then timeout 300 python3 "$here/../faults/init.py" "$program" "$fast" 25 || wrong=1; fi
 if has sqlite3 && has cc gcc; then timeout 900 python3 "$here/stopped.py" "$program" "$fast" all none || wrong=1; fi
 timeout 600 python3 "$here/killed.py" "$program" "$fast" || wrong=1
 exit "$wrong"
