@@ -2,10 +2,10 @@
 # Tests of the built program over stores in files, by other programs too. rt ci builds it (crates/record_office/out).
 #   bench/program/run.sh [PROGRAM]
 # Here: each exit status, `serve` by curl, a backup after a server that was stopped, a store by sqlite3, what `check` says
-# where sqlite3 changed a row, and the file of version 1 that is kept beside this. days.py: days of an office, over `trial` and over `talk`. limits.py: days at
-# the limits of an office and of a connection. rounds.py: every command and question fifty times in one session.
-# stopped.py: commands that are stopped after each change of their files. killed.py: kill -9 in the middle of imports and
-# sessions. ../faults/init.py: allocations of `init` that are refused.
+# where sqlite3 changed a row, and the file of version 1 that is kept beside this. days.py: days of an office, over `trial`
+# and over `talk`. limits.py: days at the limits of an office and of a connection. rounds.py: every command and question
+# fifty times in one session. ../faults/init.py: `init` without one of its allocations. stopped.py: commands that are
+# stopped after each change of their files. killed.py: kill -9 in the middle of imports and sessions.
 # It ends with 1 where something is other than wanted. What wants curl, sqlite3 or a C compiler is left out, and said,
 # where that is missing and cannot be installed; in CI that too is wrong.
 set -euo pipefail
