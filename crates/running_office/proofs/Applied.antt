@@ -1,5 +1,5 @@
 -- A command's transaction, from its begin to its end.
-use Rattle.std.proofs.Common.{◌≡◌, ℕ, true, Option, Some, None, Result, Ok, Err, OnOk, OnErr, refl, sym, subst, ◌∙◌}
+use Rattle.std.proofs.Common.{◌≡◌, ℕ, true, Option, Some, None, Result, Ok, Err, OnOk, OnErr, refl, sym, ap, subst, ◌∙◌}
 use Rattle.std.specs.Prelude.{IfOk, IsOk, IsErr}
 use Rattle.sqlite.specs.Effect.{Database}
 use Rattle.sqlite.specs.State.{State, HasCleanDisk, Survives, Shows}
@@ -19,6 +19,7 @@ use Rattle.office_tables.proofs.Calls.{early}
 use Rattle.shown_office.specs.Doing.{DoesStep}
 use Rattle.shown_office.specs.Shown.{ShowsState}
 use Rattle.shown_office.proofs.Crashes.{went}
+use Rattle.shown_office.proofs.Doings.{refused}
 use Rattle.running_office.specs.Applying.{MayFind, TakesStep}
 use Rattle.running_office.specs.Resting.{IsAsBefore, IsAtRest, IsEnded, IsIn, IsOffice}
 
@@ -29,6 +30,13 @@ refused_same s asked h = at (refusal s asked) h
     at : (why : Option Refusal) → IsErr (decided why s (after s asked) (told s asked)).1 → (decided why s (after s asked) (told s asked)).0 ≡ s
     at (Some why) h = refl
     at None h = absurd (cc)
+
+-- a command that is refused is its step, where nothing is done for it
+pub refused_at_once : (places : Trees → Forest ℕ → Type 0) (version : Version) (a : State) (s : office.State) (asked : Command) (why : Refusal) → refusal s asked ≡ Some why → IsIn places version s a
+    → TakesStep places version s asked (Err why) a
+refused_at_once places version a s asked why is here =
+    let one : step s asked ≡ (s, Err why) = refused s asked why is in
+    (sym (ap (λ (p : office.State × Reply). p.1) one), λ opened. subst (ShowsState places version a.now) (sym (ap (λ (p : office.State × Reply). p.0) one)) (here opened))
 
 -- what was done was taken back: all is as it was before the transaction
 pub taken_back : (version : Version) (a b m z : State) → IsAtRest version a → Shows a b a.now a.committed true → GoesOn b m → IsEnded m z → IsAsBefore a z

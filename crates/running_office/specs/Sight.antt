@@ -7,9 +7,13 @@ use Rattle.office_core.specs.Rules.{is_name}
 use Rattle.office_core.specs.declared.command.Command.{Command}
 use Rattle.office_core.specs.declared.command.Command.TheVariants as command
 
--- the first check of a command, where it needs no table
-abbrev pub seen_wrong : ℤ → Command → Check
-seen_wrong today (command.OpenDay day) = unless (int_lt today day) DayNotLater
-seen_wrong today (command.Import source file) = unless (is_source source) BadName
-seen_wrong today (command.Register name until) = unless (is_name name) BadName
-seen_wrong today _ = None
+-- the first check of a command, where the command alone tells
+abbrev pub misnamed : Command → Check
+misnamed (command.Import source file) = unless (is_source source) BadName
+misnamed (command.Register name until) = unless (is_name name) BadName
+misnamed _ = None
+
+-- the first check of a command, where the day of the office tells
+abbrev pub misdated : ℤ → Command → Check
+misdated today (command.OpenDay day) = unless (int_lt today day) DayNotLater
+misdated today _ = None

@@ -1,6 +1,6 @@
 //! A command: one transaction, one step.
 
-ghost use Rattle.std.specs.Prelude.{◌≡◌, ⊤, None, IfErr, IfOk, IsErr, OnErr, OnOk};
+ghost use Rattle.std.specs.Prelude.{◌≡◌, ⊤, None, IfErr, IfOk, IsErr, IsOk, IsTrue, OnErr, OnOk};
 ghost use Rattle.sqlite.specs.Held.{state};
 ghost use Rattle.sqlite.specs.State.{HasCleanDisk, Survives};
 ghost use Rattle.office_core.specs.Json.{reply_text};
@@ -8,13 +8,14 @@ ghost use Rattle.office_core.specs.SoundOffice.{IsSoundOffice, NamesTexts};
 ghost use Rattle.office_core.specs.State.{State};
 ghost use Rattle.office_tables.specs.Faults.{Excused, HasCause};
 ghost use Rattle.office_tables.specs.Step.{Goes, InTransaction, IsCut};
+ghost use Rattle.office_tables.specs.declared.fault.StoreFault.TheVariants as fault;
 ghost use Rattle.running_office.specs.Applying.{MayFind, TakesStep};
 ghost use Rattle.running_office.specs.Resting.{IsAsBefore, IsIn, IsOffice};
-ghost use Rattle.running_office.specs.Sight.{seen_wrong};
+ghost use Rattle.running_office.specs.Sight.{misdated, misnamed};
 ghost use Rattle.shown_office.specs.Doing.{Does, DoesStep};
 ghost use Rattle.shown_office.specs.Shown.{ShowsState, office_of};
 
-use crate::names::{names_days_and_texts, refused_at_sight};
+use crate::names::{names_days_and_texts, refused_by_day, refused_by_name};
 use crate::rows::{limits_in, own_row};
 use crate::transactions::settle;
 use catalogue_commands::{change_closure, change_status, move_to, remove_unit};
@@ -39,7 +40,8 @@ fn perform<P: Places, S: Alter>(
     command: &Command,
 ) -> Result<Result<Done, Refusal>, StoreFault>
     requires inside { InTransaction P.version (state S.Store conn.old) }
-    requires seen { seen_wrong row.now.day command.now ≡ None }
+    requires named { misnamed command.now ≡ None }
+    requires dated { misdated row.now.day command.now ≡ None }
     requires texts { NamesTexts command.now }
     ensures { Does P.shows P.version (λ s. row.now ≡ office_of s) command.now (state S.Store conn.old)
         (state S.Store conn.new) result }
@@ -95,14 +97,25 @@ fn carry_out<P: Places, S: Alter>(
     command: &Command,
 ) -> Result<Result<Done, Refusal>, StoreFault>
     requires inside { InTransaction P.version (state S.Store conn.old) }
+    requires named { misnamed command.now ≡ None }
     ensures { Does P.shows P.version (λ _. ⊤) command.now (state S.Store conn.old) (state S.Store conn.new) result }
 {
     let row = own_row::<P, S>(alloc, conn)?;
-    if let Some(why) = refused_at_sight(row.day, command) {
+    if let Some(why) = refused_by_day(row.day, command) {
         return Ok(Err(why));
     }
     names_days_and_texts(command);
     perform::<P, S>(alloc, conn, &row, command)
+}
+
+/// What is told of a command, with its bytes.
+fn told(alloc: Global, done: Result<Done, Refusal>) -> Result<Reply, StoreFault>
+    ensures same { IfOk result (λ reply. reply.done ≡ done) }
+    ensures bytes { IfOk result (λ reply. reply.json ≡ reply_text done) }
+    ensures memory { IfErr result (λ e. e ≡ fault.Memory) }
+{
+    let json = json_of(alloc, &done)?;
+    Ok(Reply { done, json })
 }
 
 /// Carries out a command, and makes the bytes that tell of it.
@@ -112,6 +125,7 @@ fn reply_to<P: Places, S: Alter>(
     command: &Command,
 ) -> Result<Reply, StoreFault>
     requires inside { InTransaction P.version (state S.Store conn.old) }
+    requires named { misnamed command.now ≡ None }
     ensures steps { HasCleanDisk (state S.Store conn.new)
         → (s : State) → IsSoundOffice s → ShowsState P.shows P.version (state S.Store conn.old).now s
         → IfOk result (λ reply.
@@ -123,11 +137,11 @@ fn reply_to<P: Places, S: Alter>(
         → Excused (state S.Store conn.old) (state S.Store conn.new) result }
 {
     let done = carry_out::<P, S>(alloc, conn, command)?;
-    let json = json_of(alloc, &done)?;
-    Ok(Reply { done, json })
+    told(alloc, done)
 }
 
-/// Carries out a command in a transaction of its own. The reply's bytes are made before the commit.
+/// Carries out a command in a transaction of its own. The reply's bytes are made before the commit. A name of no form is
+/// refused before any statement.
 pub(crate) fn apply_to<P: Places, S: Alter>(
     alloc: Global,
     conn: &mut Connection<S>,
@@ -138,6 +152,8 @@ pub(crate) fn apply_to<P: Places, S: Alter>(
     ensures steps { HasCleanDisk (state S.Store conn.new)
         → (s : State) → IsSoundOffice s → IsIn P.shows P.version s (state S.Store conn.old)
         → IfOk result (λ reply. TakesStep P.shows P.version s command.now reply.done (state S.Store conn.new)) }
+    ensures kept { HasCleanDisk (state S.Store conn.new)
+        → IfOk result (λ reply. IsOk reply.done → IsTrue (state S.Store conn.new).is_open) }
     ensures bytes { IfOk result (λ reply. reply.json ≡ reply_text reply.done) }
     ensures refused { HasCleanDisk (state S.Store conn.new) → IfOk result (λ reply. IsErr reply.done
         → IsAsBefore (state S.Store conn.old) (state S.Store conn.new)) }
@@ -149,6 +165,9 @@ pub(crate) fn apply_to<P: Places, S: Alter>(
     ensures crash { Survives (state S.Store conn.old) (state S.Store conn.new)
         (MayFind P.shows P.version command.now (state S.Store conn.old)) }
 {
+    if let Some(why) = refused_by_name(command) {
+        return told(alloc, Err(why));
+    }
     begin(conn)?;
     let outcome = reply_to::<P, S>(alloc, conn, command);
     settle(conn, outcome)

@@ -46,6 +46,7 @@ pub(crate) fn found<P: Places, S: Alter>(
     requires small { IsNumber row.now.next_unit }
     ensures shows { HasCleanDisk (state S.Store conn.new) → OnOk result (IsTrue (state S.Store conn.new).is_open
         → ShowsNew P.shows P.version (state S.Store conn.new).now row.now) }
+    ensures kept { HasCleanDisk (state S.Store conn.new) → OnOk result (IsTrue (state S.Store conn.new).is_open) }
     ensures office { OnOk result (IsOffice P.version (state S.Store conn.new)) }
     ensures back { HasCleanDisk (state S.Store conn.new)
         → OnErr result (IsAsBefore (state S.Store conn.old) (state S.Store conn.new)) }

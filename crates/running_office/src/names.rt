@@ -7,7 +7,7 @@ ghost use Rattle.desk_core.specs.Names.{is_name as is_reader_name};
 ghost use Rattle.isad_core.specs.Days.{IsDayNumber};
 ghost use Rattle.office_core.specs.SoundOffice.{NamesTexts};
 ghost use Rattle.office_core.specs.Soundness.{NamesDays};
-ghost use Rattle.running_office.specs.Sight.{seen_wrong};
+ghost use Rattle.running_office.specs.Sight.{misdated, misnamed};
 
 use isad_core::{Day, is_blank};
 use office_core::{Command, Refusal};
@@ -52,15 +52,23 @@ fn is_source(name: &str) -> bool
     1 <= name.len() && name.len() <= 64 && are_source_letters(name)
 }
 
-/// The first check of a command, where it needs no table. A new day comes after today; a source and a reader have names
-/// of their forms.
-pub(crate) fn refused_at_sight(today: Day, command: &Command) -> Option<Refusal>
-    ensures { result ≡ seen_wrong today command.now }
+/// The first check of a command, where the command alone tells: a source and a reader have names of their forms.
+pub(crate) fn refused_by_name(command: &Command) -> Option<Refusal>
+    ensures { result ≡ misnamed command.now }
+{
+    match command {
+        Command::Import { source, .. } if !is_source(source.as_str()) => Some(Refusal::BadName),
+        Command::Register { name, .. } if !is_name(name.as_str()) => Some(Refusal::BadName),
+        _ => None,
+    }
+}
+
+/// The first check of a command, where the day of the office tells: a new day comes after it.
+pub(crate) fn refused_by_day(today: Day, command: &Command) -> Option<Refusal>
+    ensures { result ≡ misdated today command.now }
 {
     match command {
         Command::OpenDay { day } if *day <= today => Some(Refusal::DayNotLater),
-        Command::Import { source, .. } if !is_source(source.as_str()) => Some(Refusal::BadName),
-        Command::Register { name, .. } if !is_name(name.as_str()) => Some(Refusal::BadName),
         _ => None,
     }
 }

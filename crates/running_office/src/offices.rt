@@ -1,6 +1,6 @@
 //! An office over its tables.
 
-ghost use Rattle.std.specs.Prelude.{◌≡◌, false, Err, IfErr, IfOk, IsErr, IsTrue, OnErr};
+ghost use Rattle.std.specs.Prelude.{◌≡◌, false, Err, IfErr, IfOk, IsErr, IsOk, IsTrue, OnErr};
 ghost use Rattle.sqlite.specs.Held.{state};
 ghost use Rattle.sqlite.specs.State.{HasCleanDisk, Survives};
 ghost use Rattle.tree_core.specs.Versions.{Links, Spans};
@@ -72,6 +72,8 @@ impl<P: Places, S: Alter> Office<P, S> {
         ensures sound { IsSoundOffice (founded settings) }
         ensures shows { IfOk result (λ office. HasCleanDisk (state S.Store office)
             → IsIn P.shows P.version (founded settings) (state S.Store office)) }
+        ensures kept { IfOk result (λ office. HasCleanDisk (state S.Store office)
+            → IsTrue (state S.Store office).is_open) }
         ensures there { ((state S.Store conn).now.schema ≡ no_schema → ⊥)
             → result ≡ Err (OpenFault.Schema, conn) }
         ensures back { IfErr result (λ e. HasCleanDisk (state S.Store e.1)
@@ -102,14 +104,17 @@ impl<P: Places, S: Alter> Office<P, S> {
         }
     }
 
-    /// Carries out a command. A refusal changes nothing, nor does an office that is busy; a crash finds what was
-    /// committed before, or the state after the command. Where a failure of the disk had shut the connection before,
-    /// the office is busy for ever.
+    /// Carries out a command. What is accepted was committed: the connection is open, and its tables are as the disk
+    /// has them. A refusal changes nothing, nor does an office that is busy; a crash finds what was committed before,
+    /// or the state after the command. Where a failure of the disk had shut the connection before, the office is busy
+    /// for ever, but for names of no form, which are refused before any statement.
     pub fn apply(&mut self, alloc: Global, command: &Command) -> Result<Reply, Busy>
         ensures steps { HasCleanDisk (state S.Store self.new)
             → (s : State) → IsSoundOffice s → IsIn P.shows P.version s (state S.Store self.old)
             → IfOk result (λ reply. TakesStep P.shows P.version s command.now reply.done (state S.Store self.new)) }
         ensures sound { (s : State) → IsSoundOffice s → IsSoundOffice (step s command.now).0 }
+        ensures kept { HasCleanDisk (state S.Store self.new)
+            → IfOk result (λ reply. IsOk reply.done → IsTrue (state S.Store self.new).is_open) }
         ensures bytes { IfOk result (λ reply. reply.json ≡ reply_text reply.done) }
         ensures refused { HasCleanDisk (state S.Store self.new) → IfOk result (λ reply. IsErr reply.done
             → IsAsBefore (state S.Store self.old) (state S.Store self.new)) }
@@ -172,6 +177,8 @@ impl<S: Alter> Office<LinkPlaces, S> {
         ensures same { IfOk result (λ office. HasCleanDisk (state S.Store office)
             → (s : State) → IsIn ShowsLinkRows Links s (state S.Store self)
             → IsIn ShowsSpanRows Spans s (state S.Store office)) }
+        ensures kept { IfOk result (λ office. HasCleanDisk (state S.Store office)
+            → IsTrue (state S.Store office).is_open) }
         ensures back { IfErr result (λ e. HasCleanDisk (state S.Store e.1)
             → IsAsBefore (state S.Store self) (state S.Store e.1)) }
         ensures cause { IfErr result (λ e. HasCleanDisk (state S.Store e.1)

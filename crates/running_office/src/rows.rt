@@ -10,8 +10,7 @@ ghost use Rattle.shown_office.specs.Judging.{ShowsWhole};
 ghost use Rattle.shown_office.specs.Shown.{office_of};
 
 use catalogue_rows::OfficeRow;
-use catalogue_rows::office::office_rows;
-use catalogue_store::Places;
+use catalogue_store::{Places, settings};
 use desk_core::Limits;
 use office_tables::StoreFault;
 use sqlite::{Alter, Connection};
@@ -26,11 +25,7 @@ pub(crate) fn own_row<P: Places, S: Alter>(
     ensures tells { Tells S.Store (ShowsWhole P.shows P.version) IsSoundOffice conn.old conn.new result (λ _. ⊤)
         (λ _ s row. row ≡ office_of s) }
 {
-    let mut rows = office_rows(alloc, conn)?;
-    let Some(row) = rows.pop() else {
-        return Err(StoreFault::Schema);
-    };
-    Ok(row)
+    settings::<P, S>(alloc, conn)
 }
 
 /// Its settings, as the desk's limits.

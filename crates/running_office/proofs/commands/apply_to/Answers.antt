@@ -1,12 +1,28 @@
-use Rattle.std.proofs.Common.{subst, sym}
+use Rattle.std.proofs.Common.{Result, subst, sym}
+use Rattle.std.proofs.lemmas.Result.{IfOk-weaker}
 use Rattle.sqlite.specs.Effect.{Database}
 use Rattle.sqlite.specs.Held.{state}
+use Rattle.desk_core.specs.declared.refusal.Refusal.{Refusal}
+use Rattle.office_core.specs.declared.done.Done.{Done}
 use Rattle.office_core.specs.declared.machine.Reply.{Reply}
 use Rattle.office_tables.proofs.Calls.{early}
 use Rattle.shown_office.specs.Shown.{ShowsState}
 use Rattle.shown_office.proofs.Crashes.{went}
-use Rattle.running_office.proofs.Applied.{steps_on, finds}
+use Rattle.running_office.specs.Applying.{TakesStep}
+use Rattle.running_office.proofs.Applied.{refused_at_once, steps_on, finds}
+use Rattle.running_office.proofs.Sights.{misnamed_refuses}
 use Rattle.running_office.proofs.commands.apply_to.Goals as goal
+
+pub returns-in-Some-clause-steps : goal.returns-in-Some-clause-steps
+returns-in-Some-clause-steps g c clean s sound is =
+    let a = state g.S.Store c.args.conn.now in
+    let asked = c.args.command.now in
+    let places = g.P.Places.shows in
+    let version = g.P.Places.version in
+    let takes = refused_at_once places version a s asked c.in-Some.why (misnamed_refuses s asked c.in-Some.why (sym c.in-Some.ensures)) is in
+    IfOk-weaker c.told.result _ (λ (reply : Reply). TakesStep places version s asked reply.done a)
+    (λ reply same. subst (λ (done : Result Done Refusal). TakesStep places version s asked done a) (sym same) takes)
+    c.told.ensures.same
 
 pub returns-clause-steps : goal.returns-clause-steps
 returns-clause-steps g c clean s sound is =

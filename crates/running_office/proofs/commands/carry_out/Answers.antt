@@ -4,8 +4,8 @@ use Rattle.sqlite.specs.Held.{state}
 use Rattle.office_tables.proofs.CallEnds.{same_fault}
 use Rattle.shown_office.proofs.CommandSteps.{refuses}
 use Rattle.shown_office.proofs.Doings.{does_after, does_not, does_refuse}
-use Rattle.running_office.specs.Sight.{seen_wrong}
-use Rattle.running_office.proofs.Sights.{seen_refuses}
+use Rattle.running_office.specs.Sight.{misdated}
+use Rattle.running_office.proofs.Sights.{misdated_refuses}
 use Rattle.running_office.proofs.commands.carry_out.Goals as goal
 
 pub returns-in_err-row : goal.returns-in_err-row
@@ -26,7 +26,7 @@ returns-in-Some g c =
     does_refuse g.P.Places.shows g.P.Places.version (λ _. ⊤) c.args.command.now a b (Err c.in-Some.why) told.looks
     (λ clean s sound so it.
     let day = ap (λ row. row.day) (told.answers clean tt s it) in
-    refuses g.P.Places.shows g.P.Places.version s c.args.command.now b.now c.in-Some.why (seen_refuses s c.args.command.now c.in-Some.why (sym (c.in-Some.ensures ∙ ap (λ today. seen_wrong today c.args.command.now) day))))
+    refuses g.P.Places.shows g.P.Places.version s c.args.command.now b.now c.in-Some.why (misdated_refuses s c.args.command.now c.in-Some.why (sym (c.in-Some.ensures ∙ ap (λ today. misdated today c.args.command.now) day))))
 
 pub returns : goal.returns
 returns g c =
