@@ -1,8 +1,9 @@
-//! The desk's tables, over a store in memory: readers, seats, orders, places and permits.
+//! The desk's tables, over a store in memory: readers, seats, orders, places and permits. The desk's calls look at no
+//! places of units, so these tests, and those of its days and its check, run over one keeping of them: that of a new file.
 
 ghost use Rattle.std.specs.Prelude.{◌<◌, ◌^◌, OnOk};
 ghost use Rattle.sqlite.specs.Held.{state};
-ghost use Rattle.tree_core.specs.Versions.{Links};
+ghost use Rattle.tree_core.specs.Versions.{Spans};
 ghost use Rattle.office_tables.specs.Step.{InTransaction};
 
 use crate::tests::{Query, new_office, show_rows, two_units};
@@ -15,6 +16,7 @@ use desk_store::{
 };
 use isad_core::{Day, Text};
 use office_tables::roll_back;
+use span_places::SpanPlaces;
 use sqlite::{Alter, Connection};
 use std::alloc::Global;
 use std::process::Abort;
@@ -36,8 +38,8 @@ pub(crate) fn register<S: Alter>(
     name: &str,
     text: &mut String,
 ) -> Result<(), StoreFault>
-    requires inside { InTransaction Links (state S.Store conn.old) }
-    ensures inside { OnOk result (InTransaction Links (state S.Store conn.new)) }
+    requires inside { InTransaction Spans (state S.Store conn.old) }
+    ensures inside { OnOk result (InTransaction Spans (state S.Store conn.new)) }
 {
     let name = Text::new(alloc, name)?;
     let ticket = add_reader(conn, &name, day_after(0)?)?.unwrap_or(0);
@@ -52,7 +54,7 @@ fn seated<S: Alter>(
     conn: &mut Connection<S>,
     text: &mut String,
 ) -> Result<(), StoreFault>
-    requires inside { InTransaction Links (state S.Store conn.old) }
+    requires inside { InTransaction Spans (state S.Store conn.old) }
 {
     register(alloc, conn, "Ann", text)?;
     register(alloc, conn, "Bob", text)?;
@@ -74,8 +76,8 @@ fn ordered<S: Alter>(
     conn: &mut Connection<S>,
     text: &mut String,
 ) -> Result<(), StoreFault>
-    requires inside { InTransaction Links (state S.Store conn.old) }
-    ensures inside { OnOk result (InTransaction Links (state S.Store conn.new)) }
+    requires inside { InTransaction Spans (state S.Store conn.old) }
+    ensures inside { OnOk result (InTransaction Spans (state S.Store conn.new)) }
 {
     register(alloc, conn, "Ann", text)?;
     append_order(conn, 1, 1, 1, day_after(0)?)?;
@@ -92,7 +94,7 @@ fn carded<S: Alter>(
     conn: &mut Connection<S>,
     text: &mut String,
 ) -> Result<(), StoreFault>
-    requires inside { InTransaction Links (state S.Store conn.old) }
+    requires inside { InTransaction Spans (state S.Store conn.old) }
 {
     ordered(alloc, conn, text)?;
     let day = day_after(1)?;
@@ -116,7 +118,7 @@ fn ended<S: Alter>(
     conn: &mut Connection<S>,
     text: &mut String,
 ) -> Result<(), StoreFault>
-    requires inside { InTransaction Links (state S.Store conn.old) }
+    requires inside { InTransaction Spans (state S.Store conn.old) }
 {
     ordered(alloc, conn, text)?;
     end_order(conn, 1, OrderState::Done)?;
@@ -135,7 +137,7 @@ fn brought<S: Alter>(
     conn: &mut Connection<S>,
     text: &mut String,
 ) -> Result<(), StoreFault>
-    requires inside { InTransaction Links (state S.Store conn.old) }
+    requires inside { InTransaction Spans (state S.Store conn.old) }
 {
     ordered(alloc, conn, text)?;
     let taken = [FirstOrder {
@@ -159,9 +161,9 @@ fn permitted<S: Alter>(
     conn: &mut Connection<S>,
     text: &mut String,
 ) -> Result<(), StoreFault>
-    requires inside { InTransaction Links (state S.Store conn.old) }
+    requires inside { InTransaction Spans (state S.Store conn.old) }
 {
-    two_units(alloc, conn)?;
+    two_units::<SpanPlaces, S>(alloc, conn)?;
     grant(conn, 1, 1, day_after(0)?)?;
     grant(conn, 1, 2, day_after(0)?)?;
     grant(conn, 1, 2, day_after(9)?)?;
@@ -181,7 +183,7 @@ fn picked<S: Alter>(
     conn: &mut Connection<S>,
     text: &mut String,
 ) -> Result<(), StoreFault>
-    requires inside { InTransaction Links (state S.Store conn.old) }
+    requires inside { InTransaction Spans (state S.Store conn.old) }
 {
     append_order(conn, 1, 7, 2, day_after(0)?)?;
     append_order(conn, 2, 7, 1, day_after(0)?)?;
@@ -208,7 +210,7 @@ fn opened<S: Alter>(
     conn: &mut Connection<S>,
     text: &mut String,
 ) -> Result<(), StoreFault>
-    requires inside { InTransaction Links (state S.Store conn.old) }
+    requires inside { InTransaction Spans (state S.Store conn.old) }
 {
     register(alloc, conn, "Bob", text)?;
     set_seat(conn, 2, Some(1))?;
@@ -234,7 +236,7 @@ fn carry_out<S: Alter>(
     done: Act,
     text: &mut String,
 ) -> Result<(), StoreFault>
-    requires inside { InTransaction Links (state S.Store conn.old) }
+    requires inside { InTransaction Spans (state S.Store conn.old) }
 {
     match done {
         Act::Sit => seated(alloc, conn, text),
@@ -249,8 +251,8 @@ fn carry_out<S: Alter>(
 
 /// What was done is committed, and another transaction begins.
 pub(crate) fn next_turn<S: Alter>(conn: &mut Connection<S>) -> Result<(), StoreFault>
-    requires inside { InTransaction Links (state S.Store conn.old) }
-    ensures inside { OnOk result (InTransaction Links (state S.Store conn.new)) }
+    requires inside { InTransaction Spans (state S.Store conn.old) }
+    ensures inside { OnOk result (InTransaction Spans (state S.Store conn.new)) }
 {
     commit(conn)?;
     begin(conn)
@@ -288,7 +290,7 @@ fn told<S: Alter>(
     queries: &[Query],
 ) -> Result<String, Fail> {
     let mut text = String::new(alloc);
-    new_office(alloc, conn)?;
+    new_office::<SpanPlaces, S>(alloc, conn)?;
     next_turn(conn)?;
     if let Err(fault) = carry_out(alloc, conn, done, &mut text) {
         taken_back(alloc, conn, fault)?;

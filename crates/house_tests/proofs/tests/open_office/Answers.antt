@@ -1,20 +1,22 @@
-use Rattle.std.proofs.Common.{refl, [], ap, ◌∙◌, Result, Ok, Err, OnOk}
+use Rattle.std.proofs.Common.{ℕ, refl, [], ap, ◌∙◌, Result, Ok, Err, OnOk}
 use Rattle.sqlite.specs.Held.{state}
 use Rattle.sqlite.specs.State.{State, HasCleanDisk}
+use Rattle.sqlite.specs.Tree.{Trees}
 use Rattle.office_tables.specs.Schema.{no_schema, desk_schema, desk_tables}
-use Rattle.tree_core.specs.Versions.{Links}
+use Rattle.tree_core.specs.Forest.{Forest}
+use Rattle.tree_core.specs.Versions.{Version}
 use Rattle.office_tables.specs.Creation.{IsMaking}
 use Rattle.office_tables.specs.Step.{InTransaction, Continues}
 use Rattle.catalogue_core.specs.Merging.{Catalogue}
-use Rattle.catalogue_rows.specs.Shows.{Shows, ShowsLinkRows}
+use Rattle.catalogue_rows.specs.Shows.{Shows}
 use Rattle.catalogue_rows.specs.declared.office.OfficeRow.{OfficeRow}
 use Rattle.office_tables.proofs.Calls.{early}
 use Rattle.house_tests.proofs.tests.open_office.Goals as goal
 
 -- a new office has our tables, and its transaction goes on
-inside_of : {X E : Type 0} (old new : State) (r : Result X E) (o : OfficeRow) (c : Catalogue) → OnOk r (Continues old new) → (HasCleanDisk new → OnOk r (Shows ShowsLinkRows Links new.now o c)) → OnOk r (InTransaction Links new)
-inside_of old new (Ok x) o c goes shows = λ clean. ((shows clean).catalogue.schema_is, (goes.within clean).is_inside)
-inside_of old new (Err e) o c goes shows = tt
+inside_of : {X E : Type 0} (v : Version) (shows : Trees → Forest ℕ → Type 0) (old new : State) (r : Result X E) (o : OfficeRow) (c : Catalogue) → OnOk r (Continues old new) → (HasCleanDisk new → OnOk r (Shows shows v new.now o c)) → OnOk r (InTransaction v new)
+inside_of v shows old new (Ok x) o c goes shown = λ clean. ((shown clean).catalogue.schema_is, (goes.within clean).is_inside)
+inside_of v shows old new (Err e) o c goes shown = tt
 
 pub returns : goal.returns
 returns g c =
@@ -30,4 +32,4 @@ returns g c =
     let desk : IsMaking desk_tables desk_schema a2.now a2 = λ clean.
     let it = step.1 clean in
     (record { schema_is = it.0.schema_is; kept = (refl, (refl, (refl, (refl, (refl, (refl, (refl, tt))))))); empty = tt }, it.1) in
-    record { inside = inside_of a2 a3 c.create.result _ _ (c.create.ensures.leaves a2.now desk).goes (c.create.ensures.shows a2.now desk) }
+    record { inside = inside_of g.P.Places.version g.P.Places.shows a2 a3 c.create.result _ _ (c.create.ensures.leaves a2.now desk).goes (c.create.ensures.shows a2.now desk) }
