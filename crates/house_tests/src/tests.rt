@@ -7,9 +7,9 @@ ghost use Rattle.office_tables.specs.Schema.{no_schema};
 ghost use Rattle.office_tables.specs.Step.{InTransaction};
 
 use catalogue_store::{
-    LinkPlaces, NewUnit, OfficeRow, Places, StoreFault, add_unit, begin, branch_marks, commit,
-    contents_marks, create, known, move_unit, office_row, path_marks, remove_branch,
-    replace_values, set_closure, set_status, values,
+    Head, LinkPlaces, NewUnit, OfficeRow, Places, StoreFault, add_unit, begin, branch_marks,
+    commit, contents_marks, create, heads_below, known, move_unit, office_row, path_heads,
+    path_marks, remove_branch, replace_values, set_closure, set_status, values,
 };
 use desk_store::{create_desk, is_blank};
 use isad_core::{BoxKey, Day, List, Text, Values};
@@ -351,6 +351,31 @@ fn marked<P: Places, S: Alter>(
     show_walk(text, &branch_marks::<P, S>(alloc, conn, None)?)
 }
 
+fn show_heads(text: &mut String, heads: &[Head]) -> Result<(), StoreFault> {
+    for head in heads {
+        let id = head.id;
+        write!(text, " {id} ")?;
+        text.push_str(head.title.as_str())?;
+    }
+    text.push_str("\n")?;
+    Ok(())
+}
+
+/// Unit 2 goes below unit 4: the tops, what is right below unit 4, and the path of unit 2, each with its title.
+#[tactic(auto, using(crate::proofs::Going::looked_on))]
+fn headed<P: Places, S: Alter>(
+    alloc: Global,
+    conn: &mut Connection<S>,
+    text: &mut String,
+) -> Result<(), StoreFault>
+    requires inside { InTransaction P.version (state S.Store conn.old) }
+{
+    moved_below::<P, S>(alloc, conn)?;
+    show_heads(text, &heads_below::<P, S>(alloc, conn, None)?)?;
+    show_heads(text, &heads_below::<P, S>(alloc, conn, Some(4))?)?;
+    show_heads(text, &path_heads::<P, S>(alloc, conn, 2)?)
+}
+
 /// Unit 1 and all below it are drafts, then unit 2 is published: how many were set each time.
 #[tactic(auto, using(crate::proofs::Going::went_on))]
 fn set<P: Places, S: Alter>(
@@ -426,6 +451,7 @@ enum Act {
     Remove,
     Revise,
     Mark,
+    Head,
     Set,
     LookUp,
     MakeAgain,
@@ -448,6 +474,7 @@ fn carry_out<P: Places, S: Alter>(
         Act::Remove => removed::<P, S>(alloc, conn, text),
         Act::Revise => revised::<P, S>(alloc, conn, text),
         Act::Mark => marked::<P, S>(alloc, conn, text),
+        Act::Head => headed::<P, S>(alloc, conn, text),
         Act::Set => set::<P, S>(alloc, conn, text),
         Act::LookUp => looked_up::<P, S>(alloc, conn, text),
         Act::MakeAgain => made_again::<P, S>(alloc, conn, text),
@@ -619,7 +646,7 @@ fn a_branch_is_removed(rt: HostRuntime) -> Result<(), Fail> {
 
 #[test]
 fn units_are_described_and_marked(rt: HostRuntime) -> Result<(), Fail> {
-    let cases: [Case; 4] = [
+    let cases: [Case; 5] = [
         Case {
             done: Act::Revise,
             told: "true true\n",
@@ -638,6 +665,11 @@ fn units_are_described_and_marked(rt: HostRuntime) -> Result<(), Fail> {
                    \u{20}1 true false 0 3 true false 0 4 true false 0 2 false false 21915\n\
                    \u{20}1 0 3 3 1 2 4 4 7 2 5 6\n\
                    \u{20}1 0 -\n 2 0 21915\n 3 0 -\n 4 0 -\n",
+            ..MOVED
+        },
+        Case {
+            done: Act::Head,
+            told: " 1 Hull Dock Company 4 Maps\n 2 Minutes\n 4 Maps 2 Minutes\n",
             ..MOVED
         },
         Case {
