@@ -239,7 +239,7 @@ fn removed<P: Places, S: Alter>(
 }
 
 /// Whether unit 1 is described so, and lies in this container alone.
-#[tactic(auto, using(crate::proofs::Going::in_some, crate::proofs::Going::looked_on))]
+#[tactic(auto, using(crate::proofs::Going::looked_on))]
 fn is_described<P: Places, S: Alter>(
     alloc: Global,
     conn: &mut Connection<S>,
@@ -393,7 +393,7 @@ fn set<P: Places, S: Alter>(
 }
 
 /// Which unit has number 2 in this source.
-#[tactic(auto, using(crate::proofs::Going::in_some, crate::proofs::Going::looked_on))]
+#[tactic(auto, using(crate::proofs::Going::looked_on))]
 fn known_as_two<P: Places, S: Alter>(
     alloc: Global,
     conn: &mut Connection<S>,
