@@ -2,19 +2,18 @@
 
 ghost use Rattle.std.specs.Prelude.{◌<◌, ◌^◌, OnOk};
 ghost use Rattle.sqlite.specs.Held.{state};
-ghost use Rattle.tree_core.specs.Versions.{Spans};
+ghost use Rattle.tree_core.specs.Versions.{Links};
 ghost use Rattle.office_tables.specs.Step.{InTransaction};
 
 use crate::desk::{day_after, next_turn};
 use crate::reading_room::furnished;
 use crate::tests::new_office;
-use catalogue_store::StoreFault;
+use catalogue_store::{LinkPlaces, StoreFault};
 use desk_core::Limits;
 use desk_store::{
     FirstOrder, OrderState, append_order, end_order, grant, load_check_desk, record_run, set_seat,
 };
 use office_tables::change;
-use span_places::SpanPlaces;
 use sqlite::types::ValueRef;
 use sqlite::types::ValueRef::{Int, Null, Text};
 use sqlite::{Alter, Connection};
@@ -26,8 +25,8 @@ use std::test::Fail;
 /// Ann sits and may see unit 1. She had container 1, which the first run brought, and gave it back.
 #[tactic(auto, using(crate::proofs::Going::went_on))]
 fn served<S: Alter>(alloc: Global, conn: &mut Connection<S>) -> Result<(), StoreFault>
-    requires inside { InTransaction Spans (state S.Store conn.old) }
-    ensures inside { OnOk result (InTransaction Spans (state S.Store conn.new)) }
+    requires inside { InTransaction Links (state S.Store conn.old) }
+    ensures inside { OnOk result (InTransaction Links (state S.Store conn.new)) }
 {
     let mut text = String::new(alloc);
     furnished(alloc, conn, &mut text)?;
@@ -74,8 +73,8 @@ fn put<S: Alter>(
     row: Row,
     cells: &[ValueRef<'_>],
 ) -> Result<(), StoreFault>
-    requires inside { InTransaction Spans (state S.Store conn.old) }
-    ensures inside { OnOk result (InTransaction Spans (state S.Store conn.new)) }
+    requires inside { InTransaction Links (state S.Store conn.old) }
+    ensures inside { OnOk result (InTransaction Links (state S.Store conn.new)) }
 {
     match row {
         Row::Reader => change(conn, PUT_READER, cells),
@@ -109,8 +108,8 @@ const PUT_LINE: &str =
 
 /// Writes rows, one after the other.
 fn put_all<S: Alter>(conn: &mut Connection<S>, writes: &[Write]) -> Result<(), StoreFault>
-    requires inside { InTransaction Spans (state S.Store conn.old) }
-    ensures inside { OnOk result (InTransaction Spans (state S.Store conn.new)) }
+    requires inside { InTransaction Links (state S.Store conn.old) }
+    ensures inside { OnOk result (InTransaction Links (state S.Store conn.new)) }
 {
     for write in writes {
         let (row, cells) = *write;
@@ -126,7 +125,7 @@ fn told<S: Alter>(
     conn: &mut Connection<S>,
     writes: &[Write],
 ) -> Result<u8, StoreFault>
-    requires inside { InTransaction Spans (state S.Store conn.old) }
+    requires inside { InTransaction Links (state S.Store conn.old) }
 {
     served(alloc, conn)?;
     put_all(conn, writes)?;
@@ -149,7 +148,7 @@ fn told_in_new<S: Alter>(
     conn: &mut Connection<S>,
     writes: &[Write],
 ) -> Result<u8, Fail> {
-    new_office::<SpanPlaces, S>(alloc, conn)?;
+    new_office::<LinkPlaces, S>(alloc, conn)?;
     let cause = told(alloc, conn, writes)?;
     Ok(cause)
 }

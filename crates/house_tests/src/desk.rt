@@ -1,13 +1,13 @@
 //! The desk's tables, over a store in memory: readers, seats, orders, places and permits. The desk's calls look at no
-//! places of units, so these tests, and those of its days and its check, run over one keeping of them: that of a new file.
+//! places of units, so these tests, and those of its days and its check, run over one keeping of them: links.
 
 ghost use Rattle.std.specs.Prelude.{◌<◌, ◌^◌, OnOk};
 ghost use Rattle.sqlite.specs.Held.{state};
-ghost use Rattle.tree_core.specs.Versions.{Spans};
+ghost use Rattle.tree_core.specs.Versions.{Links};
 ghost use Rattle.office_tables.specs.Step.{InTransaction};
 
 use crate::tests::{Query, new_office, show_rows, two_units};
-use catalogue_store::{StoreFault, begin, commit};
+use catalogue_store::{LinkPlaces, StoreFault, begin, commit};
 use desk_core::Place;
 use desk_store::{
     FirstOrder, OrderState, add_reader, append_order, at_desk, candidates, end_order, grant,
@@ -16,7 +16,6 @@ use desk_store::{
 };
 use isad_core::{Day, Text};
 use office_tables::roll_back;
-use span_places::SpanPlaces;
 use sqlite::{Alter, Connection};
 use std::alloc::Global;
 use std::process::Abort;
@@ -38,8 +37,8 @@ pub(crate) fn register<S: Alter>(
     name: &str,
     text: &mut String,
 ) -> Result<(), StoreFault>
-    requires inside { InTransaction Spans (state S.Store conn.old) }
-    ensures inside { OnOk result (InTransaction Spans (state S.Store conn.new)) }
+    requires inside { InTransaction Links (state S.Store conn.old) }
+    ensures inside { OnOk result (InTransaction Links (state S.Store conn.new)) }
 {
     let name = Text::new(alloc, name)?;
     let ticket = add_reader(conn, &name, day_after(0)?)?.unwrap_or(0);
@@ -54,7 +53,7 @@ fn seated<S: Alter>(
     conn: &mut Connection<S>,
     text: &mut String,
 ) -> Result<(), StoreFault>
-    requires inside { InTransaction Spans (state S.Store conn.old) }
+    requires inside { InTransaction Links (state S.Store conn.old) }
 {
     register(alloc, conn, "Ann", text)?;
     register(alloc, conn, "Bob", text)?;
@@ -76,8 +75,8 @@ fn ordered<S: Alter>(
     conn: &mut Connection<S>,
     text: &mut String,
 ) -> Result<(), StoreFault>
-    requires inside { InTransaction Spans (state S.Store conn.old) }
-    ensures inside { OnOk result (InTransaction Spans (state S.Store conn.new)) }
+    requires inside { InTransaction Links (state S.Store conn.old) }
+    ensures inside { OnOk result (InTransaction Links (state S.Store conn.new)) }
 {
     register(alloc, conn, "Ann", text)?;
     append_order(conn, 1, 1, 1, day_after(0)?)?;
@@ -94,7 +93,7 @@ fn carded<S: Alter>(
     conn: &mut Connection<S>,
     text: &mut String,
 ) -> Result<(), StoreFault>
-    requires inside { InTransaction Spans (state S.Store conn.old) }
+    requires inside { InTransaction Links (state S.Store conn.old) }
 {
     ordered(alloc, conn, text)?;
     let day = day_after(1)?;
@@ -118,7 +117,7 @@ fn ended<S: Alter>(
     conn: &mut Connection<S>,
     text: &mut String,
 ) -> Result<(), StoreFault>
-    requires inside { InTransaction Spans (state S.Store conn.old) }
+    requires inside { InTransaction Links (state S.Store conn.old) }
 {
     ordered(alloc, conn, text)?;
     end_order(conn, 1, OrderState::Done)?;
@@ -137,7 +136,7 @@ fn brought<S: Alter>(
     conn: &mut Connection<S>,
     text: &mut String,
 ) -> Result<(), StoreFault>
-    requires inside { InTransaction Spans (state S.Store conn.old) }
+    requires inside { InTransaction Links (state S.Store conn.old) }
 {
     ordered(alloc, conn, text)?;
     let taken = [FirstOrder {
@@ -161,9 +160,9 @@ fn permitted<S: Alter>(
     conn: &mut Connection<S>,
     text: &mut String,
 ) -> Result<(), StoreFault>
-    requires inside { InTransaction Spans (state S.Store conn.old) }
+    requires inside { InTransaction Links (state S.Store conn.old) }
 {
-    two_units::<SpanPlaces, S>(alloc, conn)?;
+    two_units::<LinkPlaces, S>(alloc, conn)?;
     grant(conn, 1, 1, day_after(0)?)?;
     grant(conn, 1, 2, day_after(0)?)?;
     grant(conn, 1, 2, day_after(9)?)?;
@@ -183,7 +182,7 @@ fn picked<S: Alter>(
     conn: &mut Connection<S>,
     text: &mut String,
 ) -> Result<(), StoreFault>
-    requires inside { InTransaction Spans (state S.Store conn.old) }
+    requires inside { InTransaction Links (state S.Store conn.old) }
 {
     append_order(conn, 1, 7, 2, day_after(0)?)?;
     append_order(conn, 2, 7, 1, day_after(0)?)?;
@@ -210,7 +209,7 @@ fn opened<S: Alter>(
     conn: &mut Connection<S>,
     text: &mut String,
 ) -> Result<(), StoreFault>
-    requires inside { InTransaction Spans (state S.Store conn.old) }
+    requires inside { InTransaction Links (state S.Store conn.old) }
 {
     register(alloc, conn, "Bob", text)?;
     set_seat(conn, 2, Some(1))?;
@@ -236,7 +235,7 @@ fn carry_out<S: Alter>(
     done: Act,
     text: &mut String,
 ) -> Result<(), StoreFault>
-    requires inside { InTransaction Spans (state S.Store conn.old) }
+    requires inside { InTransaction Links (state S.Store conn.old) }
 {
     match done {
         Act::Sit => seated(alloc, conn, text),
@@ -251,8 +250,8 @@ fn carry_out<S: Alter>(
 
 /// What was done is committed, and another transaction begins.
 pub(crate) fn next_turn<S: Alter>(conn: &mut Connection<S>) -> Result<(), StoreFault>
-    requires inside { InTransaction Spans (state S.Store conn.old) }
-    ensures inside { OnOk result (InTransaction Spans (state S.Store conn.new)) }
+    requires inside { InTransaction Links (state S.Store conn.old) }
+    ensures inside { OnOk result (InTransaction Links (state S.Store conn.new)) }
 {
     commit(conn)?;
     begin(conn)
@@ -290,7 +289,7 @@ fn told<S: Alter>(
     queries: &[Query],
 ) -> Result<String, Fail> {
     let mut text = String::new(alloc);
-    new_office::<SpanPlaces, S>(alloc, conn)?;
+    new_office::<LinkPlaces, S>(alloc, conn)?;
     next_turn(conn)?;
     if let Err(fault) = carry_out(alloc, conn, done, &mut text) {
         taken_back(alloc, conn, fault)?;

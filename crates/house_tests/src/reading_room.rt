@@ -3,20 +3,19 @@
 ghost use Rattle.std.specs.Prelude.{◌<◌, ◌^◌, OnOk};
 ghost use Rattle.std.specs.List.{AllByRecursion};
 ghost use Rattle.sqlite.specs.Held.{state};
-ghost use Rattle.tree_core.specs.Versions.{Spans};
+ghost use Rattle.tree_core.specs.Versions.{Links};
 ghost use Rattle.office_tables.specs.Step.{InTransaction};
 ghost use Rattle.desk_store.specs.Runs.{IsNumbered};
 
 use crate::desk::{day_after, register};
 use crate::tests::{Query, new_office, show_rows};
-use catalogue_store::{NewUnit, StoreFault, add_unit, commit};
+use catalogue_store::{LinkPlaces, NewUnit, StoreFault, add_unit, commit};
 use desk_core::{Place, slip_text};
 use desk_store::{
     FirstOrder, OrderState, append_order, at_desk, candidates, end_order, issued, open_day, queue,
     reader, record_run, renew, run, seats, set_place, set_seat,
 };
 use isad_core::{BoxKey, List, Text, Values};
-use span_places::SpanPlaces;
 use sqlite::{Alter, Connection};
 use std::alloc::{AllocError, Global};
 use std::process::Abort;
@@ -47,9 +46,9 @@ fn add_boxed<S: Alter>(
     name: &str,
     location: &str,
 ) -> Result<(), StoreFault>
-    requires inside { InTransaction Spans (state S.Store conn.old) }
+    requires inside { InTransaction Links (state S.Store conn.old) }
     requires small { id < 2 ^ 62 }
-    ensures inside { OnOk result (InTransaction Spans (state S.Store conn.new)) }
+    ensures inside { OnOk result (InTransaction Links (state S.Store conn.new)) }
 {
     let values = boxed(alloc, name, location)?;
     let source = Text::new(alloc, "a")?;
@@ -61,7 +60,7 @@ fn add_boxed<S: Alter>(
         values: &values,
         draft: false,
     };
-    add_unit::<SpanPlaces, S>(alloc, conn, None, &unit)
+    add_unit::<LinkPlaces, S>(alloc, conn, None, &unit)
 }
 
 /// Containers 1 to 3 in two strongrooms, and Ann, with ticket 1.
@@ -70,8 +69,8 @@ pub(crate) fn furnished<S: Alter>(
     conn: &mut Connection<S>,
     text: &mut String,
 ) -> Result<(), StoreFault>
-    requires inside { InTransaction Spans (state S.Store conn.old) }
-    ensures inside { OnOk result (InTransaction Spans (state S.Store conn.new)) }
+    requires inside { InTransaction Links (state S.Store conn.old) }
+    ensures inside { OnOk result (InTransaction Links (state S.Store conn.new)) }
 {
     add_boxed(alloc, conn, 1, "Box 1", "Strongroom 2")?;
     add_boxed(alloc, conn, 2, "Box 2", "Strongroom 1")?;
@@ -87,8 +86,8 @@ fn show_queue<S: Alter>(
     container: u64,
     text: &mut String,
 ) -> Result<(), StoreFault>
-    requires inside { InTransaction Spans (state S.Store conn.old) }
-    ensures inside { OnOk result (InTransaction Spans (state S.Store conn.new)) }
+    requires inside { InTransaction Links (state S.Store conn.old) }
+    ensures inside { OnOk result (InTransaction Links (state S.Store conn.new)) }
 {
     let Some(known) = queue(alloc, conn, container)? else {
         text.push_str("unknown\n")?;
@@ -115,8 +114,8 @@ fn show_candidates<S: Alter>(
     conn: &mut Connection<S>,
     text: &mut String,
 ) -> Result<(), StoreFault>
-    requires inside { InTransaction Spans (state S.Store conn.old) }
-    ensures inside { OnOk result (InTransaction Spans (state S.Store conn.new)) }
+    requires inside { InTransaction Links (state S.Store conn.old) }
+    ensures inside { OnOk result (InTransaction Links (state S.Store conn.new)) }
 {
     for first in &candidates(alloc, conn)? {
         let (container, order, ticket) = (first.container, first.order, first.ticket);
@@ -132,9 +131,9 @@ fn fetch<S: Alter>(
     taken: &[FirstOrder],
     text: &mut String,
 ) -> Result<(), StoreFault>
-    requires inside { InTransaction Spans (state S.Store conn.old) }
+    requires inside { InTransaction Links (state S.Store conn.old) }
     requires lines { AllByRecursion IsNumbered taken.now }
-    ensures inside { OnOk result (InTransaction Spans (state S.Store conn.new)) }
+    ensures inside { OnOk result (InTransaction Links (state S.Store conn.new)) }
 {
     let run = record_run(conn, day_after(0)?, taken)?.unwrap_or(0);
     write!(text, "run {run}\n")?;
@@ -149,8 +148,8 @@ fn show_slip<S: Alter>(
     number: u64,
     text: &mut String,
 ) -> Result<(), StoreFault>
-    requires inside { InTransaction Spans (state S.Store conn.old) }
-    ensures inside { OnOk result (InTransaction Spans (state S.Store conn.new)) }
+    requires inside { InTransaction Links (state S.Store conn.old) }
+    ensures inside { OnOk result (InTransaction Links (state S.Store conn.new)) }
 {
     let Some(brought) = run(alloc, conn, number)? else {
         text.push_str("no run\n")?;
@@ -165,10 +164,10 @@ fn show_slip<S: Alter>(
 
 /// A container is given out for an order.
 fn lend<S: Alter>(conn: &mut Connection<S>, container: u64, order: u64) -> Result<(), StoreFault>
-    requires inside { InTransaction Spans (state S.Store conn.old) }
+    requires inside { InTransaction Links (state S.Store conn.old) }
     requires container { container < 2 ^ 63 }
     requires order { order < 2 ^ 63 }
-    ensures inside { OnOk result (InTransaction Spans (state S.Store conn.new)) }
+    ensures inside { OnOk result (InTransaction Links (state S.Store conn.new)) }
 {
     end_order(conn, order, OrderState::Out)?;
     set_place(conn, container, Place::Out(order))
@@ -180,10 +179,10 @@ fn give_back<S: Alter>(
     container: u64,
     order: u64,
 ) -> Result<(), StoreFault>
-    requires inside { InTransaction Spans (state S.Store conn.old) }
+    requires inside { InTransaction Links (state S.Store conn.old) }
     requires container { container < 2 ^ 63 }
     requires order { order < 2 ^ 63 }
-    ensures inside { OnOk result (InTransaction Spans (state S.Store conn.new)) }
+    ensures inside { OnOk result (InTransaction Links (state S.Store conn.new)) }
 {
     end_order(conn, order, OrderState::Done)?;
     set_place(conn, container, Place::Desk)
@@ -195,8 +194,8 @@ fn lent_in_turn<S: Alter>(
     conn: &mut Connection<S>,
     text: &mut String,
 ) -> Result<(), StoreFault>
-    requires inside { InTransaction Spans (state S.Store conn.old) }
-    ensures inside { OnOk result (InTransaction Spans (state S.Store conn.new)) }
+    requires inside { InTransaction Links (state S.Store conn.old) }
+    ensures inside { OnOk result (InTransaction Links (state S.Store conn.new)) }
 {
     place_two(alloc, conn, text)?;
     show_candidates(alloc, conn, text)?;
@@ -223,8 +222,8 @@ fn place_two<S: Alter>(
     conn: &mut Connection<S>,
     text: &mut String,
 ) -> Result<(), StoreFault>
-    requires inside { InTransaction Spans (state S.Store conn.old) }
-    ensures inside { OnOk result (InTransaction Spans (state S.Store conn.new)) }
+    requires inside { InTransaction Links (state S.Store conn.old) }
+    ensures inside { OnOk result (InTransaction Links (state S.Store conn.new)) }
 {
     furnished(alloc, conn, text)?;
     register(alloc, conn, "Bob", text)?;
@@ -239,8 +238,8 @@ fn place_three<S: Alter>(
     conn: &mut Connection<S>,
     text: &mut String,
 ) -> Result<(), StoreFault>
-    requires inside { InTransaction Spans (state S.Store conn.old) }
-    ensures inside { OnOk result (InTransaction Spans (state S.Store conn.new)) }
+    requires inside { InTransaction Links (state S.Store conn.old) }
+    ensures inside { OnOk result (InTransaction Links (state S.Store conn.new)) }
 {
     furnished(alloc, conn, text)?;
     append_order(conn, 1, 1, 1, day_after(0)?)?;
@@ -254,8 +253,8 @@ fn fetched_in_two_runs<S: Alter>(
     conn: &mut Connection<S>,
     text: &mut String,
 ) -> Result<(), StoreFault>
-    requires inside { InTransaction Spans (state S.Store conn.old) }
-    ensures inside { OnOk result (InTransaction Spans (state S.Store conn.new)) }
+    requires inside { InTransaction Links (state S.Store conn.old) }
+    ensures inside { OnOk result (InTransaction Links (state S.Store conn.new)) }
 {
     place_three(alloc, conn, text)?;
     show_candidates(alloc, conn, text)?;
@@ -289,8 +288,8 @@ fn show_card<S: Alter>(
     days: u8,
     text: &mut String,
 ) -> Result<(), StoreFault>
-    requires inside { InTransaction Spans (state S.Store conn.old) }
-    ensures inside { OnOk result (InTransaction Spans (state S.Store conn.new)) }
+    requires inside { InTransaction Links (state S.Store conn.old) }
+    ensures inside { OnOk result (InTransaction Links (state S.Store conn.new)) }
 {
     let Some(card) = reader(alloc, conn, 1, day_after(days)?)? else {
         text.push_str("no reader\n")?;
@@ -309,8 +308,8 @@ fn counted_by_day<S: Alter>(
     conn: &mut Connection<S>,
     text: &mut String,
 ) -> Result<(), StoreFault>
-    requires inside { InTransaction Spans (state S.Store conn.old) }
-    ensures inside { OnOk result (InTransaction Spans (state S.Store conn.new)) }
+    requires inside { InTransaction Links (state S.Store conn.old) }
+    ensures inside { OnOk result (InTransaction Links (state S.Store conn.new)) }
 {
     place_three(alloc, conn, text)?;
     end_order(conn, 1, OrderState::Cancelled)?;
@@ -329,8 +328,8 @@ fn show_seats<S: Alter>(
     conn: &mut Connection<S>,
     text: &mut String,
 ) -> Result<(), StoreFault>
-    requires inside { InTransaction Spans (state S.Store conn.old) }
-    ensures inside { OnOk result (InTransaction Spans (state S.Store conn.new)) }
+    requires inside { InTransaction Links (state S.Store conn.old) }
+    ensures inside { OnOk result (InTransaction Links (state S.Store conn.new)) }
 {
     for taken in &seats(alloc, conn)? {
         let (seat, ticket) = (taken.seat, taken.ticket);
@@ -346,8 +345,8 @@ fn seated_in_turn<S: Alter>(
     conn: &mut Connection<S>,
     text: &mut String,
 ) -> Result<(), StoreFault>
-    requires inside { InTransaction Spans (state S.Store conn.old) }
-    ensures inside { OnOk result (InTransaction Spans (state S.Store conn.new)) }
+    requires inside { InTransaction Links (state S.Store conn.old) }
+    ensures inside { OnOk result (InTransaction Links (state S.Store conn.new)) }
 {
     place_two(alloc, conn, text)?;
     register(alloc, conn, "Cy", text)?;
@@ -367,8 +366,8 @@ fn show_desk<S: Alter>(
     conn: &mut Connection<S>,
     text: &mut String,
 ) -> Result<(), StoreFault>
-    requires inside { InTransaction Spans (state S.Store conn.old) }
-    ensures inside { OnOk result (InTransaction Spans (state S.Store conn.new)) }
+    requires inside { InTransaction Links (state S.Store conn.old) }
+    ensures inside { OnOk result (InTransaction Links (state S.Store conn.new)) }
 {
     for &(container, awaited) in &at_desk(alloc, conn)? {
         write!(text, "{container} {awaited}\n")?;
@@ -384,8 +383,8 @@ fn reshelved<S: Alter>(
     conn: &mut Connection<S>,
     text: &mut String,
 ) -> Result<(), StoreFault>
-    requires inside { InTransaction Spans (state S.Store conn.old) }
-    ensures inside { OnOk result (InTransaction Spans (state S.Store conn.new)) }
+    requires inside { InTransaction Links (state S.Store conn.old) }
+    ensures inside { OnOk result (InTransaction Links (state S.Store conn.new)) }
 {
     place_three(alloc, conn, text)?;
     set_place(conn, 1, Place::Desk)?;
@@ -417,7 +416,7 @@ fn spend<S: Alter>(
     visit: Visit,
     text: &mut String,
 ) -> Result<(), StoreFault> {
-    new_office::<SpanPlaces, S>(alloc, conn)?;
+    new_office::<LinkPlaces, S>(alloc, conn)?;
     match visit {
         Visit::Lend => lent_in_turn(alloc, conn, text)?,
         Visit::Fetch => fetched_in_two_runs(alloc, conn, text)?,

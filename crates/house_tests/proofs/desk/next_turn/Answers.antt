@@ -1,5 +1,5 @@
 use Rattle.sqlite.specs.Held.{state}
-use Rattle.tree_core.specs.Versions.{Spans}
+use Rattle.tree_core.specs.Versions.{Links}
 use Rattle.house_tests.proofs.Going.{turned}
 use Rattle.house_tests.proofs.desk.next_turn.Goals as goal
 
@@ -8,4 +8,4 @@ returns g c =
     let a = state g.S.Store c.args.conn.now in
     let b = state g.S.Store c.commit.new.conn in
     let d = state g.S.Store c.begin.new.conn in
-    record { inside = turned Spans a b d c.begin.result c.requires.inside c.commit.ensures.crash c.begin.ensures.crash c.in_ok-commit.ensures.committed c.begin.ensures.begun }
+    record { inside = turned Links a b d c.begin.result c.requires.inside c.commit.ensures.crash c.begin.ensures.crash c.in_ok-commit.ensures.committed c.begin.ensures.begun }
