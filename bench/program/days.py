@@ -6,7 +6,8 @@ the bytes that it has, and the store has to be sound then. With DAY and STORE th
 how many days were held, and ends with 1 where something is other than wanted or no day is there. A day has these lines:
 
     # what it is about
-    POST PATH BODY      a request; @FILE in place of BODY is a file that lies beside the day
+    POST PATH BODY      a request; @FILE in place of BODY is a file that lies beside the day; where neither is there, the
+                        text that follows
     GET PATH
     200 JSON            its answer; where no JSON is there, the text that follows
     | TEXT              a line of a text
@@ -73,9 +74,11 @@ class Day:
     def read(self, line, *text):
         """Takes in a line, with the lines of the text that follows it."""
         word, _, rest = line.partition(" ")
+        lines = "".join(f"{it[2:]}\n" for it in text)
         if word == "POST":
             path, _, body = rest.partition(" ")
-            self.said += post(path, (self.folder / body[1:]).read_bytes() if body[:1] == "@" else body.encode())
+            said = (self.folder / body[1:]).read_bytes() if body[:1] == "@" else (body or lines).encode()
+            self.said += post(path, said)
         elif word == "GET":
             self.said += f"GET {rest} HTTP/1.1\r\nHost: x\r\n\r\n".encode()
         elif word[0] == ">":
@@ -88,8 +91,7 @@ class Day:
         elif rest:
             self.answered += answer(word, "application/json", rest.encode())
         else:
-            body = "".join(f"{it[2:]}\n" for it in text).encode()
-            self.answered += answer(word, "text/plain; charset=utf-8", body)
+            self.answered += answer(word, "text/plain; charset=utf-8", lines.encode())
 
     def is_held(self, *words, run=whole):
         """Whether the program answers as the day has it, and tells where it does not."""
