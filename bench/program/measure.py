@@ -121,8 +121,8 @@ class Program:
     def __init__(self, program, room):
         self.program, self.room, self.store = program, room, f"{room}/office.db"
 
-    def spent(self, words):
-        """Runs the program without input, and gives what it took and what it printed."""
+    def spent(self, words, status=0):
+        """Runs the program without input, which has to end with this status, and gives what it took and what it printed."""
         times = f"{self.room}/times"
         start = time.perf_counter()
         done = subprocess.run(
@@ -131,7 +131,7 @@ class Program:
             capture_output=True,
         )
         wall = time.perf_counter() - start
-        if done.returncode != 0:
+        if done.returncode != status:
             fail(f"{words}: {done.returncode} {done.stderr!r}")
         with open(times, encoding="ascii") as it:
             user, system, kilobytes = it.read().split()
