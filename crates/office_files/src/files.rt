@@ -5,6 +5,7 @@ ghost use Rattle.sqlite.specs.Files.{IsOpened, file_state};
 ghost use Rattle.sqlite.specs.Held.{IsNew};
 ghost use Rattle.sqlite.specs.Start.{FindsIn};
 ghost use Rattle.sqlite.specs.State.{HasCleanDisk};
+ghost use Rattle.office_files.specs.Rows.{StandInOrder};
 
 use sqlite::{Connection, Error, ErrorCode, FileFrom, FileStore, Start};
 use std::alloc::AllocError;
@@ -40,6 +41,7 @@ fn open<S: Start>(
     ensures opened { IfOk result (λ conn. HasCleanDisk (file_state conn) → IsOpened conn) }
     ensures found { IfOk result (λ conn. HasCleanDisk (file_state conn)
         → FindsIn (image_at S.Start) (file_state conn)) }
+    ensures ordered { IfOk result (λ conn. HasCleanDisk (file_state conn) → StandInOrder (file_state conn).now) }
     ensures fresh { IfOk result IsNew }
 {
     match Connection::open_from(rt, path, false, start) {
@@ -64,6 +66,7 @@ pub fn make<S: Start>(
     ensures opened { IfOk result (λ conn. HasCleanDisk (file_state conn) → IsOpened conn) }
     ensures found { IfOk result (λ conn. HasCleanDisk (file_state conn)
         → FindsIn (image_at S.Start) (file_state conn)) }
+    ensures ordered { IfOk result (λ conn. HasCleanDisk (file_state conn) → StandInOrder (file_state conn).now) }
     ensures fresh { IfOk result IsNew }
 {
     // A log without its file may have what another office was told last.
@@ -95,6 +98,7 @@ pub fn find<S: Start>(
     ensures opened { IfOk result (λ conn. HasCleanDisk (file_state conn) → IsOpened conn) }
     ensures found { IfOk result (λ conn. HasCleanDisk (file_state conn)
         → FindsIn (image_at S.Start) (file_state conn)) }
+    ensures ordered { IfOk result (λ conn. HasCleanDisk (file_state conn) → StandInOrder (file_state conn).now) }
     ensures fresh { IfOk result IsNew }
 {
     match fs::exists(rt, path) {
