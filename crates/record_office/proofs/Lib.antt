@@ -1,5 +1,6 @@
 pub mod GivenSettings
 pub mod Judgments
+pub mod KeptLemmas
 pub mod Named
 pub mod PerformedLemmas
 pub mod StreamLemmas

@@ -82,7 +82,8 @@ was_busy called f was busy = go f (subst (λ r. IfErr r IsBusy) was busy)
     go _ is = absurd is
 
 module _ {S : Type 0} (store : Ghosts S) (image : Image) where
-  module _ (left left_after held held_after : Known) (office after : Held S) (opened : IsOpened store image office) where
+  module _ (left left_after held held_after : Known) (office after : Held S) (opened : IsOpened store image office)
+      (intact : HasCleanDisk (state store after) → HasCleanDisk (state store office)) where
     talked_with : (end : Ended) → AtEndIf left_after (Ends end)
         → Talks (is_shown store ShowsSpanRows Spans) (is_clean store) left left_after held held_after office end after
         → IsTalkedWith store image left left_after held held_after end
@@ -90,6 +91,7 @@ module _ {S : Type 0} (store : Ghosts S) (image : Image) where
       office = office;
       after = after;
       opened = opened;
+      intact = intact;
       input = read;
       output = written;
       read = gone;
@@ -119,9 +121,10 @@ module _ {S : Type 0} (store : Ghosts S) (image : Image) where
     import_failed (Ok u) why = tt
     import_failed (Err f) why = inr (reply, taken, why)
 
-  module _ (held held_after : Known) (port connections : ℕ) (office after : Held S) (opened : IsOpened store image office) where
+  module _ (held held_after : Known) (port connections : ℕ) (office after : Held S) (opened : IsOpened store image office)
+      (intact : HasCleanDisk (state store after) → HasCleanDisk (state store office)) where
     served : (all : Bool) → Serves (is_shown store ShowsSpanRows Spans) (is_clean store) connections office after all → HasServed store image connections all
-    served all sessions = record { office = office; after = after; opened = opened; sessions = sessions }
+    served all sessions = record { office = office; after = after; opened = opened; intact = intact; sessions = sessions }
 
     pub serve_done : (r : Result (Unit {0}) Fault)
         → OnOk r (Listens port held held_after × Serves (is_shown store ShowsSpanRows Spans) (is_clean store) connections office after true)
@@ -144,12 +147,13 @@ module _ {S : Type 0} (store : Ghosts S) (image : Image) where
 
   -- a store was not brought over
   pub not_brought : (held : Known) (found after : Held S) (why : OpenFault) (r : Result (Unit {0}) Fault) → IsErrAnd r (λ f. f ≡ fault_of_opening why) → IsStore store image found
+      → (HasCleanDisk (state store after) → HasCleanDisk (state store found))
       → (HasCleanDisk (state store after) → IsAsBefore (state store found) (state store after))
       → (HasCleanDisk (state store after) → HasAdoptCause Links (state store found) (state store after) why)
       → IfErr r (MigrateFails store image held held)
-  not_brought held found after why (Ok u) is found_so back cause = tt
-  not_brought held found after why (Err f) is found_so back cause =
-      let stays : IsNotBroughtOver store image f = record { found = found; after = after; is_store = found_so; why = why; told = is; back = back; cause = cause } in
+  not_brought held found after why (Ok u) is found_so intact back cause = tt
+  not_brought held found after why (Err f) is found_so intact back cause =
+      let stays : IsNotBroughtOver store image f = record { found = found; after = after; is_store = found_so; intact = intact; why = why; told = is; back = back; cause = cause } in
       inr (inl (stays, Appends-nil held))
 
   -- a new office was made, and nothing was read or printed

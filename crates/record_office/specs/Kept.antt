@@ -1,18 +1,24 @@
 -- What a file held when it was opened, and the office that was found there.
-use Rattle.std.specs.Prelude.{◌≡◌, IsTrue, Option, Some, None}
+use Rattle.std.specs.Prelude.{◌≡◌, suc, length, IsTrue, Option, Some, None}
+use Rattle.std.specs.List.{AllByRecursion}
 use Rattle.sqlite.specs.Effect.{Database}
 use Rattle.sqlite.specs.Files.{AreFoundIn, HoldsDatabase}
+use Rattle.sqlite.specs.Order.{Row}
 use Rattle.sqlite.specs.Recovery.{Image}
 use Rattle.sqlite.specs.State as store
+use Rattle.sqlite.specs.Table.{Table}
 use Rattle.sqlite.specs.Tree.{Trees}
 use Rattle.office_checks.specs.Verdicts.{IsVerdict}
 use Rattle.office_checks.specs.declared.verdict.Verdict.TheVariants as verdict
 use Rattle.office_core.specs.SoundOffice.{IsSoundOffice}
-use Rattle.whole_rows.specs.Whole.{AreWholeTables}
+use Rattle.office_core.specs.State.{State}
+use Rattle.office_files.specs.Rows.{StandInOrder}
+use Rattle.office_tables.specs.Schema.{schema}
 use Rattle.running_office.specs.Adopting.{state_in}
 use Rattle.running_office.specs.Resting.{IsIn}
 use Rattle.running_office.specs.declared.faults.OpenFault.{OpenFault}
 use Rattle.running_office.specs.declared.faults.OpenFault.TheVariants as opening
+use Rattle.shown_office.specs.Shown.{ShowsState}
 use Rattle.span_places.specs.Shows.{ShowsSpanRows}
 use Rattle.tree_core.specs.Versions.{Spans}
 
@@ -21,15 +27,34 @@ pub record AreHeld (image : Image) (tables : Trees) : Type 0 where
   pub holds : (others : Trees) → HoldsDatabase image others → tables ≡ others
   pub reads : AreFoundIn image tables
 
--- The file's tables are a sound office's, and the connection has them while it is open. Where their rows are whole, the
--- office is in the state that they say, which is sound.
+-- Each row of each table has all its cells. It fails only where a column was added to a table that had rows.
+abbrev pub HaveAllCells : Database → Type 0
+HaveAllCells db =
+    AllByRecursion (λ (table : Table). AllByRecursion (λ (row : Row). length row ≡ suc (length table.columns)) (db.trees table.tree)) db.schema.tables
+
+-- the file and its log hold the tables of an office that is in this state
+abbrev pub HoldsOffice : Image → State → Type 0
+HoldsOffice image s =
+    (tables : Trees) × HoldsDatabase image tables × ShowsState ShowsSpanRows Spans (record { schema = schema Spans; trees = tables }) s
+
+-- The file's tables are a sound office's, their rows stand by whole numbers, which rise, and the connection has them
+-- while it is open. The office is in the state that the tables were left in. Whoever wrote them, it is in the state that
+-- their rows say, which is sound, where these have all their cells.
 pub record IsFound (image : Image) (at : store.State) : Type 0 where
   pub found : Database
   pub held : AreHeld image found.trees
+  pub ordered : StandInOrder found
   pub verdict : IsVerdict Spans found verdict.Sound
   pub same : IsTrue at.is_open → at.now ≡ found
-  pub shows : AreWholeTables found → IsIn ShowsSpanRows Spans (state_in Spans found.trees) at
-  pub sound : AreWholeTables found → IsTrue at.is_open → IsSoundOffice (state_in Spans found.trees)
+  pub left : (s : State) → HoldsOffice image s → IsIn ShowsSpanRows Spans s at
+  pub shows : HaveAllCells found → IsIn ShowsSpanRows Spans (state_in Spans found.trees) at
+  pub sound : HaveAllCells found → IsTrue at.is_open → IsSoundOffice (state_in Spans found.trees)
+
+-- What is found in a file is in the state that was left there: tables that it holds, and that are a sound office's, show
+-- each state of an office that it holds.
+abbrev pub IsInTheStateThatWasLeft : Image → State → Database → Type 0
+IsInTheStateThatWasLeft image s found =
+    HoldsOffice image s → AreHeld image found.trees → IsVerdict Spans found verdict.Sound → ShowsState ShowsSpanRows Spans found s
 
 -- what is told of tables, where they are what was to blame
 abbrev pub IsJudged : Option OpenFault → Database → Type 0
@@ -40,6 +65,6 @@ IsJudged (Some opening.NoOffice) db = IsVerdict Spans db verdict.NoOffice
 IsJudged (Some (opening.Unsound cause)) db = IsVerdict Spans db (verdict.Unsound cause)
 IsJudged (Some _) db = Unit {0}
 
--- the tables that the file holds were judged so
+-- the tables that the file holds, whose rows stand by whole numbers, which rise, were judged so
 abbrev pub IsJudgedIn : Image → Option OpenFault → Type 0
-IsJudgedIn image judged = (found : Database) × AreHeld image found.trees × IsJudged judged found
+IsJudgedIn image judged = (found : Database) × AreHeld image found.trees × StandInOrder found × IsJudged judged found

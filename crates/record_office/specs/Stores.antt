@@ -1,7 +1,7 @@
 -- Offices in stores: what a command did with one. A store is found with an image: the bytes that its file and its log
 -- held. That these are the files of the name that was given is the system's part. What is said of an office is said
--- while its disk has returned what was written.
-use Rattle.std.specs.Prelude.{◌≡◌, ℕ, Bool, Option}
+-- while its disk has returned what was written; a disk that has done so to the end did so before (`intact`).
+use Rattle.std.specs.Prelude.{◌≡◌, ℕ, Bool, IsOk, IsTrue, Option}
 use Rattle.std.specs.Io.KnownBytes.{Appends, Consumes}
 use Rattle.sqlite_trees.specs.declared.store.Store.{Ghosts}
 use Rattle.sqlite.specs.Held.{Held, state}
@@ -15,6 +15,7 @@ use Rattle.office_core.specs.SoundOffice.{IsSoundOffice}
 use Rattle.office_core.specs.State.{State}
 use Rattle.office_core.specs.declared.command.Command.TheVariants.{Import}
 use Rattle.office.specs.Founding.{Founding, founded}
+use Rattle.office_files.specs.Rows.{StandInOrder}
 use Rattle.running_office.specs.Adopting.{HasAdoptCause}
 use Rattle.running_office.specs.Applying.{TakesStep}
 use Rattle.running_office.specs.Migrating.{IsMigrated}
@@ -34,17 +35,18 @@ module _ {S : Type 0} (store : Ghosts S) (image : Image) where
   abbrev pub IsOpened : Held S → Type 0
   IsOpened office = HasCleanDisk (state store office) → IsFound image (state store office)
 
-  -- the tables of a store, as it was found
+  -- the tables of a store, as it was found: the image holds them, and their rows stand by whole numbers, which rise
   abbrev pub IsStore : Held S → Type 0
-  IsStore found = HasCleanDisk (state store found) → AreHeld image (state store found).now.trees
+  IsStore found = HasCleanDisk (state store found) → AreHeld image (state store found).now.trees × StandInOrder (state store found).now
 
   abbrev is_kept : Held S → State → Type 0
   is_kept = is_shown store ShowsSpanRows Spans
 
-  -- a new office was made
+  -- a new office was made, and its connection is open, so it is in that state
   pub record IsMade (founding : Founding) : Type 0 where
     pub office : Held S
     pub shows : HasCleanDisk (state store office) → IsIn ShowsSpanRows Spans (founded founding) (state store office)
+    pub kept : HasCleanDisk (state store office) → IsTrue (state store office).is_open
 
   -- A session with an office that was opened. What was read is its input, and what was written its output; where it
   -- ends with its input, all was read.
@@ -52,6 +54,7 @@ module _ {S : Type 0} (store : Ghosts S) (image : Image) where
     pub office : Held S
     pub after : Held S
     pub opened : IsOpened office
+    pub intact : HasCleanDisk (state store after) → HasCleanDisk (state store office)
     pub input : Bytes
     pub output : Bytes
     pub read : Consumes left left_after input
@@ -60,15 +63,18 @@ module _ {S : Type 0} (store : Ghosts S) (image : Image) where
     pub session : is_clean store after → (s : State) → is_kept office s
         → (t : State) × is_kept after t × Session s input output end t
 
-  -- an office that was opened took a file in, and replied so: that was one step
+  -- An office that was opened took a file in, and replied so: that was one step. After a reply that is no refusal its
+  -- connection is open, so the tables show what that step leads to.
   pub record HasTakenIn (source : Bytes) (reply : Reply) : Type 0 where
     pub office : Held S
     pub after : Held S
     pub opened : IsOpened office
+    pub intact : HasCleanDisk (state store after) → HasCleanDisk (state store office)
     pub file : Bytes
     pub step : HasCleanDisk (state store after) → (s : State) → IsSoundOffice s
         → IsIn ShowsSpanRows Spans s (state store office)
         → TakesStep ShowsSpanRows Spans s (Import source file) reply (state store after)
+    pub kept : HasCleanDisk (state store after) → IsOk reply → IsTrue (state store after).is_open
 
   -- an office that was opened served so many connections, or fewer where not all could be taken: one session after the
   -- other
@@ -76,6 +82,7 @@ module _ {S : Type 0} (store : Ghosts S) (image : Image) where
     pub office : Held S
     pub after : Held S
     pub opened : IsOpened office
+    pub intact : HasCleanDisk (state store after) → HasCleanDisk (state store office)
     pub sessions : Serves is_kept (is_clean store) connections office after all
 
   -- a store that was found was judged
@@ -83,18 +90,22 @@ module _ {S : Type 0} (store : Ghosts S) (image : Image) where
     pub after : Held S
     pub verdict : HasCleanDisk (state store after) → IsJudgedIn image judged
 
-  -- the tables of a store were a sound office's of version 1, and are one's of version 2, in the same state
+  -- the tables of a store were a sound office's of version 1, and are one's of version 2, in the same state, over a
+  -- connection that is open
   pub record IsBroughtOver : Type 0 where
     pub found : Held S
     pub after : Held S
     pub is_store : IsStore found
+    pub intact : HasCleanDisk (state store after) → HasCleanDisk (state store found)
     pub same : HasCleanDisk (state store after) → IsMigrated (state store found).now (state store after).now
+    pub kept : HasCleanDisk (state store after) → IsTrue (state store after).is_open
 
   -- the tables of a store are as they were, and why
   pub record IsNotBroughtOver (fault : Fault) : Type 0 where
     pub found : Held S
     pub after : Held S
     pub is_store : IsStore found
+    pub intact : HasCleanDisk (state store after) → HasCleanDisk (state store found)
     pub why : OpenFault
     pub told : fault ≡ fault_of_opening why
     pub back : HasCleanDisk (state store after) → IsAsBefore (state store found) (state store after)

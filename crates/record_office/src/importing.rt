@@ -1,11 +1,11 @@
 //! Takes the descriptions of a file into an office.
-ghost use Rattle.std.specs.Prelude.{◌≡◌, IfErr, IfOk, OnOk};
+ghost use Rattle.std.specs.Prelude.{◌≡◌, IfErr, IfOk, IsOk, IsTrue, OnOk};
 ghost use Rattle.sqlite.specs.Held.{state};
-ghost use Rattle.sqlite.specs.State.{HasCleanDisk};
+ghost use Rattle.sqlite.specs.State.{HasCleanDisk, Survives};
 ghost use Rattle.office_core.specs.Json.{reply_text};
 ghost use Rattle.office_core.specs.SoundOffice.{IsSoundOffice};
 ghost use Rattle.office_core.specs.State.{State};
-ghost use Rattle.running_office.specs.Applying.{TakesStep};
+ghost use Rattle.running_office.specs.Applying.{MayFind, TakesStep};
 ghost use Rattle.running_office.specs.Resting.{IsIn};
 ghost use Rattle.record_office.specs.Performed.{IsBusy, ReplyFails, ReplyPrinted};
 
@@ -29,8 +29,12 @@ pub fn take_in<P: Places, S: Alter>(
         → (s : State) → IsSoundOffice s → IsIn P.shows P.version s (state S.Store office.old)
         → IfOk result (λ reply. TakesStep P.shows P.version s (Command.Import source file.items) reply.done
         (state S.Store office.new)) }
+    ensures kept { HasCleanDisk (state S.Store office.new)
+        → IfOk result (λ reply. IsOk reply.done → IsTrue (state S.Store office.new).is_open) }
     ensures bytes { IfOk result (λ reply. reply.json ≡ reply_text reply.done) }
     ensures busy { IfErr result IsBusy }
+    ensures crash { Survives (state S.Store office.old) (state S.Store office.new)
+        (MayFind P.shows P.version (Command.Import source file.items) (state S.Store office.old)) }
 {
     let import = Command::Import {
         source,

@@ -7,6 +7,7 @@ mod commands;
 mod fakes;
 mod faults;
 mod importing;
+mod laws;
 #[cfg(test)]
 mod office_messages;
 mod perform;

@@ -1,7 +1,7 @@
 //! Offices in files.
 //!
 //! What is said of a file's content is said for every start `S`: for whatever the file held when it was opened.
-ghost use Rattle.std.specs.Prelude.{IfErr, IfOk};
+ghost use Rattle.std.specs.Prelude.{IfErr, IfOk, IsTrue};
 ghost use Rattle.sqlite.specs.Files.{file_state};
 ghost use Rattle.sqlite.specs.State.{HasCleanDisk};
 ghost use Rattle.sqlite.specs.WalFiles.{image_at};
@@ -32,6 +32,7 @@ pub fn make_office<S: Start>(
 ) -> Result<KeptOffice<S>, Fault>
     ensures founded { IfOk result (λ office. HasCleanDisk (file_state office)
         → IsIn ShowsSpanRows Spans (founded settings) (file_state office)) }
+    ensures kept { IfOk result (λ office. HasCleanDisk (file_state office) → IsTrue (file_state office).is_open) }
     ensures fault { IfErr result IsUnopened }
 {
     let conn = make(rt, store.as_str(), start)?;

@@ -10,5 +10,6 @@ returns g c clean =
     let clean_found = early found last _ c.judge.ensures.crash clean in (
       found.now,
       held_in _ found (c.in_ok-conn.ensures.opened clean_found).0 (c.in_ok-conn.ensures.found clean_found),
+      c.in_ok-conn.ensures.ordered clean_found,
       judged_so c.judge.result.0 found last (c.judge.ensures.sound clean) (c.judge.ensures.cause clean),
     )

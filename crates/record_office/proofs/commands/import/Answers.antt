@@ -1,5 +1,6 @@
 use Rattle.std.proofs.Common.{inl}
 use Rattle.std.proofs.KnownBytes.{Appends-nil}
+use Rattle.office_tables.proofs.Calls.{early}
 use Rattle.record_office.specs.Stores.{HasTakenIn}
 use Rattle.record_office.proofs.StoreLemmas.{failed_as, import_done, import_failed, no_bytes, was_busy}
 use Rattle.record_office.proofs.commands.import.Goals as goal
@@ -20,7 +21,9 @@ returns-clause-done g c =
       after = c.take_in-taken.new.office;
       opened = c.in_ok-office.ensures.found;
       file = c.in_ok-bytes.bytes.items;
+      intact = early _ _ _ c.take_in-taken.ensures.crash;
       step = c.in_ok-taken.ensures.steps;
+      kept = c.in_ok-taken.ensures.kept;
     } in
     import_done _ _ _ _ c.args.source _ taken c.tell_reply.result c.tell_reply.ensures.done
 
@@ -31,6 +34,8 @@ returns-clause-fault g c =
       after = c.take_in-taken.new.office;
       opened = c.in_ok-office.ensures.found;
       file = c.in_ok-bytes.bytes.items;
+      intact = early _ _ _ c.take_in-taken.ensures.crash;
       step = c.in_ok-taken.ensures.steps;
+      kept = c.in_ok-taken.ensures.kept;
     } in
     import_failed _ _ _ _ c.args.source _ taken c.tell_reply.result c.tell_reply.ensures.fault
