@@ -2,7 +2,7 @@
 
   edits.sh [--gate] [--over] [--jobs N] [--said FOLDER] [CRATE | CRATE/EDIT ..]
 
-An edit is a file of bench/edits/CRATE (with --gate: of crates/CRATE/must-fail), written as `rt ci` reads it: lines
+An edit is a file of mutation/edits/CRATE (with --gate: of crates/CRATE/must-fail), written as `rt ci` reads it: lines
 `file: PATH`, `old: TEXT`, `new: TEXT`. It counts as refused where the check says of the edited function itself that
 it is not proved, for a goal of its own: of a caller it only says that it calls such a function. A round takes one
 edit a function, and none whose text another of the round changes. What a round did not refuse is tried by itself, so
@@ -10,7 +10,7 @@ nothing is hidden by the other edits. An edit outside any function (a constant, 
 itself, and is refused where any function or lemma of the crate is.
 
 The copy stands over the work that `rt check` kept in out/, so check the crate first. With --over each check is
-bench/check.sh's, over the libraries that are there: no walk over what they were made from, which takes minutes in the
+mutation/check.sh's, over the libraries that are there: no walk over what they were made from, which takes minutes in the
 upper crates. Verdicts: `refused`, `PROVED` (the contracts let the wrong body through), `unreadable` (its text is gone,
 or what it makes does not compile). The last line has the counts; the exit status is 1 where one is proved or
 unreadable, or none was tried.
@@ -142,8 +142,8 @@ class Bench:
             shutil.copytree(f"{TOP}/crates/{name}", f"{room}/crates/{name}", ignore=leave)
         with open(f"{room}/crates.txt", "w", encoding="utf-8") as out:
             out.writelines(it for it in lines if re.match(r"\w+", it)[0] in wanted)
-        os.mkdir(f"{room}/bench")
-        shutil.copy(f"{TOP}/bench/check.sh", f"{room}/bench")
+        os.mkdir(f"{room}/mutation")
+        shutil.copy(f"{TOP}/mutation/check.sh", f"{room}/mutation")
         if os.path.isfile(f"{TOP}/HANDLES"):
             shutil.copy(f"{TOP}/HANDLES", room)
 
@@ -224,8 +224,8 @@ def main():
     words.add_argument("--said", metavar="FOLDER", help="keep what each check said there")
     words.add_argument("names", nargs="*", metavar="CRATE | CRATE/EDIT", help="those of a crate, or one edit")
     given = words.parse_args()
-    check = ["{room}/bench/check.sh", "{crate}"] if given.over else ["rt", "check", "--jobs", str(given.jobs)]
-    of = (lambda it: f"{TOP}/crates/{it}/must-fail") if given.gate else (lambda it: f"{TOP}/bench/edits/{it}")
+    check = ["{room}/mutation/check.sh", "{crate}"] if given.over else ["rt", "check", "--jobs", str(given.jobs)]
+    of = (lambda it: f"{TOP}/crates/{it}/must-fail") if given.gate else (lambda it: f"{TOP}/mutation/edits/{it}")
     crates = [it for it in sorted(os.listdir(f"{TOP}/crates")) if os.path.isdir(of(it))]
     names = dict.fromkeys(it.split("/")[0] for it in given.names) or crates
     counts = {"refused": 0, "PROVED": 0, "unreadable": 0}

@@ -1,7 +1,7 @@
 #!/usr/bin/env python3
 """Wrong rules, one at a time, in a copy of the repository: each has to be refused by a law or a worked row.
 
-bench/wrong_rules.py [--dry] [WORD ..]: tries those rules whose label has one of the words, or all of them. It edits
+mutation/wrong_rules.py [--dry] [WORD ..]: tries those rules whose label has one of the words, or all of them. It edits
 one definition at a time in a copy and checks the office. Build the libraries first (rt check in crates/office_rows).
 With --dry it only looks whether each text that would be edited stands once in its file. It ends with 1 where a rule is let
 through or was not tried."""

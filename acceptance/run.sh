@@ -1,10 +1,10 @@
 #!/usr/bin/env bash
 # Tests of the built program over stores in files, by other programs too. rt ci builds it (crates/record_office/out).
-#   bench/program/run.sh [PROGRAM]
+#   acceptance/run.sh [PROGRAM]
 # Here: each exit status, `serve` by curl, a backup after a server that was stopped, a store by sqlite3, what `check` says
 # where sqlite3 changed a row, and the file of version 1 that is kept beside this. days.py: days of an office, over `trial`
 # and over `talk`. limits.py: days at the limits of an office and of a connection. rounds.py: every command and question
-# fifty times in one session. sessions.py: random sessions beside a plain office. ../faults/init.py: `init` without one of
+# fifty times in one session. sessions.py: random sessions beside a plain office. ../mutation/faults/init.py: `init` without one of
 # its allocations. migrating.py: a store of version 1 of 2,000 units, made by sqlite3, is migrated and compared. stopped.py:
 # commands that are stopped after each change of their files. failing.py: a disk that fails at each of these changes, under a
 # program that goes on. killed.py: kill -9 in the middle of imports and sessions.
@@ -12,7 +12,7 @@
 # where that is missing and cannot be installed; in CI that too is wrong.
 set -euo pipefail
 here=$(cd "$(dirname "$0")" && pwd)
-program=$(realpath "${1:-$here/../../crates/record_office/out/record_office}")
+program=$(realpath "${1:-$here/../crates/record_office/out/record_office}")
 room=$(mktemp -d)
 # a stop of the program leaves the same on any file system; here no sync waits for a disk
 fast=$([ -w /dev/shm ] && mktemp -d -p /dev/shm || mktemp -d)
@@ -290,7 +290,7 @@ timeout 600 python3 "$here/days.py" "$program" "$fast" || wrong=1
 timeout 300 python3 "$here/limits.py" "$program" "$fast" || wrong=1
 timeout 120 python3 "$here/rounds.py" "$program" || wrong=1
 timeout 300 python3 "$here/sessions.py" "$program" 0 100 || wrong=1
-if has cc gcc; then timeout 300 python3 "$here/../faults/init.py" "$program" "$fast" 25 || wrong=1; fi
+if has cc gcc; then timeout 300 python3 "$here/../mutation/faults/init.py" "$program" "$fast" 25 || wrong=1; fi
 if has sqlite3 && has cc gcc; then
     timeout 300 python3 "$here/migrating.py" --program "$program" --room "$fast" 2000 || wrong=1
     timeout 900 python3 "$here/stopped.py" "$program" "$fast" all none || wrong=1

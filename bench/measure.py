@@ -1,7 +1,7 @@
 #!/usr/bin/env python3
 """Measures the built program over an office in a file, and prints tables of markdown, the goals beside the figures:
 
-    bench/program/measure.py [--program PROGRAM] [--room DIRECTORY] [UNITS ..]
+    bench/measure.py [--program PROGRAM] [--room DIRECTORY] [UNITS ..]
 
 UNITS is 200 (a try of this script alone), 2000 (a hundred of each request, not a thousand), 20000 or 200000, without
 words the last two. The store is made in a new folder of DIRECTORY, that of temporary files where none is named: on a
@@ -25,7 +25,7 @@ import threading
 import time
 
 HERE = os.path.dirname(os.path.abspath(__file__))
-BUILT = f"{HERE}/../../crates/record_office/out/record_office"
+BUILT = f"{HERE}/../crates/record_office/out/record_office"
 SETTINGS = "--country GB --repo 0999 --seats 200 --daily 50 --hands 10 --run 1 --day 2024-03-01".split()
 HEADER = (
     "legacyId,parentId,identifier,title,levelOfDescription,publicationStatus,eventDates,extentAndMedium,"

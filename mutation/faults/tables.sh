@@ -9,7 +9,7 @@ every=${2:-1}
 shift $(($# < 2 ? $# : 2))
 room=$(mktemp -d)
 trap 'rm -r "$room"' EXIT
-cc -shared -fPIC -O2 -o "$room/shim.so" "$top/bench/faults/shim.c" -ldl
+cc -shared -fPIC -O2 -o "$room/shim.so" "$top/mutation/faults/shim.c" -ldl
 
 [ $# -gt 0 ] || set -- $("$tests" --list | sed -n 's/: test$//p')
 for name; do

@@ -1,5 +1,5 @@
 #!/usr/bin/env python3
-"""Refuses each allocation of a session of two requests in turn: bench/faults/session.py [PROGRAM]
+"""Refuses each allocation of a session of two requests in turn: mutation/faults/session.py [PROGRAM]
 
 The built program opens an office in a file and talks: two readers are registered. Whatever allocation is refused after
 the opening, there are right answers, then at most one 503 with which the session is closed; and the file has the readers

@@ -9,7 +9,7 @@ program=$(realpath "${1:-$top/crates/record_office/out/record_office}")
 fonds="$top/examples/fonds.csv"
 room=$(mktemp -d)
 trap 'rm -r "$room"' EXIT
-cc -shared -fPIC -O2 -o "$room/shim.so" "$top/bench/faults/shim.c" -ldl
+cc -shared -fPIC -O2 -o "$room/shim.so" "$top/mutation/faults/shim.c" -ldl
 nothing=$(cksum </dev/null)
 wrong=0
 

@@ -1,5 +1,5 @@
 #!/usr/bin/env python3
-"""Refuses each allocation of `init` in turn, or every k-th: bench/faults/init.py PROGRAM ROOM [K]
+"""Refuses each allocation of `init` in turn, or every k-th: mutation/faults/init.py PROGRAM ROOM [K]
 
 Where `init` fails, neither the file nor its log is there afterwards; where it does without the allocation, the office is
 there and sound. shim.c is loaded before the C library. It prints how the runs ended, and ends with 1 where something is

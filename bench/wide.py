@@ -1,7 +1,7 @@
 #!/usr/bin/env python3
 """Measures pages of units that stand among many side by side, with the built program over an office in a file:
 
-    bench/program/wide.py [--program PROGRAM] [--room DIRECTORY] [EACH]
+    bench/wide.py [--program PROGRAM] [--room DIRECTORY] [EACH]
 
 One fonds has five series, and each of these so many files right below it, 3998 where no number is named (then 19,996 units
 in one import). For some places among the files it prints the milliseconds of a page by the clock and of the processor, the
