@@ -1,0 +1,402 @@
+#!/usr/bin/env python3
+"""Lists what nothing names: lemmas and definitions, exact copies of items, and imports that their file does not use.
+
+  mutation/unused.py [--fix] [--fix-imports]
+
+Run it anywhere in the repository. It prints three lists, a line each with file and line, and ends with 1 where
+one is left that the table EXPLAINED has no reason for.
+
+  1  An item of specs/ or proofs/ is named if a contract, a body, an answer to a goal or another named item
+     names it. Answers and Invariants stand for their goals, so their public items are always named, and so are
+     the worked rows of proofs/Worked*.antt, each a theorem for itself. Private functions and constants of src/ are named if any other line of the repository has their name.
+  2  Two items are copies if they say the same but for their own name, and their names lead to the same items.
+  3  An import is used if an item that stays has its name; of an operator, each of its parts.
+
+--fix deletes the items of list 1 from specs/ and proofs/ with the comment above each, the imports of list 3, and
+files that are empty then, with their `mod` lines; it repeats that until nothing changes. --fix-imports deletes the
+imports alone. Code in src/ loses imports, and no function. Afterwards: rt fmt and rt check in each crate."""
+import os
+import re
+import sys
+
+import unused_read as reader
+
+# What stays though nothing names it: a path, or a path and a name, each with its reason.
+EXPLAINED = {
+}
+
+# Names of Rust that a file may import for their methods: a trait is used where no line has its name.
+PLAIN_TYPES = {'AllocError', 'Global', 'Vec', 'Box', 'String', 'Ordering', 'PhantomData', 'Infallible', 'Duration'}
+
+
+class Found:
+    """What is named in the repository as it stands, and what is not."""
+
+    def __init__(self, repository):
+        self.all = repository
+        self.named, self.waiting = set(), []
+        self.used = {}
+        self.follow()
+
+    def mark(self, item):
+        if item is not None and id(item) not in self.named:
+            self.named.add(id(item))
+            self.waiting.append(item)
+
+    def follow(self):
+        for file in self.all.files.values():
+            for item in file.items:
+                # a worked row is a theorem that stands for itself
+                if file.goals and item.is_public or file.kind == 'proofs' and file.name.startswith('Worked'):
+                    self.mark(item)
+        for code in self.all.codes:
+            for _, _, it in code.ghosts:
+                for name in self.taken(it, code.tokens, code.code):
+                    self.mark(self.all.target(self.all.file_of(it.path), name))
+            self.mark_paths(code.text, code.crate)
+        while self.waiting:
+            self.names_of(self.waiting.pop())
+
+    def taken(self, it, tokens, code):
+        """The names of an import that a text uses, as their own file calls them."""
+        if it.has_names:
+            return [there for there, here in it.names if reader.uses(here, tokens, code)]
+        file = self.all.file_of(it.path)
+        if file is None or it.here() not in tokens:
+            return []
+        passed = [here for other in file.imports if other.is_public for _, here in other.names]
+        return [n for n in [*file.by_name, *passed] if reader.uses(n, tokens, code)]
+
+    def mark_paths(self, text, crate):
+        """Whole paths, as a tactic of a function or a term names a lemma."""
+        for m in re.finditer(r'\b(\w+)::(specs|proofs)::([\w:]+)::([^\s,();{}\]]+)', text):
+            path = [crate if m[1] == 'crate' else m[1], m[2], *m[3].split('::')]
+            self.mark(self.all.target(self.all.file_of(path), m[4]))
+        for m in re.finditer(r'\bRattle\.((?:\w+\.)+)([^\s(){}.;,]+)', text):
+            self.mark(self.all.target(self.all.file_of(m[1].rstrip('.').split('.')), m[2]))
+
+    def names_of(self, item):
+        file = item.file
+        tokens, code = item.tokens, item.code
+        if item.around:
+            code = item.around + ' ' + code
+            tokens = tokens | set(reader.TOKEN.findall(item.around))
+        for name, other in file.by_name.items():
+            if other is not item and reader.uses(name, tokens, code):
+                self.mark(other)
+        for it in file.imports:
+            for name in self.taken(it, tokens, code):
+                self.mark(self.all.target(self.all.file_of(it.path), name))
+        if 'Rattle.' in code:
+            self.mark_paths(code, file.crate)
+
+    def unnamed(self):
+        return [item for file in self.all.files.values() for item in file.items if id(item) not in self.named]
+
+
+def kept_text(file, gone):
+    """The tokens and text of what stays in a file."""
+    pieces = [i.code for i in file.items if i not in gone]
+    pieces += [o.code for o in file.others]
+    code = '\n'.join(pieces)
+    return set(reader.TOKEN.findall(code)), code
+
+
+def unused_imports(repository, gone):
+    """The names that files import and do not use: file, line, import, names; no names for a whole module."""
+    found = []
+    asked = passed_names(repository, gone)
+    for file in repository.files.values():
+        tokens, code = kept_text(file, gone)
+        for it in file.imports:
+            if it.is_public and not it.has_names:
+                continue
+            if it.is_public:
+                # a name that is passed on: used here, or asked for elsewhere
+                left = [n for n in it.names if not reader.uses(n[1], tokens, code) and (file.path, n[1]) not in asked]
+            elif it.has_names:
+                left = [n for n in it.names if not reader.uses(n[1], tokens, code)]
+            else:
+                left = [] if it.here() in tokens else [(it.here(), it.here())]
+            if left or it.has_names and not it.names:
+                found.append((file, it, left))
+    return found
+
+
+def passed_names(repository, gone):
+    """The names that other files ask a file for, though another file has them."""
+    asked = set()
+
+    def ask(path, name, seen=()):
+        file = repository.file_of(path)
+        if file is None or file.path in seen or name in file.by_name:
+            return
+        asked.add((file.path, name))
+        for it in file.imports:
+            if it.is_public and it.has_names:
+                for there, here in it.names:
+                    if here == name:
+                        ask(it.path, there, (*seen, file.path))
+    for holder in [*repository.files.values(), *repository.codes]:
+        imports = holder.imports if isinstance(holder, reader.File) else [g[2] for g in holder.ghosts]
+        for it in imports:
+            for there, _ in it.names:
+                ask(it.path, there)
+            if not it.has_names:
+                file = repository.file_of(it.path)
+                for other in file.imports if file else []:
+                    for _, here in other.names if other.is_public else []:
+                        if isinstance(holder, reader.File) or here in holder.tokens:
+                            ask(it.path, here)
+    return asked
+
+
+def traits_and_types(repository):
+    traits, types = set(), set(PLAIN_TYPES)
+    for code in repository.codes:
+        traits |= set(re.findall(r'\btrait (\w+)', code.text))
+        types |= set(re.findall(r'\b(?:struct|enum|type|union) (\w+)', code.text))
+    return types - traits
+
+
+def unused_code_imports(repository):
+    """The same of .rt files: the file, the lines, and the names."""
+    plain = traits_and_types(repository)
+    globbed = {}
+    for code in repository.codes:
+        if re.search(r'\buse (super|crate)\S*::\*', code.text):
+            globbed.setdefault(code.crate, set()).update(code.tokens)
+    found = []
+    for code in repository.codes:
+        if not code.path.startswith('crates/'):
+            continue
+        tokens = code.tokens
+        for first, last, it in code.ghosts:
+            if it.is_public:
+                continue
+            if it.has_names:
+                left = [n for n in it.names if not reader.uses(n[1], tokens, code.code)]
+            else:
+                left = [] if it.here() in tokens else [(it.here(), it.here())]
+            if left:
+                found.append((code, first, last, it, left))
+        for first, last, whole in code.imports:
+            if whole.startswith('pub'):
+                continue
+            left = []
+            m = re.match(r'use ((?:\w+::)*)(?:\{([^{}]*)\}|(\w+(?: as \w+)?));$', whole)
+            for name in re.split(r',\s*', (m[2] or m[3]).strip()) if m else []:
+                here = name.split(' as ')[-1].strip()
+                if here == 'self' and m[1]:
+                    here = m[1].split('::')[-2]
+                if not here or here == '_' or here in tokens or here in globbed.get(code.crate, ()):
+                    continue
+                if here[0].isupper() and here not in plain and not here.isupper():
+                    continue
+                left.append((name, here))
+            if left:
+                found.append((code, first, last, whole, left))
+    return found
+
+
+def unnamed_code(repository):
+    """Private functions and constants of src/ whose name no other line of the repository has."""
+    counts = {}
+    for code in repository.codes:
+        for word in reader.CODE_WORD.findall(reader.without_comments(code.text, '//')):
+            counts[word] = counts.get(word, 0) + 1
+    told = set()
+    for file in repository.files.values():
+        for line in file.lines:
+            told |= set(reader.CODE_WORD.findall(line))
+    found = []
+    for code in repository.codes:
+        if not code.path.startswith('crates/') or '/tests' in code.path or '_tests/' in code.path:
+            continue
+        tests = re.search(r'^#\[cfg\(test\)\]\nmod \w+ \{', code.text, re.M)
+        for m in re.finditer(r'^(?:pub\(crate\) )?(fn|const|struct|enum) (\w+)', code.text, re.M):
+            if tests and m.start() > tests.start() or m[2] == 'main':
+                continue
+            if re.search(r'#\[test\]\n(?:#.*\n)*$', code.text[:m.start()]):
+                continue
+            if counts.get(m[2]) == 1 and (m[1] == 'fn' or m[2] not in told):
+                found.append((code.path, code.text[:m.start()].count('\n') + 1, f'{m[1]} {m[2]}'))
+    return found
+
+
+def copies(repository, gone):
+    """Groups of items that say the same but for their own name."""
+    groups = {}
+    for file in repository.files.values():
+        if file.goals:
+            continue
+        led = {}
+        for it in file.imports:
+            for there, here in it.names:
+                item = repository.target(repository.file_of(it.path), there)
+                led[here] = id(item) if item else ('.'.join(it.path), there)
+            if not it.has_names:
+                led[it.here()] = '.'.join(it.path)
+        for item in file.items:
+            if item in gone or len(item.names) != 1:
+                continue
+            name = re.escape(item.names[0])
+            code = re.sub(rf'(?<![^{reader.DELIMITERS}]){name}(?![^{reader.DELIMITERS}])', '_', item.code)
+            code = ' '.join(re.sub(rf'^({reader.MARKS})', lambda m: m[0].replace('pub ', ''), code.strip()).split())
+            leads = sorted(str((n, led.get(n) or id(file.by_name[n]))) for n in item.tokens
+                           if n != item.names[0] and (n in led or n in file.by_name))
+            key = (item.around, code, *leads)
+            groups.setdefault(key, []).append(item)
+    return [g for g in groups.values() if len(g) > 1]
+
+
+def is_explained(path, name=None):
+    return path in EXPLAINED or (path, name) in EXPLAINED
+
+
+def without_lines(path, gone, changed):
+    """Writes a file without some lines and with others changed; no two blank lines follow each other."""
+    lines = reader.read(path).split('\n')
+    out = []
+    for at, line in enumerate(lines):
+        if at in gone:
+            continue
+        line = changed.get(at, line)
+        if not line.strip() and (not out or not out[-1].strip()):
+            continue
+        out.append(line)
+    with open(path, 'w', encoding='utf-8') as f:
+        f.write('\n'.join(out).rstrip('\n') + '\n')
+
+
+def fix_sections(file, gone):
+    """The heads of sections of which nothing stays."""
+    heads = set()
+    for other in file.others:
+        if not other.text.lstrip().startswith('module '):
+            continue
+        indent = reader.indent_of(file.lines[other.start])
+        end = file.end_of(other.start, len(file.lines), indent)
+        inner = [i for i in file.items if other.start < i.start < end]
+        if inner and all(i in gone for i in inner):
+            heads |= set(range(other.start, other.end))
+            above = other.start - 1
+            while above >= 0 and file.lines[above].lstrip().startswith('--') and above > 0:
+                heads.add(above)
+                above -= 1
+    return heads
+
+
+def fix_antt(repository, gone, imports):
+    lines = {}
+    for item in gone:
+        lines.setdefault(item.file, (set(), {}))[0].update(range(item.start, item.end))
+    for file, it, left in imports:
+        taken = lines.setdefault(file, (set(), {}))
+        kept = [n for n in it.names if n not in left]
+        if kept:
+            m = reader.IMPORT.match(file.lines[it.at])
+            taken[1][it.at] = it.line(m['start'], m['end'], kept)
+        else:
+            taken[0].add(it.at)
+    emptied = []
+    for file, (away, changed) in lines.items():
+        away |= fix_sections(file, gone)
+        if file.items and all(i in gone for i in file.items) and not file.goals \
+                and not file.mods and not any(i.is_public for i in file.imports):
+            emptied.append(file)
+            os.remove(file.path)
+        else:
+            without_lines(file.path, away, changed)
+    for file in emptied:
+        pattern = rf'^(pub )?mod {file.name}\n'
+        passed = rf'^pub use Rattle\.{file.crate}\.{file.kind}\.{re.escape(file.module)}\n'
+        for other in repository.files.values():
+            if other.mods and other.crate == file.crate and other.kind == file.kind and os.path.exists(other.path):
+                text = reader.read(other.path)
+                rewrite(other.path, text, re.sub(pattern, '', text, flags=re.M))
+            if os.path.exists(other.path) and other.name == 'Lib':
+                text = reader.read(other.path)
+                rewrite(other.path, text, re.sub(passed, '', text, flags=re.M))
+    return len(lines)
+
+
+def rewrite(path, before, after):
+    if before != after:
+        with open(path, 'w', encoding='utf-8') as f:
+            f.write(after)
+
+
+def fix_code(found):
+    by_file = {}
+    for code, first, last, it, left in found:
+        by_file.setdefault(code.path, (code, set(), {}))
+        _, away, changed = by_file[code.path]
+        away |= set(range(first + 1, last))
+        if isinstance(it, str):
+            m = re.match(r'use ((?:\w+::)*)(?:\{([^{}]*)\}|(\w+(?: as \w+)?));$', it)
+            names = [n.strip() for n in (m[2] or m[3]).split(',') if n.strip()]
+            kept = [n for n in names if n not in [l[0] for l in left]]
+            text = f'use {m[1]}' + (kept[0] if len(kept) == 1 and kept[0] != 'self' else '{' + ', '.join(kept) + '}') + ';'
+        else:
+            kept = [n for n in it.names if n not in left]
+            m = reader.IMPORT.match(' '.join(l.strip() for l in code.lines[first:last]).replace('{ ', '{').replace(', }', '}'))
+            text = it.line('ghost use ', ';', kept)
+        if kept:
+            indent = ' ' * reader.indent_of(code.lines[first])
+            changed[first] = indent + text
+        else:
+            away.add(first)
+    for path, (_, away, changed) in by_file.items():
+        without_lines(path, away, changed)
+    return len(by_file)
+
+
+def look():
+    repository = reader.Repository()
+    found = Found(repository)
+    return repository, [i for i in found.unnamed() if not is_explained(i.file.path, i.names[0] if i.names else None)]
+
+
+def main():
+    top = os.path.dirname(os.path.dirname(os.path.abspath(__file__)))
+    os.chdir(top)
+    flags = set(sys.argv[1:])
+    if flags - {'--fix', '--fix-imports'}:
+        sys.exit(__doc__)
+    while flags:
+        repository, gone = look()
+        if '--fix' not in flags:
+            gone = []
+        imports = unused_imports(repository, set(gone))
+        code = unused_code_imports(repository)
+        changed = fix_antt(repository, set(gone), imports) + fix_code(code)
+        print(f'items={len(gone)} imports={sum(len(i[2]) for i in imports)} in_code={sum(len(i[4]) for i in code)} files={changed}')
+        if not changed:
+            break
+    repository, gone = look()
+    left = 0
+    for item in gone:
+        left += 1
+        print(f'{item.file.path}:{item.start + 1}: nothing names {" ".join(item.names)}')
+    for path, at, what in unnamed_code(repository):
+        if not is_explained(path, what):
+            left += 1
+            print(f'{path}:{at}: nothing names {what}')
+    for group in copies(repository, set(gone)):
+        places = [f'{i.file.path}:{i.start + 1} {i.names[0]}' for i in group]
+        if not all(is_explained(i.file.path, i.names[0]) for i in group[1:]):
+            left += 1
+            print('copies: ' + ', '.join(places))
+    for file, it, names in unused_imports(repository, set(gone)):
+        left += 1
+        print(f'{file.path}:{it.at + 1}: unused import of {", ".join(n[1] for n in names)}')
+    for code, first, _, _, names in unused_code_imports(repository):
+        left += 1
+        print(f'{code.path}:{first + 1}: unused import of {", ".join(n[1] for n in names)}')
+    print(f'left={left}')
+    sys.exit(1 if left else 0)
+
+
+if __name__ == '__main__':
+    main()

@@ -1,0 +1,273 @@
+"""Reads the repository for unused.py: items and imports of .antt and .rt files, and where a name leads.
+
+An item is a declaration with the comment lines above it; a section (`module _ (..) where`) and a `mutual` block hold
+items further in. A name is any run of characters other than blanks and ( ) { } . ; , @ " and guillemets."""
+import glob
+import os
+import re
+
+DELIMITERS = r'\s(){}.;,@"«»'
+TOKEN = re.compile(rf'[^{DELIMITERS}]+')
+MARKS = r'(?:(?:pattern|unfoldable|opaque|abbrev|pub|axiom) )*'
+SIGNATURE = re.compile(rf'({MARKS})((?:«[^»]+»|[^{DELIMITERS}]+)(?: [^{DELIMITERS}=:]+)*)(?: \{{[^}}:]*\}})? :(?= |$)')
+TYPE = re.compile(rf'{MARKS}(data|record) {MARKS}(«[^»]+»|[^{DELIMITERS}]+)')
+BLOCK = re.compile(rf'{MARKS}mutual\b|mutual\b')
+SECTION = re.compile(r'module ')
+IMPORT = re.compile(r'(?P<start>\s*(?P<pub>pub )?(?:ghost )?use )(?P<path>[^{}\s;]+?)'
+                    r'(?:\.\{(?P<names>[^}]*)\})?(?: as (?P<alias>[^\s;]+))?(?P<end>;?)$')
+CODE_WORD = re.compile(r'\w+')
+
+
+def read(path):
+    with open(path, encoding='utf-8') as f:
+        return f.read()
+
+
+def without_comments(text, mark):
+    """A text without what stands behind the mark of a comment, line by line."""
+    kept = []
+    for line in text.split('\n'):
+        at = re.search(rf'(?:^|(?<=\s)){mark}', line)
+        kept.append(line[:at.start()] if at else line)
+    return '\n'.join(kept)
+
+
+class Item:
+    """A declaration: its names, its lines (from 0, the last one excluded), and the tokens of its text."""
+
+    def __init__(self, names, start, end, lines, is_public, around=''):
+        self.names, self.start, self.end, self.is_public, self.around = names, start, end, is_public, around
+        self.text = '\n'.join(lines[start:end])
+        self.code = without_comments(self.text, '--')
+        self.tokens = set(TOKEN.findall(self.code))
+        self.file = None
+
+    def __repr__(self):
+        return f'{self.file.path}:{self.start + 1} {" ".join(self.names)}'
+
+
+class Import:
+    """A line that imports: a module's path, its names as (there, here), or the module itself."""
+
+    def __init__(self, at, m):
+        self.at, self.is_public = at, bool(m['pub'])
+        path = m['path'].split('.')
+        self.path = path[1:] if path[0] == 'Rattle' else ['', *path]
+        self.has_names = m['names'] is not None
+        self.alias = m['alias']
+        self.names = []
+        for name in (m['names'] or '').split(','):
+            if name.strip():
+                there, _, here = name.strip().partition(' as ')
+                self.names.append((there.strip('«»'), (here or there).strip().strip('«»')))
+
+    def here(self):
+        """What the file calls the module that it imports whole."""
+        return self.alias or self.path[-1]
+
+    def line(self, start, end, kept):
+        names = ', '.join(a if a == b else f'{a} as {b}' for a, b in kept)
+        path = '.'.join(['Rattle', *self.path] if self.path[0] else self.path[1:])
+        return f'{start}{path}.{{{names}}}{end}'
+
+
+def indent_of(line):
+    return len(line) - len(line.lstrip(' '))
+
+
+class File:
+    """A file of specs/ or proofs/: its imports and its items, in order."""
+
+    def __init__(self, path):
+        self.path = path
+        parts = path.split('/')
+        self.crate, self.kind = parts[1], parts[2]
+        self.module = '.'.join(parts[3:])[:-len('.antt')]
+        self.name = parts[-1][:-len('.antt')]
+        self.lines = read(path).split('\n')
+        self.imports, self.items, self.others, self.mods = [], [], [], []
+        self.fill(0, len(self.lines), 0, '')
+        for item in self.items:
+            item.file = self
+        self.by_name = {}
+        for item in self.items:
+            for name in item.names:
+                self.by_name.setdefault(name, item)
+        self.goals = self.name in ('Answers', 'Invariants', 'Proof') and self.kind == 'proofs'
+
+    def fill(self, start, end, indent, around):
+        """Finds the items of these lines that stand at this indentation."""
+        at, comment = start, None
+        while at < end:
+            line = self.lines[at]
+            if not line.strip():
+                at, comment = at + 1, None
+                continue
+            if line.lstrip().startswith('--'):
+                comment = at if comment is None else comment
+                at += 1
+                continue
+            last = self.end_of(at, end, indent)
+            first = at if comment is None else comment
+            comment = None
+            at = self.take(first, at, last, indent, around)
+
+    def end_of(self, at, end, indent):
+        """The line behind a logical line: what follows it further in belongs to it."""
+        last = at + 1
+        ahead = last
+        while ahead < end:
+            line = self.lines[ahead]
+            if line.strip() and not line.lstrip().startswith('--') and indent_of(line) <= indent:
+                break
+            if line.strip() and (indent_of(line) > indent):
+                last = ahead + 1
+            ahead += 1
+        return last
+
+    def take(self, first, at, last, indent, around):
+        head = self.lines[at][indent:]
+        if head.startswith(('use ', 'pub use ')):
+            m = IMPORT.match(head)
+            if not m:
+                raise SystemExit(f'{self.path}:{at + 1}: no import that is known: {head}')
+            self.imports.append(Import(at, m))
+        elif re.match(r'(pub )?mod ', head):
+            self.mods.append((at, head.split()[-1]))
+        elif SECTION.match(head):
+            self.others.append(Item([], at, at + 1, self.lines, False))
+            body = next((i for i in range(at, last) if re.search(r'\bwhere\s*$', self.lines[i])), None)
+            if body is None:
+                raise SystemExit(f'{self.path}:{at + 1}: no section that is known')
+            inner = next(indent_of(l) for l in self.lines[body + 1:last] if l.strip())
+            header = ' '.join(' '.join(self.lines[at:body + 1]).split())
+            self.others[-1] = Item([], at, body + 1, self.lines, False)
+            self.fill(body + 1, last, inner, around + ' ' + header)
+        else:
+            return self.declaration(first, at, last, indent, around)
+        return last
+
+    def declaration(self, first, at, last, indent, around):
+        head = self.lines[at][indent:]
+        typed = TYPE.match(head)
+        if typed:
+            names = [typed[2].strip('«»')]
+            if typed[1] == 'data':
+                names += re.findall(rf'^ {{{indent + 2}}}([^{DELIMITERS}]+)(?: [^{DELIMITERS}:]+)* :', '\n'.join(self.lines[at + 1:last]), re.M)
+                names += re.findall(r'[|=] ([^\s(){}|]+)', head)
+        elif BLOCK.match(head):
+            names = re.findall(rf'^ +{MARKS}([^{DELIMITERS}]+)(?: \{{[^}}:]*\}})? :', '\n'.join(self.lines[at + 1:last]), re.M)
+        else:
+            signature = SIGNATURE.match(head)
+            if not signature:
+                self.others.append(Item([], at, last, self.lines, False))
+                return last
+            names = [n.strip('«»') for n in signature[2].split()]
+            # the clauses
+            while True:
+                ahead = last
+                while ahead < len(self.lines) and self.lines[ahead].strip() \
+                        and self.lines[ahead].lstrip().startswith('--') and indent_of(self.lines[ahead]) == indent:
+                    ahead += 1
+                if ahead >= len(self.lines):
+                    break
+                line = self.lines[ahead]
+                if indent_of(line) != indent or not line.strip():
+                    break
+                rest = line[indent:]
+                if SIGNATURE.match(rest) or TYPE.match(rest) or BLOCK.match(rest) or SECTION.match(rest) \
+                        or re.match(r'(pub )?(use|mod) |infix|ruleset|open ', rest):
+                    break
+                last = self.end_of(ahead, len(self.lines), indent)
+        is_public = bool(re.match(rf'{MARKS}', head)[0].find('pub') >= 0 or re.match(r'.*\bpub\b', head.split(':')[0]))
+        self.items.append(Item(names, first, last, self.lines, is_public, around))
+        return last
+
+
+def uses(name, tokens, code):
+    """Whether a text may use a name; of an operator, each of its parts."""
+    if '◌' not in name:
+        return name in tokens
+    if name in tokens:
+        return True
+    parts = [p for p in name.split('◌') if p]
+    if name.startswith('◌') and name.endswith('◌'):
+        return all(p in tokens for p in parts)
+    return all(p in code for p in parts)
+
+
+class Code:
+    """A file of Rust with clauses: its ghost imports and its imports."""
+
+    def __init__(self, path):
+        self.path = path
+        parts = path.split('/')
+        self.crate = parts[1] if parts[0] == 'crates' else ''
+        self.text = read(path)
+        self.lines = self.text.split('\n')
+        self.ghosts, self.imports = [], []
+        kept, at = [], 0
+        while at < len(self.lines):
+            line, last = self.lines[at], at + 1
+            if re.match(r'\s*(pub(\([a-z]+\))? )?(ghost )?use ', line):
+                while last < len(self.lines) and ';' not in self.lines[last - 1]:
+                    last += 1
+                whole = ' '.join(l.strip() for l in self.lines[at:last])
+                whole = re.sub(r'\{ ', '{', re.sub(r',? \}', '}', whole))
+                if ' use ' in ' ' + whole and 'ghost use ' in whole:
+                    m = IMPORT.match(whole)
+                    if m:
+                        self.ghosts.append((at, last, Import(at, m)))
+                    else:
+                        kept.append(whole)
+                else:
+                    self.imports.append((at, last, whole))
+            else:
+                kept.append(line)
+            at = last
+        self.code = without_comments('\n'.join(kept), '//')
+        self.tokens = set(TOKEN.findall(self.code)) | set(CODE_WORD.findall(self.code))
+
+
+class Repository:
+    """All files, and where a path of a module leads."""
+
+    def __init__(self):
+        self.files = {}
+        for path in sorted(glob.glob('crates/*/specs/**/*.antt', recursive=True)
+                           + glob.glob('crates/*/proofs/**/*.antt', recursive=True)):
+            file = File(path)
+            self.files[(file.crate, file.kind, file.module)] = file
+        places = glob.glob('crates/*/src/**/*.rt', recursive=True)
+        places += glob.glob('bench/**/*.rattle', recursive=True) + glob.glob('bench/**/*.antt', recursive=True)
+        places += glob.glob('bench/**/*.proof', recursive=True)
+        self.codes = [Code(path) for path in sorted(places)]
+        self.crates = [l.split(':')[0].split()[0] for l in read('crates.txt').split('\n') if re.match(r'\w', l)]
+
+    def file_of(self, path, seen=()):
+        """The file that a module's path leads to, over what Lib.antt passes on."""
+        if len(path) < 3 or path[1] not in ('specs', 'proofs'):
+            return None
+        key = (path[0], path[1], '.'.join(path[2:]))
+        if key in self.files:
+            return self.files[key]
+        if key in seen:
+            return None
+        lib = self.files.get((path[0], path[1], 'Lib'))
+        for it in lib.imports if lib else []:
+            if it.is_public and not it.has_names and it.here() == path[2]:
+                return self.file_of(it.path + path[3:], (*seen, key))
+        return None
+
+    def target(self, file, name, seen=()):
+        """The item that a name of a file leads to, over what the file passes on; or None."""
+        if file is None or file.path in seen:
+            return None
+        if name in file.by_name:
+            return file.by_name[name]
+        for it in file.imports:
+            if it.is_public and it.has_names:
+                for there, here in it.names:
+                    if here == name:
+                        return self.target(self.file_of(it.path), there, (*seen, file.path))
+        return None
