@@ -69,9 +69,6 @@ trimmed_at [] i = refl
 trimmed_at (f ∷ fs) zero = refl
 trimmed_at (f ∷ fs) (suc i) = trimmed_at fs i
 
-take_next : (x : Bytes) (fs : Fields) (i : ℕ) → take (suc i) (x ∷ fs) ≡ x ∷ take i fs
-take_next x fs i = refl
-
 -- one more field of a record
 pub take_field : (fs : List Bytes) (i : ℕ) (f : Bytes) → field_at fs i ≡ Some f → take (i + 1) fs ≡ take i fs ++ f ∷ []
 unfolding field_at

@@ -1,6 +1,6 @@
 -- What a loop over the records keeps.
 use Rattle.std.proofs.Common.{◌≡◌, ◌∙◌, ◌+◌, ◌++◌, ◌∷◌, [], ℕ, Bool, true, false, List, length, Option, Some, None, option_map, refl, sym, ap, ap₂, arith, cond, append_assoc, append-nil, zero-add}
-use Rattle.std.specs.Prelude.{if◌then◌else◌, filter_map, find, is_some, count_by, ◌||◌, ◌&&◌, codes, Err, Ok}
+use Rattle.std.specs.Prelude.{if◌then◌else◌, filter_map, find, is_some, count_by, ◌||◌, ◌&&◌, codes, Err}
 use Rattle.std.specs.List.{cons_option}
 use Rattle.std.specs.Str.{bytes_eq}
 use Rattle.std.proofs.lemmas.Bool.{eqb-true}
@@ -13,7 +13,6 @@ use Rattle.atom_csv.specs.Fields.{Fields, field_under, is_blank, is_empty, is_na
 use Rattle.atom_csv.specs.FileOf.{Fault, Line, below, causes, culture, fault_of, faults, first_culture, is_counted, is_translation, legacy, lines, lines_below, lowest, or_fault, row_causes, row_of, row_told, rows, stood_above, translations}
 use Rattle.atom_csv.specs.Reads.{Knows}
 use Rattle.atom_csv.specs.declared.cause.Cause.{Cause}
-use Rattle.atom_csv.specs.declared.file.File.{File}
 
 -- the lines of records one after another
 lines_below-append : (above xs ys : List Fields) → lines_below above (xs ++ ys) ≡ lines_below above xs ++ lines_below (above ++ xs) ys
@@ -198,10 +197,3 @@ translations_step header xs x b is =
 pub translation_stood : (header : Fields) (x : Fields) (stood : Option Bytes) → is_translation header x stood ≡ true → is_some stood ≡ true
 translation_stood header x None e = cc
 translation_stood header x (Some first) e = refl
-
--- a file with no fault
-pub file_found : (header : Fields) (xs : List Fields) (file : File) → faults header xs ≡ [] → file.rows ≡ rows header xs → file.translations ≡ translations header xs
-    → below header xs ≡ Ok file
-file_found header xs file none rs ts =
-    ap (λ fs. or_fault fs (record { rows = rows header xs; translations = translations header xs })) none
-    ∙ sym (ap₂ (λ (rs : _) (n : ℕ). Ok (record { rows = rs; translations = n })) rs ts)

@@ -2,7 +2,7 @@
 use Rattle.std.proofs.Common.{◌≡◌, ◌∙◌, ◌+◌, ◌<◌, ◌∷◌, [], ℕ, suc, Bool, true, false, List, length, take, drop, get_or, refl, sym, ap, arith, drop-cons, reverse}
 use Rattle.std.specs.Prelude.{if◌then◌else◌, ◌==◌, ◌||◌}
 use Rattle.std.proofs.lemmas.Bool.{eqb-true}
-use Rattle.std.proofs.lemmas.List.{reverse-append, reverse-reverse}
+use Rattle.std.proofs.lemmas.List.{reverse-append}
 use Rattle.std.proofs.Math.Seq.{take-suc}
 use Rattle.isad_core.specs.Texts.{is_line_break, is_space}
 use Rattle.atom_csv.specs.Fields.{trim_end, trim_start}
@@ -28,19 +28,9 @@ start_more xs i lt is =
     ap (λ n. trim_start (drop n xs)) next
     ∙ sym (ap trim_start (drop-cons xs i 0 lt) ∙ ap (λ (b : Bool). if b then trim_start (drop (suc i) xs) else get_or xs i 0 ∷ drop (suc i) xs) is)
 
-pub start_stays : (xs : List ℕ) (i : ℕ) → i < length xs → is_space (get_or xs i 0) ≡ false → trim_start (drop i xs) ≡ drop i xs
-start_stays xs i lt is =
-    ap trim_start (drop-cons xs i 0 lt) ∙ (ap (λ (b : Bool). if b then trim_start (drop (suc i) xs) else get_or xs i 0 ∷ drop (suc i) xs) is ∙ sym (drop-cons xs i 0 lt))
-
 last_first : (xs : List ℕ) (i : ℕ) → i < length xs → reverse (take (suc i) xs) ≡ get_or xs i 0 ∷ reverse (take i xs)
 last_first xs i lt = ap reverse (take-suc xs i 0 lt) ∙ reverse-append (take i xs) (get_or xs i 0 ∷ [])
 
 pub end_more : (xs : List ℕ) (i : ℕ) → i < length xs → is_space (get_or xs i 0) ≡ true → trim_end (take i xs) ≡ trim_end (take (suc i) xs)
 end_more xs i lt is =
     sym (ap (λ ys. reverse (trim_start ys)) (last_first xs i lt) ∙ ap (λ (b : Bool). reverse (if b then trim_start (reverse (take i xs)) else get_or xs i 0 ∷ reverse (take i xs))) is)
-
-pub end_stays : (xs : List ℕ) (i : ℕ) → i < length xs → is_space (get_or xs i 0) ≡ false → trim_end (take (suc i) xs) ≡ take (suc i) xs
-end_stays xs i lt is =
-    ap (λ ys. reverse (trim_start ys)) (last_first xs i lt)
-    ∙ (ap (λ (b : Bool). reverse (if b then trim_start (reverse (take i xs)) else get_or xs i 0 ∷ reverse (take i xs))) is
-    ∙ (ap reverse (sym (last_first xs i lt)) ∙ reverse-reverse (take (suc i) xs)))

@@ -1,5 +1,5 @@
 //! The containers that a row names.
-ghost use Rattle.std.specs.Prelude.{◌≡◌, ◌||◌, not, IfOk, OnOk, slice_get};
+ghost use Rattle.std.specs.Prelude.{◌≡◌, ◌||◌, not, IfOk, OnOk};
 ghost use Rattle.isad_core.specs.declared.values.BoxKey.{BoxKey};
 ghost use Rattle.atom_csv.specs.Fields.{seen};
 ghost use Rattle.atom_csv.specs.Values.{boxes_of};

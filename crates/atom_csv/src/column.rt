@@ -1,5 +1,5 @@
 //! The columns that are read, and the elements that they hold.
-ghost use Rattle.std.specs.Prelude.{◌≡◌, nat_lt, ◌<◌};
+ghost use Rattle.std.specs.Prelude.{◌≡◌};
 ghost use Rattle.atom_csv.specs.Columns.{columns_of, is_split, name_of};
 ghost use Rattle.atom_csv.specs.Columns as spec;
 

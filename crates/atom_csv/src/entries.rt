@@ -1,6 +1,5 @@
 //! The entries of a split column.
-ghost use Rattle.std.specs.Prelude.{◌≡◌, IfOk, OnOk, map};
-ghost use Rattle.isad_core.specs.Texts.{Bytes};
+ghost use Rattle.std.specs.Prelude.{◌≡◌, IfOk, map};
 ghost use Rattle.atom_csv.specs.Entries as spec;
 ghost use Rattle.atom_csv.specs.Fields.{seen};
 

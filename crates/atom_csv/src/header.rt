@@ -1,7 +1,6 @@
 //! The header of a file: which columns it has, and where.
-ghost use Rattle.std.specs.Prelude.{◌≡◌, ◌==◌, not, IfOk, count_by, map, nat_lt, length, position};
+ghost use Rattle.std.specs.Prelude.{◌≡◌, ◌==◌, IfOk, count_by, map, nat_lt, length, position};
 ghost use Rattle.std.specs.List.{list_any};
-ghost use Rattle.csv.specs.Records.{fields_of};
 ghost use Rattle.atom_csv.specs.Columns.{columns, name_of};
 ghost use Rattle.atom_csv.specs.Fields.{field_in, fields_in, is_named, seen};
 ghost use Rattle.atom_csv.specs.Fields as spec;

@@ -1,7 +1,6 @@
 //! What the columns of an element tell, as one text.
-ghost use Rattle.std.specs.Prelude.{◌≡◌, IfOk, OnOk, fold, [], ◌∷◌};
+ghost use Rattle.std.specs.Prelude.{◌≡◌, IfOk, OnOk, fold};
 ghost use Rattle.std.specs.String.{string_bytes};
-ghost use Rattle.atom_csv.specs.Columns.{columns_of};
 ghost use Rattle.atom_csv.specs.Entries.{entries, with_entry};
 ghost use Rattle.atom_csv.specs.Fields.{fields_in};
 ghost use Rattle.atom_csv.specs.Values.{text_of, told_by};

@@ -1,9 +1,8 @@
 //! What the rules say, computed for small files, and what follows from them for all.
-ghost use Rattle.std.specs.Prelude.{◌≡◌, ◌∷◌, ◌++◌, [], List, codes, replicate, true};
+ghost use Rattle.std.specs.Prelude.{◌≡◌, ◌∷◌, ◌++◌, [], codes, replicate, true};
 ghost use Rattle.std.specs.Prelude.{Err, Ok, None, Some};
-ghost use Rattle.isad_core.specs.Texts.{Bytes, is_blank_text};
+ghost use Rattle.isad_core.specs.Texts.{Bytes};
 ghost use Rattle.atom_csv.specs.Entries.{entries, filled, joined};
-ghost use Rattle.atom_csv.specs.Fields.{is_empty, trimmed};
 ghost use Rattle.atom_csv.specs.FileOf.{file_of};
 ghost use Rattle.atom_csv.specs.Known.{key};
 ghost use Rattle.atom_csv.specs.Told.{IsTold, AreLegibleRows};

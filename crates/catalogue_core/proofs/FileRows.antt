@@ -127,12 +127,6 @@ all_more : {X : Type 0} (P Q : X → Type 0) → ((x : X) → P x → Q x) → (
 all_more P Q f [] h = tt
 all_more P Q f (x ∷ xs) h = (f x h.0, all_more P Q f xs h.1)
 
-told_rows : Fields → List Fields → List Fields → List Row
-told_rows header above rest = filter_map (row_told header) (lines_below above rest)
-
-NotAbove : Fields → List Fields → Row → Type 0
-NotAbove header above row = list_any (has_id header row.legacy) above ≡ false
-
 not_above_less : (header : Fields) (above : List Fields) (fields : Fields) (row : Row) → list_any (has_id header row.legacy) (above ++ fields ∷ []) ≡ false → (list_any (has_id header row.legacy) above ≡ false) × (bytes_eq (legacy header fields) row.legacy ≡ false)
 not_above_less header above fields row h =
     let r = or_parts (list_any (has_id header row.legacy) above) (bytes_eq (legacy header fields) row.legacy || false) (sym (list_any-append (has_id header row.legacy) above (fields ∷ [])) ∙ h) in

@@ -44,16 +44,6 @@ taken_is c source file intake e = taken_from c source file intake (file_of file)
 
 -- containers keep their numbers
 
-not_among : List BoxKey → BoxKey → Bool
-not_among xs b = not (list_any (λ x. is_same_box x b) xs)
-
-filter_more : {X : Type 0} (p : X → Bool) (x : X) (xs ys zs : List X) → filter p xs ≡ ys ++ zs → filter p (x ∷ xs) ≡ filter p (x ∷ []) ++ (ys ++ zs)
-filter_more p x xs ys zs e = at (p x)
-  where
-    at : (b : Bool) → cond b (x ∷ filter p xs) (filter p xs) ≡ cond b (x ∷ []) [] ++ (ys ++ zs)
-    at true = ap (λ l. x ∷ l) e
-    at false = e
-
 filter_keeps : {X : Type 0} (p : X → Bool) → ((x : X) → p x ≡ true) → (xs : List X) → filter p xs ≡ xs
 filter_keeps p h [] = refl
 filter_keeps p h (x ∷ xs) = ap (λ b. cond b (x ∷ filter p xs) (filter p xs)) (h x) ∙ ap (λ l. x ∷ l) (filter_keeps p h xs)

@@ -21,10 +21,6 @@ use Rattle.catalogue_core.proofs.ImportedAgain.{all_join, all_each}
 
 -- ---- forests
 
-join_empty : {A : Type 0} (f : Forest A) → join f Empty ≡ f
-join_empty Empty = refl
-join_empty (Node a c o) = ap (Node a c) (join_empty o)
-
 join_assoc : {A : Type 0} (a b c : Forest A) → join (join a b) c ≡ join a (join b c)
 join_assoc Empty b c = refl
 join_assoc (Node x d o) b c = ap (Node x d) (join_assoc o b c)

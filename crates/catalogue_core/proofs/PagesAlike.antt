@@ -121,9 +121,6 @@ on_page_alike at xs ys [] h = refl
 on_page_alike at xs ys (unit ∷ higher) h =
     or_alike at xs ys None unit.values.boxes (nearest_boxes (with_boxes at xs) higher) (nearest_boxes (with_boxes at ys) higher) h.0 (nearest_alike at xs ys higher h.1)
 
-line_alike : (units others : List Coded) → units ≡ others → filter_map (page_line units) line_elements ≡ filter_map (page_line others) line_elements
-line_alike units others e = ap (λ l. filter_map (page_line l) line_elements) e
-
 pub page_at_alike : (at : Repository) (xs ys : List BoxKey) (way : List PublicUnit) (f : Forest PublicUnit) → AllAlike xs ys way → AllAlike xs ys (nodes f) → page_at (with_boxes at xs) way f ≡ page_at (with_boxes at ys) way f
 page_at_alike at xs ys way Empty h k = refl
 page_at_alike at xs ys way (Node (Stub id identifier level until) c o) h k = refl

@@ -3,7 +3,6 @@ use Rattle.std.proofs.Common.{◌≡◌, Bool, true, false, cond, ◌||◌, List
 use Rattle.std.specs.Prelude.{ℤ}
 use Rattle.std.specs.List.{list_any, AllByRecursion}
 use Rattle.std.proofs.lemmas.List.Folds.{list_any-append}
-use Rattle.isad_core.specs.declared.shown.Page.{Page}
 use Rattle.tree_core.specs.Forest.{Forest, Empty, Node, nodes, each}
 use Rattle.tree_core.specs.Withheld.{public}
 use Rattle.catalogue_core.proofs.DistinctLists.{all_so}
@@ -36,9 +35,6 @@ pub last_of-push : (xs : List Unit) (x : Unit) → last_of (xs ++ x ∷ []) ≡ 
 last_of-push [] x = refl
 last_of-push (y ∷ []) x = refl
 last_of-push (y ∷ z ∷ zs) x = last_of-push (z ∷ zs) x
-
-is_draft : Unit → Bool
-is_draft unit = unit.draft
 
 pub none_pushed : (test : Unit → Bool) (w : List Unit) (unit : Unit) → list_any test w ≡ false → test unit ≡ false → list_any test (w ++ unit ∷ []) ≡ false
 none_pushed test w unit h e =
@@ -81,6 +77,3 @@ published_below day w (Node unit c o) h k =
           (below_at day w unit c (is_closed day unit) refl (q d)))
           (beside p),
     )
-
-pub same : (a b : Page) → Some a ≡ Some b → a ≡ b
-same a b e = cc

@@ -3,7 +3,7 @@ use Rattle.std.proofs.Common.{◌≡◌, ℕ, suc, ◌+◌, ◌-◌, ◌<◌, �
 use Rattle.std.specs.Prelude.{find, option_and_then, option_map}
 use Rattle.std.specs.List.{AllByRecursion, list_any}
 use Rattle.std.specs.Str.{bytes_eq}
-use Rattle.std.proofs.lemmas.Bool.{false≢true, ne_eqb}
+use Rattle.std.proofs.lemmas.Bool.{ne_eqb}
 use Rattle.isad_core.specs.Texts.{Bytes}
 use Rattle.atom_csv.specs.Told.{AllDiffer}
 use Rattle.atom_csv.specs.declared.file.Row.{Row}
@@ -280,10 +280,6 @@ module _ (c : Catalogue) (source : Bytes) (good : AreGoodUnits c) where
   further before [] row h k = tt
   further before (r ∷ rest) row h k =
       (all_append (λ (b : Row). bytes_eq r.legacy b.legacy ≡ false) before (row ∷ []) h.0 (other_way row.legacy r.legacy k.0, tt), further before rest row h.1 k.1)
-
-  abbrev goal : List Row → List Row → List Row → Type 0
-  goal before nb rest =
-      with_rows source rest (so_far before nb) ≡ or_first (faults_below c.forest source (onto [] nb) (new_rows c source rest)) (so_far (before ++ rest) (nb ++ new_rows c source rest))
 
   pub goes : (rest before nb : List Row) → StandsSo before nb → AreFurther before rest → AllDiffer (λ (a b : Row). bytes_eq a.legacy b.legacy) rest
       → with_rows source rest (so_far before nb) ≡ or_first (faults_below c.forest source (onto [] nb) (new_rows c source rest)) (so_far (before ++ rest) (nb ++ new_rows c source rest))

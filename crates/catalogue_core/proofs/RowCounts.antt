@@ -15,7 +15,7 @@ use Rattle.tree_core.proofs.EachLemmas.{nodes-each}
 use Rattle.catalogue_core.specs.Units.{Unit, is_from}
 use Rattle.catalogue_core.specs.GoodCatalogues.{AreGoodUnits}
 use Rattle.catalogue_core.specs.Intake.{is_changed, is_new, is_same, same_values, unit_of}
-use Rattle.catalogue_core.specs.Merging.{Catalogue, New, branches, cause_at, depth_under, faults_below, grown, has_legacy, merge, merged_forest, new_unit, new_units, numbered_from, revised}
+use Rattle.catalogue_core.specs.Merging.{Catalogue, New, branches, cause_at, depth_under, faults_below, grown, merged_forest, new_unit, new_units, numbered_from, revised}
 use Rattle.catalogue_core.specs.RowByRow.{CountsAlike, count_rows, if_ok, unless_cause, with_new, with_row, with_row_at}
 use Rattle.catalogue_core.proofs.DistinctLists.{all_so}
 use Rattle.catalogue_core.proofs.EachOf.{all_true, none_found, some_found}

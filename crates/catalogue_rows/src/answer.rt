@@ -1,6 +1,6 @@
 //! What the rows of the catalogue's tables tell, read one by one.
 
-ghost use Rattle.std.specs.Prelude.{◌≡◌, ◌<◌, pos, [], ◌∷◌, true, IfSome, IfOk, IsOk};
+ghost use Rattle.std.specs.Prelude.{◌≡◌, pos, [], ◌∷◌, true, IfSome, IfOk, IsOk};
 ghost use Rattle.isad_core.specs.Days.{is_day_number};
 ghost use Rattle.sqlite.specs.declared.types.Value.TheVariants.{Int};
 

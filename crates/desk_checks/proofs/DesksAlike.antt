@@ -1,7 +1,7 @@
 -- The desk's rows are judged alike, in whatever order they are.
-use Rattle.std.proofs.Common.{◌≡◌, ℕ, List, length, Bool, not, ◌&&◌, ◌||◌, nat_eq, nat_le, sym, ap, ap₂, ◌∙◌}
+use Rattle.std.proofs.Common.{◌≡◌, List, not, ◌&&◌, ◌||◌, nat_eq, nat_le, ap₂, ◌∙◌}
 use Rattle.std.specs.Prelude.{int_le}
-use Rattle.std.specs.List.{list_all, list_any, count_by}
+use Rattle.std.specs.List.{list_all}
 use Rattle.isad_core.specs.Days.{is_day_number}
 use Rattle.isad_core.specs.Limits.{most_orders, most_runs, most_permits}
 use Rattle.isad_core.specs.Words.{is_between, some_and, are_numbered_from}

@@ -1,5 +1,5 @@
 -- The first doubt of the desk, part by part.
-use Rattle.std.proofs.Common.{◌≡◌, ℕ, List, length, Bool, true, false, cond, not, ◌&&◌, ◌||◌, nat_le, Option, Some, None, refl, sym, ap, ◌∙◌}
+use Rattle.std.proofs.Common.{◌≡◌, ℕ, List, length, Bool, true, false, cond, not, ◌&&◌, ◌||◌, nat_le, Some, None, refl, sym, ap, ◌∙◌}
 use Rattle.std.specs.List.{list_all}
 use Rattle.sqlite.specs.Tree.{Trees}
 use Rattle.isad_core.specs.Limits.{most_tickets}
@@ -10,12 +10,11 @@ use Rattle.office_tables.specs.Cells.{has_unread}
 use Rattle.office_tables.specs.DeskCells.{read_reader, read_seat, read_permit}
 use Rattle.office_tables.specs.Schema as tables
 use Rattle.doubtful_rows.specs.TableRows.{desk_in, readers_in}
-use Rattle.desk_checks.specs.Checks.{registration_is_doubtful, orders_are_doubtful, holdings_are_doubtful, runs_are_doubtful, doubt_of_past, doubt_of_orders, doubt_of_desk}
+use Rattle.desk_checks.specs.Checks.{orders_are_doubtful, holdings_are_doubtful, runs_are_doubtful, doubt_of_past, doubt_of_orders, doubt_of_desk}
 use Rattle.desk_checks.specs.Judging.{good_seats_in, good_permits_in, good_holdings_in, good_runs_in, doubt_beside_readers}
 use Rattle.desk_checks.specs.Readers.{number_registered}
-use Rattle.desk_checks.specs.declared.doubt.DeskDoubt.{DeskDoubt}
 use Rattle.desk_checks.specs.declared.doubt.DeskDoubt.TheVariants.{Readers, Orders, Holdings, Runs}
-use Rattle.desk_checks.proofs.Surroundings.{not_doubtful, is_doubtful, all_read_well}
+use Rattle.desk_checks.proofs.Surroundings.{not_doubtful, all_read_well}
 
 not_not : (b : Bool) → not (not b) ≡ b
 not_not true = refl
@@ -32,19 +31,6 @@ turned true x y = refl
 turned false x y = refl
 
 -- ---- readers
-
-bad_readers : (ur n f r us up gs gp : Bool) → (ur || not (n && (f && r))) ≡ true → ((ur || (us || up)) || not (n && (f && (r && (gs && gp))))) ≡ true
-bad_readers true n f r us up gs gp h = refl
-bad_readers false false f r true up gs gp h = refl
-bad_readers false false f r false true gs gp h = refl
-bad_readers false false f r false false gs gp h = refl
-bad_readers false true false r true up gs gp h = refl
-bad_readers false true false r false true gs gp h = refl
-bad_readers false true false r false false gs gp h = refl
-bad_readers false true true false true up gs gp h = refl
-bad_readers false true true false false true gs gp h = refl
-bad_readers false true true false false false gs gp h = refl
-bad_readers false true true true us up gs gp h = absurd (cc)
 
 cards : (us up gs gp : Bool) → ((us || up) || not (gs && gp)) ≡ not ((not us && gs) && (not up && gp))
 cards true up gs gp = refl
@@ -67,13 +53,6 @@ module _ (a : Around) (db : Trees) where
 
   abbrev numbered : Bool
   numbered = are_numbered_from (λ (row : ReaderRow). row.ticket) 1 readers
-
-  pub doubt_of_readers : number_registered db ≡ None → Some Readers ≡ doubt_of_desk a db
-  doubt_of_readers none =
-      sym (ap (λ b. cond b (Some Readers) (doubt_of_orders a db))
-      (bad_readers (has_unread read_reader (db tables.reader.tree)) numbered (nat_le (length readers) most_tickets) (list_all is_good_reader readers)
-      (has_unread read_seat (db tables.seat.tree)) (has_unread read_permit (db tables.permit.tree)) (list_all (is_good_seat a (desk_in db)) (desk_in db).seats) (list_all (is_good_permit a (desk_in db)) (desk_in db).permits)
-      (is_doubtful db none)))
 
   pub doubt_of_cards : (n : ℕ) → number_registered db ≡ Some n → doubt_beside_readers a db ≡ doubt_of_desk a db
   doubt_of_cards n some =

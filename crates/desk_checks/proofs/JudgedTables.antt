@@ -1,14 +1,12 @@
 -- What is judged of the rows of a table holds of the table.
-use Rattle.std.proofs.Common.{◌≡◌, ℕ, pos, List, length, map, Bool, true, false, cond, not, ◌&&◌, ◌||◌, nat_eq, Option, Some, None, filter_map, inl, inr, refl, sym, ap, ap₂, subst, ◌∙◌}
-use Rattle.std.specs.List.{list_all, list_any, count_by}
-use Rattle.std.proofs.lemmas.Bool.{and_parts, or_parts, cases_Bool}
-use Rattle.std.proofs.lemmas.List.Sorted.{list_any-IsPermutation}
+use Rattle.std.proofs.Common.{◌≡◌, ℕ, pos, List, length, Bool, true, false, not, ◌&&◌, ◌||◌, Option, Some, None, filter_map, refl, ap, ap₂, ◌∙◌}
+use Rattle.std.specs.List.{list_all, count_by}
 use Rattle.sqlite.specs.declared.types.Value.TheVariants.{Int}
 use Rattle.sqlite.specs.Order.{Row, column}
 use Rattle.sqlite.specs.Tree.{Trees}
 use Rattle.isad_core.specs.Words.{are_numbered_from}
 use Rattle.desk_core.specs.DeskCauses as causes
-use Rattle.desk_core.specs.DeskCauses.{is_good_seat, is_good_permit, are_good_orders, are_good_holdings, are_good_runs, orders_are_bad, is_good_reader}
+use Rattle.desk_core.specs.DeskCauses.{is_good_seat, is_good_permit, are_good_orders, are_good_holdings, are_good_runs, orders_are_bad}
 use Rattle.desk_core.specs.DeskRows.{Desk, ReaderRow, SeatRow, OrderRow, HoldingRow, RunRow, RunLineRow, PermitRow}
 use Rattle.desk_core.specs.Orders.{in_order}
 use Rattle.office_tables.specs.Cells.{has_unread, number_in, whole_in}
@@ -19,7 +17,7 @@ use Rattle.office_tables.proofs.CellTexts.{from_first}
 use Rattle.desk_judgments.specs.declared.around.Around.{Around}
 use Rattle.desk_judgments.specs.Rows.{Surrounds}
 use Rattle.doubtful_rows.specs.TableRows.{by, desk_in}
-use Rattle.desk_checks.specs.Checks.{orders_are_doubtful, holdings_are_doubtful, runs_are_doubtful}
+use Rattle.desk_checks.specs.Checks.{orders_are_doubtful}
 use Rattle.desk_checks.specs.Judging.{good_seats_in, good_permits_in, good_holdings_in, good_runs_in, AreOrdersOf}
 use Rattle.doubtful_rows.specs.Readings.{AreRead, by_rowid, in_any_order}
 use Rattle.doubtful_rows.proofs.Alike.{Alike, keyed_alike}

@@ -1,5 +1,5 @@
 -- What the desk is held against, as it was read.
-use Rattle.std.proofs.Common.{◌≡◌, ℕ, ℤ, List, length, map, Bool, true, false, cond, not, ◌||◌, nat_eq, Option, Some, None, inl, inr, refl, sym, ap, ◌∙◌}
+use Rattle.std.proofs.Common.{◌≡◌, ℕ, ℤ, List, length, map, Bool, true, false, cond, not, nat_eq, Option, Some, None, inl, inr, refl, sym, ap, ◌∙◌}
 use Rattle.std.specs.List.{list_any}
 use Rattle.std.specs.Option.{option_map_or}
 use Rattle.std.proofs.lemmas.Bool.{and_parts, or_parts, cases_Bool}
@@ -28,12 +28,6 @@ pub not_doubtful : (db : Trees) (n : ℕ) → number_registered db ≡ Some n �
 not_doubtful db n h = elim (cases_Bool (readers_are_doubtful db)) [
   | inl bad ↦ absurd (none_is_none n (sym (ap (λ b. cond b None (Some (length (readers_in db)))) bad) ∙ h))
   | inr sound ↦ (sound, ap (λ (o : Option ℕ). option_map_or (λ k. k) o 0) (sym (ap (λ b. cond b None (Some (length (readers_in db)))) sound) ∙ h))
-]
-
-pub is_doubtful : (db : Trees) → number_registered db ≡ None → readers_are_doubtful db ≡ true
-is_doubtful db h = elim (cases_Bool (readers_are_doubtful db)) [
-  | inl bad ↦ bad
-  | inr sound ↦ absurd (none_is_none (length (readers_in db)) (sym h ∙ ap (λ b. cond b None (Some (length (readers_in db)))) sound))
 ]
 
 not_true : (b : Bool) → not b ≡ false → b ≡ true

@@ -1,13 +1,11 @@
 //! Whether the rows of a table of the desk can all be read and are such as a desk has.
 
-ghost use Rattle.std.specs.Prelude.{◌≡◌, ◌&&◌, false, true, IfOk, Some, map};
+ghost use Rattle.std.specs.Prelude.{◌≡◌, ◌&&◌, false, IfOk, Some, map};
 ghost use Rattle.sqlite.specs.Held.{state};
 ghost use Rattle.sqlite.specs.State.{HasCleanDisk};
 ghost use Rattle.desk_core.specs.DeskCauses.{Around as Held, orders_are_bad};
 ghost use Rattle.office_tables.specs.Asking.{Reads};
-ghost use Rattle.office_tables.specs.DeskCells.{read_order};
 ghost use Rattle.office_tables.specs.Faults.{Excused};
-ghost use Rattle.office_tables.specs.Schema as tables;
 ghost use Rattle.office_tables.specs.Step.{InOffice};
 ghost use Rattle.doubtful_rows.specs.TableRows.{desk_in};
 ghost use Rattle.desk_checks.specs.Checks.{around_in};

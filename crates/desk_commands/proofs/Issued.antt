@@ -1,8 +1,8 @@
 -- A container that is given to a reader, in the rows of the desk; and when it may be.
-use Rattle.std.proofs.Common.{◌≡◌, ℕ, ◌<◌, ◌≤◌, ◌^◌, Bool, true, false, cond, ◌&&◌, ◌||◌, nat_eq, List, [], ◌∷◌, length, Option, Some, None, Ok, Err, inl, inr, refl, sym, ap, subst, ◌∙◌, arith}
+use Rattle.std.proofs.Common.{◌≡◌, ℕ, Bool, true, false, cond, ◌||◌, nat_eq, List, [], ◌∷◌, Option, Some, None, Ok, Err, inl, inr, refl, sym, ap, subst, ◌∙◌, arith}
 use Rattle.std.specs.Prelude.{ℤ, filter_map, int_lt, is_some, option_and_then, option_map, slice_get, unwrap_or}
 use Rattle.std.specs.List.{cons_option}
-use Rattle.std.proofs.lemmas.Bool.{and_parts, cases_Bool, eqb-true, false≢true}
+use Rattle.std.proofs.lemmas.Bool.{cases_Bool, eqb-true, false≢true}
 use Rattle.sqlite.specs.Effect.{Database}
 use Rattle.sqlite.specs.Tree.{Trees}
 use Rattle.isad_core.specs.Limits.{IsNumber}
@@ -37,7 +37,7 @@ use Rattle.office_core.proofs.Filed.{is_issued, only_issues, waiting, waits_with
 use Rattle.office_core.proofs.OrderLaws.{stands_out}
 use Rattle.office_core.proofs.Steps.{held_so, passes}
 use Rattle.office_core.proofs.Words.{same_number}
-use Rattle.office_rows.specs.DeskShown.{holding_rows, order_rows, state_number}
+use Rattle.office_rows.specs.DeskShown.{order_rows, state_number}
 use Rattle.office_rows.specs.Reading.{tables}
 use Rattle.office_rows.proofs.TableLaws.{rows_moved}
 use Rattle.office_tables.specs.Schema as schema
@@ -55,13 +55,6 @@ use Rattle.desk_commands.specs.Moving.{handed_over}
 use Rattle.desk_commands.proofs.QueueTold.{waiter}
 
 -- ---- who may have it
-
--- where nobody waits, nobody gets it
-pub nobody_first : (place : Place) (opened : Bool) (t : ℕ) (who : Option Sitter) (day : ℤ) (limits : Limits)
-    → first_that_holds (issue_checks (issue_facts (Some (asked_for place None opened)) t who day limits)) ≡ None → ⊥
-nobody_first place opened t who day limits none =
-    let ok = passes (issue_checks (issue_facts (Some (asked_for place None opened)) t who day limits)) none in
-    false≢true (and_parts (is_some who) false (held_so (is_some who && false) NotFirst ok.1.1.0)).1
 
 abbrev facts_with : (expired seated : Bool) (held hands : ℕ) (known at_desk first available : Bool) → IssueFacts
 facts_with expired seated held hands known at_desk first available =

@@ -7,7 +7,7 @@ use Rattle.sqlite.specs.Tree.{Trees}
 use Rattle.isad_core.specs.Limits.{most_orders}
 use Rattle.tree_core.specs.Forest.{Forest}
 use Rattle.tree_core.specs.Versions.{Version}
-use Rattle.desk_core.specs.Checks.{OrderFacts, order_checks}
+use Rattle.desk_core.specs.Checks.{order_checks}
 use Rattle.desk_core.specs.Decisions.{order_facts}
 use Rattle.desk_core.specs.DeskRows.{OrderRow}
 use Rattle.desk_core.specs.Refusals.{first_that_holds}
@@ -28,7 +28,7 @@ use Rattle.office_core.specs.declared.command.Command.TheVariants as command
 use Rattle.office_core.specs.declared.done.Done.TheVariants as done
 use Rattle.office_core.proofs.Filed.{is_ordered, only_orders}
 use Rattle.office_core.proofs.OrderLaws.{goes_same, stands_waiting}
-use Rattle.office_core.proofs.Steps.{held_not, held_so, passes}
+use Rattle.office_core.proofs.Steps.{held_not, passes}
 use Rattle.office_rows.specs.DeskShown.{order_row, order_rows, rows_from, state_number}
 use Rattle.office_rows.specs.Reading.{tables}
 use Rattle.office_rows.proofs.NumberedRows.{length-rows}
@@ -44,13 +44,6 @@ use Rattle.shown_office.proofs.OpenByRows.{opens_none}
 use Rattle.shown_office.proofs.OrdersShown.{ordered_shown}
 use Rattle.desk_commands.specs.Placing.{IsCardOf, MayOrder, ask_of}
 use Rattle.desk_commands.proofs.Registered.{rows_end}
-
--- what passes the checks: there is room for one more order, and the container is open
-pub room : (o : OrderFacts) → None ≡ first_that_holds (order_checks o) → o.orders < most_orders
-room o e = leb-false most_orders o.orders (held_not (nat_le most_orders o.orders) _ (passes (order_checks o) (sym e)).1.1.1.1.1.0)
-
-pub is_available : (o : OrderFacts) → None ≡ first_that_holds (order_checks o) → o.available ≡ true
-is_available o e = held_so o.available _ (passes (order_checks o) (sym e)).1.1.0
 
 -- what is open has a number that a table keeps
 pub open_with_number : (s : State) → IsSoundOffice s → (t c : ℕ) (is_open : Bool) → is_open ≡ opens s t c → (is_open && nat_lt c (2 ^ 63)) ≡ opens s t c

@@ -1,22 +1,22 @@
 -- The orders that a run takes, by the rows of the desk.
-use Rattle.std.proofs.Common.{◌≡◌, ◌≢◌, ℕ, zero, suc, ◌<◌, ◌≤◌, Bool, true, false, not, cond, ◌&&◌, ◌||◌, nat_eq, List, [], ◌∷◌, ◌++◌, length, map, filter, take, Option, Some, None, inl, inr, refl, sym, ap, subst, ◌∙◌, arith}
-use Rattle.std.specs.Prelude.{filter_map, is_some, nat_lt, option_map, unwrap_or}
-use Rattle.std.specs.List.{AllByRecursion, cons_option, list_any}
-use Rattle.std.proofs.lemmas.Bool.{and_parts, cases_Bool, eqb-true, false≢true}
+use Rattle.std.proofs.Common.{◌≡◌, ℕ, suc, ◌<◌, Bool, true, false, not, cond, ◌&&◌, ◌||◌, nat_eq, List, [], ◌∷◌, length, map, filter, Option, inl, inr, refl, sym, ap, subst, ◌∙◌, arith}
+use Rattle.std.specs.Prelude.{nat_lt, option_map, unwrap_or}
+use Rattle.std.specs.List.{AllByRecursion, list_any}
+use Rattle.std.proofs.lemmas.Bool.{cases_Bool, eqb-true}
 use Rattle.std.proofs.lemmas.Bool.Decides.{nat_tests}
 use Rattle.catalogue_core.specs.Members.{StandsIn}
 use Rattle.desk_core.specs.DeskRows.{HoldingRow, OrderRow}
 use Rattle.desk_core.specs.declared.reader.Place.{Place}
-use Rattle.desk_core.specs.declared.reader.Place.TheVariants.{Shelf, Desk, Out}
+use Rattle.desk_core.specs.declared.reader.Place.TheVariants.{Desk, Out}
 use Rattle.desk_store.specs.Holdings.{candidates_of, is_first, is_on_shelf, waits_for}
 use Rattle.desk_store.specs.declared.holdings.FirstOrder.{FirstOrder}
 use Rattle.office_core.specs.SoundDesk.{IsAscending}
 use Rattle.office_core.specs.SoundOffice.{IsSoundOffice}
 use Rattle.office_core.specs.State.{Order, State, is_due, is_shelf, opens}
-use Rattle.office_core.specs.Words.{first, numbered, numbers_to, some_and, stands}
+use Rattle.office_core.specs.Words.{first, numbers_to, some_and, stands}
 use Rattle.office_core.specs.Laws.{numbers_from}
-use Rattle.office_core.proofs.Words.{below_none, other_number, same_number}
-use Rattle.office_rows.specs.DeskShown.{holding_rows, order_from, order_row, order_rows, place_from, place_in, rows_from}
+use Rattle.office_core.proofs.Words.{below_none}
+use Rattle.office_rows.specs.DeskShown.{holding_rows, order_row, order_rows, place_from, place_in, rows_from}
 use Rattle.office_rows.specs.Reading.{tables}
 use Rattle.office_rows.proofs.DeskLookups.{flipped}
 use Rattle.office_rows.proofs.Members.{any_same, to_from}
@@ -89,11 +89,6 @@ swapped true false = refl
 swapped false true = refl
 swapped false false = refl
 
-grouped : (a b c d : Bool) → ((a && b) && (c && d)) ≡ (((a && b) && c) && d)
-grouped true true c d = refl
-grouped true false c d = refl
-grouped false b c d = refl
-
 module _ (version : Version) (s : State) (sound : IsSoundOffice s) where
   -- a row is that of the first order for its container
   first_by_rows : (row : OrderRow) → StandsIn row (order_rows s) → is_first (tables version s).desk row ≡ some_and (nat_eq row.id) (first (s.queue row.container))
@@ -131,9 +126,6 @@ module _ (version : Version) (s : State) (sound : IsSoundOffice s) where
   -- whether the container is open to the reader who waits first for it
   abbrev pub is_open_for : FirstOrder → Bool
   is_open_for o = opens s o.ticket o.container
-
-  as_first : OrderRow → FirstOrder
-  as_first row = record { container = row.container; order = row.id; ticket = row.ticket }
 
   numbers_of_rows : (n : ℕ) (orders : List Order) → map (λ (row : OrderRow). row.id) (rows_from (order_row s) n orders) ≡ numbers_from n (length orders)
   numbers_of_rows n [] = refl

@@ -1,17 +1,14 @@
 -- What is told of a container and its queue, of an office.
-use Rattle.std.proofs.Common.{◌≡◌, ℕ, true, false, List, [], ◌∷◌, map, filter, Option, Some, None, refl, sym, ap, subst, ◌∙◌}
+use Rattle.std.proofs.Common.{◌≡◌, ℕ, true, false, Option, Some, None, refl, sym, ap, ◌∙◌}
 use Rattle.std.specs.Prelude.{filter_map, is_some, option_map}
 use Rattle.isad_core.specs.declared.values.BoxKey.{BoxKey}
 use Rattle.tree_core.specs.Versions.{Version}
-use Rattle.desk_core.specs.declared.reader.Place.{Place}
-use Rattle.desk_store.specs.Orders.{queue_of}
 use Rattle.desk_store.specs.Stacks.{IsQueued, box_with}
 use Rattle.desk_store.specs.declared.orders.WaitingOrder.{WaitingOrder}
 use Rattle.desk_store.specs.declared.queues.ContainerQueue.{ContainerQueue}
 use Rattle.office_core.specs.SoundOffice.{IsSoundOffice}
 use Rattle.office_core.specs.State.{Order, State, is_container}
 use Rattle.office_core.specs.Words.{numbered}
-use Rattle.office_rows.specs.Reading.{tables}
 use Rattle.shown_office.proofs.QueuesShown.{place_shown, told_queue}
 use Rattle.shown_office.proofs.StacksShown.{has_box, stacks_of}
 

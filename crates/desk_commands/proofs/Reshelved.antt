@@ -1,6 +1,6 @@
 -- Containers that go back to the shelf, in the rows of the desk.
-use Rattle.std.proofs.Common.{◌≡◌, ℕ, zero, suc, ◌||◌, ◌<◌, ◌≤◌, ◌^◌, Bool, true, false, not, cond, ◌&&◌, nat_eq, List, [], ◌∷◌, length, map, filter, Some, None, Ok, Err, refl, sym, ap, subst, ◌∙◌, arith}
-use Rattle.std.specs.Prelude.{filter_map, nat_lt}
+use Rattle.std.proofs.Common.{◌≡◌, ℕ, zero, suc, ◌||◌, ◌<◌, ◌≤◌, Bool, true, false, not, cond, ◌&&◌, nat_eq, List, [], ◌∷◌, length, map, filter, Some, None, Ok, Err, refl, sym, ap, ◌∙◌, arith}
+use Rattle.std.specs.Prelude.{nat_lt}
 use Rattle.std.specs.List.{AllByRecursion, cons_option, list_any}
 use Rattle.std.proofs.lemmas.Bool.Decides.{nat_tests}
 use Rattle.sqlite.specs.Effect.{Database}
@@ -8,7 +8,7 @@ use Rattle.sqlite.specs.Tree.{Trees}
 use Rattle.isad_core.specs.Limits.{IsNumber}
 use Rattle.tree_core.specs.Forest.{Forest}
 use Rattle.tree_core.specs.Versions.{Version}
-use Rattle.desk_core.specs.DeskRows.{HoldingRow, OrderRow, waiting_for}
+use Rattle.desk_core.specs.DeskRows.{HoldingRow, OrderRow}
 use Rattle.desk_core.specs.Orders.{in_order, put_in_order}
 use Rattle.desk_core.specs.Runs as decided
 use Rattle.desk_core.specs.declared.reader.Place.{Place}

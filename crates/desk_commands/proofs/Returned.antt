@@ -1,5 +1,5 @@
 -- A container that comes back, in the rows of the desk.
-use Rattle.std.proofs.Common.{◌≡◌, ℕ, ◌<◌, ◌≤◌, ◌^◌, true, false, List, [], ◌∷◌, length, Option, Some, None, Ok, Err, refl, sym, ap, subst, ◌∙◌, arith}
+use Rattle.std.proofs.Common.{◌≡◌, ℕ, true, false, List, [], ◌∷◌, Option, Some, None, Ok, Err, refl, ap, ◌∙◌, arith}
 use Rattle.std.specs.Prelude.{is_some, unwrap_or}
 use Rattle.sqlite.specs.Effect.{Database}
 use Rattle.sqlite.specs.Tree.{Trees}
@@ -16,8 +16,8 @@ use Rattle.office_core.specs.Laws.{Standing}
 use Rattle.office_core.specs.Rules.{refusal, returned}
 use Rattle.office_core.specs.SoundDesk.{is_out_for}
 use Rattle.office_core.specs.SoundOffice.{IsSoundOffice}
-use Rattle.office_core.specs.State.{Done, Order, State, container_of, is_container, is_out, order_out}
-use Rattle.office_core.specs.Words.{numbered, stands}
+use Rattle.office_core.specs.State.{Done, State, container_of, is_container, is_out, order_out}
+use Rattle.office_core.specs.Words.{stands}
 use Rattle.office_core.specs.declared.command.Command.{Command}
 use Rattle.office_core.specs.declared.command.Command.TheVariants as command
 use Rattle.office_core.specs.declared.done.Done.TheVariants as done
@@ -25,7 +25,7 @@ use Rattle.office_core.proofs.Filed.{is_returned, only_returns}
 use Rattle.office_core.proofs.OrderLaws.{stands_past}
 use Rattle.office_core.proofs.Places.{out_known, out_order}
 use Rattle.office_core.proofs.Words.{numbered_within}
-use Rattle.office_rows.specs.DeskShown.{holding_rows, order_rows, state_number}
+use Rattle.office_rows.specs.DeskShown.{order_rows, state_number}
 use Rattle.office_rows.specs.Reading.{tables}
 use Rattle.office_rows.proofs.TableLaws.{rows_moved}
 use Rattle.office_tables.specs.Schema as schema

@@ -18,7 +18,7 @@ use Rattle.desk_core.specs.declared.reader.Place.{Place}
 use Rattle.desk_core.specs.declared.reader.Place.TheVariants.{Desk}
 use Rattle.desk_core.specs.declared.refusal.Refusal.TheVariants.{Full, NothingToMove}
 use Rattle.desk_core.specs.LegibleDesks.{IsLegible}
-use Rattle.desk_store.specs.Runs.{IsNumbered, line_of, with_run}
+use Rattle.desk_store.specs.Runs.{IsNumbered, with_run}
 use Rattle.desk_store.specs.Runs as stored
 use Rattle.desk_store.specs.Shows.{IsNumberOf, ShowsDesk}
 use Rattle.desk_store.specs.declared.holdings.FirstOrder.{FirstOrder}

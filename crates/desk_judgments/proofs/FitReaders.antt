@@ -1,11 +1,11 @@
 -- Seats and permits as they are judged from the values at hand.
-use Rattle.std.proofs.Common.{◌≡◌, ℕ, ◌≤◌, Bool, true, false, ◌&&◌, List, map, length, refl, sym, ap, ◌∙◌, nat_eq, nat_le}
+use Rattle.std.proofs.Common.{◌≡◌, ℕ, ◌≤◌, true, ◌&&◌, List, map, sym, ap, ◌∙◌, nat_eq, nat_le}
 use Rattle.std.specs.List.{list_any, list_all, count_by}
 use Rattle.std.proofs.lemmas.Bool.{and_parts, leb-true}
 use Rattle.std.proofs.lemmas.List.Folds.{list_all-map}
 use Rattle.isad_core.specs.Days.{is_day_number}
-use Rattle.isad_core.specs.Limits.{most_permits, most_tickets}
-use Rattle.isad_core.specs.Words.{are_numbered_from, is_between}
+use Rattle.isad_core.specs.Limits.{most_permits}
+use Rattle.isad_core.specs.Words.{is_between}
 use Rattle.desk_core.specs.DeskCauses as causes
 use Rattle.desk_core.specs.DeskRows as desk
 use Rattle.tree_core.proofs.Lists.{eqb_comm}
@@ -49,14 +49,3 @@ permits_told s a d tally permits h e counts =
         ∙ count_agree (λ (row : PermitRow). nat_eq t row.ticket) (λ (row : PermitRow). nat_eq row.ticket t) permits (λ row i. eqb_comm t row.ticket)
         ∙ sym (count_map (λ (other : desk.PermitRow). nat_eq other.ticket t) permit_row permits)
         ∙ ap (count_by (λ (other : desk.PermitRow). nat_eq other.ticket t)) (sym e)
-
--- the readers are good where they are registered well, and their seats and permits are good
-pub readers_judged : (a : causes.Around) (d : desk.Desk) → causes.are_good_readers a d
-    ≡ ((are_numbered_from (λ (row : desk.ReaderRow). row.ticket) 1 d.readers && (nat_le (length d.readers) most_tickets && list_all causes.is_good_reader d.readers))
-    && (list_all (causes.is_good_seat a d) d.seats && list_all (causes.is_good_permit a d) d.permits))
-readers_judged a d = group (are_numbered_from (λ (row : desk.ReaderRow). row.ticket) 1 d.readers) (nat_le (length d.readers) most_tickets) (list_all causes.is_good_reader d.readers) _
-  where
-    group : (n l r x : Bool) → (n && (l && (r && x))) ≡ ((n && (l && r)) && x)
-    group true true r x = refl
-    group true false r x = refl
-    group false l r x = refl

@@ -1,6 +1,6 @@
 //! A new day begins.
 
-ghost use Rattle.std.specs.Prelude.{◌≡◌, List, [], ◌∷◌, OnOk, ⊤};
+ghost use Rattle.std.specs.Prelude.{List, [], ◌∷◌, OnOk, ⊤};
 ghost use Rattle.sqlite.specs.Held.{state};
 ghost use Rattle.sqlite.specs.State.{HasCleanDisk};
 ghost use Rattle.desk_core.specs.DeskRows.{SeatRow};

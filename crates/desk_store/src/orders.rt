@@ -1,6 +1,6 @@
 //! Orders, from when they are placed to when they end.
 
-ghost use Rattle.std.specs.Prelude.{◌≡◌, ◌≤◌, nat_eq, List as Rows, length, map, filter, IfOk, IfSome};
+ghost use Rattle.std.specs.Prelude.{◌≡◌, ◌≤◌, nat_eq, List as Rows, map, filter, IfOk, IfSome};
 ghost use Rattle.std.specs.Prelude.{IsOk, ⊤};
 ghost use Rattle.std.specs.List.{AllByRecursion};
 ghost use Rattle.sqlite.specs.Held.{state};

@@ -4,7 +4,7 @@ ghost use Rattle.std.specs.Prelude.{◌≡◌, ◌&&◌, ◌||◌, ℕ, not, nat
 ghost use Rattle.std.specs.List.{list_any};
 ghost use Rattle.sqlite.specs.Held.{state};
 ghost use Rattle.sqlite.specs.State.{HasCleanDisk};
-ghost use Rattle.desk_core.specs.DeskRows.{HoldingRow, OrderRow};
+ghost use Rattle.desk_core.specs.DeskRows.{OrderRow};
 ghost use Rattle.office_tables.specs.Asking.{Reads};
 ghost use Rattle.office_tables.specs.Calls.{Tells};
 ghost use Rattle.office_tables.specs.Faults.{Excused};
@@ -12,7 +12,7 @@ ghost use Rattle.office_tables.specs.Schema as tables;
 ghost use Rattle.office_tables.specs.Step.{InOffice, Holds};
 ghost use Rattle.desk_store.specs.Holdings.{candidates_of};
 ghost use Rattle.desk_store.specs.Picking.{is_earliest, is_new};
-ghost use Rattle.desk_store.specs.Rows.{holding_cells, order_cells};
+ghost use Rattle.desk_store.specs.Rows.{order_cells};
 ghost use Rattle.desk_store.specs.Shows.{ShowsRoom, IsLegible};
 ghost use Rattle.office_tables.specs.Numbered.{AreByNumber, AreCounted};
 ghost use Rattle.desk_store.specs.declared.holdings.FirstOrder.{FirstOrder};

@@ -1,6 +1,6 @@
 //! Queues of containers.
 
-ghost use Rattle.std.specs.Prelude.{◌≡◌, nat_eq, List as Rows, map, filter, slice_get, IfOk, IfSome, IsOk, ⊤};
+ghost use Rattle.std.specs.Prelude.{◌≡◌, nat_eq, List as Rows, map, filter, IfOk, IfSome, IsOk, ⊤};
 ghost use Rattle.sqlite.specs.Held.{state};
 ghost use Rattle.sqlite.specs.State.{HasCleanDisk};
 ghost use Rattle.isad_core.specs.Limits.{IsNumber};

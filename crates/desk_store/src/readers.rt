@@ -1,6 +1,6 @@
 //! Tickets and their readers.
 
-ghost use Rattle.std.specs.Prelude.{◌≡◌, ◌<◌, ◌≤◌, ℕ, nat_eq, false, if◌then◌else◌, List, [], ◌∷◌, map};
+ghost use Rattle.std.specs.Prelude.{◌≡◌, ◌<◌, ◌≤◌, nat_eq, false, List, [], ◌∷◌, map};
 ghost use Rattle.std.specs.Prelude.{filter, length, OnOk, IfOk, IfSome, ⊤};
 ghost use Rattle.std.specs.List.{AllByRecursion, list_any};
 ghost use Rattle.sqlite.specs.Held.{state};
@@ -8,7 +8,7 @@ ghost use Rattle.sqlite.specs.State.{HasCleanDisk};
 ghost use Rattle.isad_core.specs.Limits.{IsNumber, most_tickets};
 ghost use Rattle.desk_core.specs.DeskRows.{Desk, ReaderRow};
 ghost use Rattle.office_tables.specs.Asking.{Reads};
-ghost use Rattle.office_tables.specs.Calls.{Makes, Tells};
+ghost use Rattle.office_tables.specs.Calls.{Makes};
 ghost use Rattle.office_tables.specs.Changing.{Leaves};
 ghost use Rattle.office_tables.specs.Faults.{Excused};
 ghost use Rattle.office_tables.specs.Schema as tables;

@@ -1,6 +1,6 @@
 //! Who sits where.
 
-ghost use Rattle.std.specs.Prelude.{◌≡◌, ◌<◌, ◌^◌, ℕ, not, nat_eq, false, true, List, [], ◌∷◌, map, filter, OnOk};
+ghost use Rattle.std.specs.Prelude.{◌≡◌, ◌<◌, ◌^◌, not, nat_eq, false, List, [], ◌∷◌, map, filter, OnOk};
 ghost use Rattle.std.specs.Prelude.{IfOk, IfSome, ⊤};
 ghost use Rattle.std.specs.List.{AllByRecursion, list_any};
 ghost use Rattle.sqlite.specs.Held.{state};

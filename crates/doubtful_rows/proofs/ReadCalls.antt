@@ -2,10 +2,8 @@
 use Rattle.std.proofs.Common.{◌≡◌, Result, Ok, Err, ap}
 use Rattle.sqlite.specs.State.{State, HasCleanDisk}
 use Rattle.office_tables.specs.Asking.{Reads}
-use Rattle.office_tables.specs.Faults.{Excused}
 use Rattle.office_tables.specs.Step.{Looks, IsCut}
 use Rattle.office_tables.specs.declared.fault.StoreFault.{StoreFault}
-use Rattle.office_tables.proofs.CallEnds.{excused_then}
 use Rattle.office_tables.proofs.Calls.{early, cut_then, looks_then}
 
 -- the tables are as they were
@@ -24,6 +22,3 @@ reads_not a b e cut = record { crash = cut.crash; looks = tt; cut = cut }
 pub reads_then : {X : Type 0} (a b c : State) (r : Result X StoreFault) → Looks a b → Reads b c r → Reads a c r
 reads_then a b c (Ok x) one two = reads_well a c x (looks_then a b c one two.looks)
 reads_then a b c (Err e) one two = reads_not a c e (cut_then a b c one.goes.on two.cut)
-
-pub excused_after : {X : Type 0} (a b c : State) (r : Result X StoreFault) → Looks a b → Reads b c r → Excused b c r → Excused a c r
-excused_after a b c r one two why = excused_then a b c one.goes.on r two.cut (λ _. why)

@@ -23,13 +23,6 @@ module _ (f : Forest Unit) (source : Bytes) (next : ℕ) where
     pub knows : KnowsNumbers f source (next + length told) above numbers
     pub are : arrivals_of f source next all ≡ told ++ arrivals_from f source (next + length told) above (new_of f source rest)
 
-  pub begins : (numbers : Bytes → Option ℕ) (all : List Row) → ((q : Bytes) → numbers q ≡ None) → AreTold numbers [] all all
-  begins numbers all none = record {
-    above = [];
-    knows = λ legacy. sym (ap (λ o. or_there o (number_of f source (next + 0) [] legacy)) (none legacy));
-    are = (let e : next ≡ next + 0 = omega arith in ap (λ n. arrivals_from f source n [] (new_of f source all)) e);
-  }
-
   abbrev sorted : Bool → Row → List Row → List Row
   sorted known row rest = cond (not known) (row ∷ new_of f source rest) (new_of f source rest)
 

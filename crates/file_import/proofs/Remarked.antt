@@ -20,7 +20,6 @@ use Rattle.office_core.specs.ImportReply.{is_level_above, lacks_essential, remar
 use Rattle.office_core.specs.declared.done.Remark.{Remark}
 use Rattle.office_core.specs.declared.done.Remark.TheVariants.{LacksEssential, LevelTooHigh}
 use Rattle.file_import.specs.Remarking.{HasItsUnit}
-use Rattle.file_import.proofs.FoundPaths.{none_path}
 
 -- ---- lists
 
@@ -112,10 +111,6 @@ last_two row (x ∷ y ∷ z ∷ xs) p v = last_two row (y ∷ z ∷ xs) p v
 its_values : (f : Forest Unit) (source : Bytes) (row : Row) (v : Unit) → find (is_from source row.legacy) (nodes f) ≡ Some v → HasItsUnit f source row → v.values ≡ row.values
 its_values f source row v e h =
     let both : Some v.values ≡ Some row.values = sym (ap (option_map (λ (unit : Unit). unit.values)) e) ∙ h in cc
-
--- no path leads to a unit that is not there
-pub no_remark : (f : Forest Unit) (source : Bytes) (row : Row) → find (is_from source row.legacy) (nodes f) ≡ None → [] ≡ remark_on row.row (path (is_from source row.legacy) f)
-no_remark f source row none = sym (ap (remark_on row.row) (none_path (is_from source row.legacy) f (none_found (is_from source row.legacy) (nodes f) none)))
 
 module _ (f : Forest Unit) (source : Bytes) (row : Row) (v : Unit) (found : find (is_from source row.legacy) (nodes f) ≡ Some v) where
   abbrev IsTop : Type 0

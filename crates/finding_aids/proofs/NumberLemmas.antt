@@ -110,9 +110,6 @@ numbered_new seen b old new number h missing next sets grows =
         ap Some is ∙ sym (ap (λ (o : Option ℕ). or_last o (Some (length (distinct seen) + 1))) (ap (number_in (distinct seen)) (sym (same_box b q e)) ∙ none_from (number_in (distinct seen) b) unknown))
     here q false e is unknown = h.numbered q ∙ first (number_in (distinct seen) q)
 
-pub numbered_none : (numbers : BTreeMap Texts ℕ) → ((b : BoxKey) → number_at numbers b ≡ None) → btree_map_len numbers ≡ 0 → AreNumbered [] numbers
-numbered_none numbers empty none = record { numbered = empty; count = none }
-
 -- two facts of an outcome, and what follows from them
 pub on_ok_both : {T E P Q R : Type 0} → (r : Result T E) → (P → Q → R) → OnOk r P → OnOk r Q → OnOk r R
 on_ok_both (Ok x) f p q = f p q

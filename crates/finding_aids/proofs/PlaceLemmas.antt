@@ -4,7 +4,7 @@ use Rattle.std.specs.Prelude.{option_and_then, option_map, slice_get, if◌then�
 use Rattle.std.specs.Option.{option_to_list}
 use Rattle.std.proofs.lemmas.Bool.{cases_Bool, eq-eqb, eqb-false, eqb-true, le-ltb, lt-ltb, ne_eqb}
 use Rattle.std.proofs.lemmas.List.{append-nil, drop_more, length-append, length-reverse, reverse-append, take-append-drop, take_more}
-use Rattle.std.proofs.lemmas.List.Elements.{All-nil, All-push}
+use Rattle.std.proofs.lemmas.List.Elements.{All-push}
 use Rattle.std.specs.Str.{bytes_eq}
 use Rattle.isad_core.specs.Limits.{most_deep}
 use Rattle.isad_core.specs.Texts.{Bytes}
@@ -197,14 +197,6 @@ fault_deep xs x ys known places place h found deep =
     (faults_below Empty [] (x ∷ reverse xs) ys, faults-at xs x ys h.none_bad ∙ rw (depth, over) refl)
 
 -- ---- the beginning
-
-pub placing_none : (known : Bytes → Option ℕ) → ((legacy : Bytes) → known legacy ≡ None) → IsPlacing [] known []
-placing_none known nothing = record {
-  none_bad = refl;
-  knows = nothing;
-  placed = tt;
-  shallow = All-nil (λ (p : Place). p.depth ≤ most_deep);
-}
 
 -- ---- a row of the code, in the list
 

@@ -1,6 +1,6 @@
 //! The check of the desk's tables, in memory and in a file. Rows that no call writes are told by their cause.
 
-ghost use Rattle.std.specs.Prelude.{◌<◌, ◌^◌, OnOk};
+ghost use Rattle.std.specs.Prelude.{OnOk};
 ghost use Rattle.sqlite.specs.Held.{state};
 ghost use Rattle.tree_core.specs.Versions.{Links};
 ghost use Rattle.office_tables.specs.Step.{InTransaction};

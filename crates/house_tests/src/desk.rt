@@ -1,7 +1,7 @@
 //! The desk's tables, over a store in memory: readers, seats, orders, places and permits. The desk's calls look at no
 //! places of units, so these tests, and those of its days and its check, run over one keeping of them: links.
 
-ghost use Rattle.std.specs.Prelude.{◌<◌, ◌^◌, OnOk};
+ghost use Rattle.std.specs.Prelude.{OnOk};
 ghost use Rattle.sqlite.specs.Held.{state};
 ghost use Rattle.tree_core.specs.Versions.{Links};
 ghost use Rattle.office_tables.specs.Step.{InTransaction};

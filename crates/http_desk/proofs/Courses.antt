@@ -1,5 +1,5 @@
 -- Two courses of one input go together until one of them is busy.
-use Rattle.std.proofs.Common.{◌≡◌, ◌<◌, ◌⊎◌, inl, inr, ℕ, suc, ◌+◌, List, [], ◌∷◌, ◌++◌, length, refl, sym, ap, ◌∙◌, subst, arith, true, false, Bool}
+use Rattle.std.proofs.Common.{◌≡◌, ◌<◌, ℕ, suc, ◌+◌, List, [], ◌∷◌, ◌++◌, length, refl, sym, ap, ◌∙◌, subst, arith, true, false, Bool}
 use Rattle.std.proofs.lemmas.Bool.Decides.{nat_tests}
 use Rattle.std.specs.Prelude.{nat_eq, ◌||◌}
 use Rattle.std.specs.List.{AllByRecursion}
@@ -16,10 +16,6 @@ pub data Meet (ms : List Message) (l : Last) (ns : List Message) (k : Last) : Ty
   same : ms ≡ ns → l ≡ k → Meet ms l ns k
   first_fails : (more : List Message) → ns ≡ ms ++ more → is_busy l ≡ true → Meet ms l ns k
   second_fails : (more : List Message) → ms ≡ ns ++ more → is_busy k ≡ true → Meet ms l ns k
-
-busy_or_not : (b : Bool) → (b ≡ true) ⊎ (b ≡ false)
-busy_or_not true = inl refl
-busy_or_not false = inr refl
 
 not_ten_thousand : (n : ℕ) → suc n < most_answers → nat_eq (suc n) most_answers ≡ false
 not_ten_thousand n h = grind (arith, nat_tests)

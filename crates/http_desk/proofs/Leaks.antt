@@ -1,5 +1,5 @@
 -- Sessions of the public in offices whose public parts are equal.
-use Rattle.std.proofs.Common.{◌≡◌, ◌⊎◌, inl, inr, ℕ, suc, List, [], ◌∷◌, ◌++◌, length, refl, sym, ap, ◌∙◌, subst, true, false, Bool, append_assoc, append-nil}
+use Rattle.std.proofs.Common.{◌≡◌, inl, inr, ℕ, suc, List, [], ◌∷◌, ◌++◌, length, refl, sym, ap, ◌∙◌, subst, true, false, Bool, append_assoc, append-nil}
 use Rattle.std.specs.List.{AllByRecursion}
 use Rattle.isad_core.specs.Texts.{Bytes}
 use Rattle.office_core.specs.State.{State}
@@ -43,10 +43,6 @@ front_equal x y e = ([], sym e ∙ sym (append-nil x))
 
 true_not_false : (b : Bool) → b ≡ true → b ≡ false → ⊥
 true_not_false b e f = cc
-
-busy_or_not : (b : Bool) → (b ≡ true) ⊎ (b ≡ false)
-busy_or_not true = inl refl
-busy_or_not false = inr refl
 
 -- the messages before the place where an office is busy are answered in the other one too
 front_of_other : (s t : State) (ms ns more : List Message) (out tail : Bytes) → AnswersAlike s t → AllByRecursion IsPublicGet ms

@@ -53,10 +53,6 @@ map_open : (asks : ℕ → Query) (o : Option ℕ) → ((n : ℕ) → IsOpen (So
 map_open asks None h = tt
 map_open asks (Some n) h = h n
 
-if_open : (b : Bool) (route : Route) → IsOpen (Some route) → IsOpen (cond b (Some route) None)
-if_open true route h = h
-if_open false route h = tt
-
 public_plain : (x : Bytes) → IsOpen (plain_route plain (codes "/public/" ++ x))
 public_plain x =
     plain_open plain (codes "/public/" ++ x) (inr tt, (inr tt, (inr tt, (inl refl, (inr tt, (inr tt, (inr tt, (inr tt, (inr tt, (inr tt, (inr tt, (inr tt, (inr tt, (inr tt, (inr tt, (inr tt, (inr tt, (inr tt, (inr tt, tt)))))))))))))))))))

@@ -124,11 +124,6 @@ module _ {M : Type 0} (shows : M → State → Type 0) (is_intact : M → Type 0
         ),
       )
 
-  -- the session stops, and nothing more was written
-  pub stopped : (number : ℕ) (office : M) (input before rest : Bytes) (last : Last) (end : Ended)
-      → ((s : State) → Stops number s input before end s) → Through shows is_intact office office (λ s t. Turn number s input (Ends end) before t rest)
-  stopped number office input before rest last end h = λ i s shown. (s, shown, h s)
-
   -- the body of a message in a buffer
   abbrev pub body_at : Bytes → ℕ → ℕ → Bytes
   body_at items size n = take ((size + n) - size) (drop size items)

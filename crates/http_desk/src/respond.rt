@@ -1,5 +1,5 @@
 //! What is answered to a request.
-ghost use Rattle.std.specs.Prelude.{◌&&◌, ◌≡◌, ◌≤◌, length, IfOk, OnErr, is_none, Some};
+ghost use Rattle.std.specs.Prelude.{◌&&◌, ◌≡◌, length, IfOk, OnErr, is_none, Some};
 ghost use Rattle.httparse.specs.Spans.{IsWithin};
 ghost use Rattle.office_core.specs.State.{State};
 ghost use Rattle.office_core.specs.Rules as rules;

@@ -1,5 +1,5 @@
 //! Writes whole answers. Nothing here takes an allocator.
-ghost use Rattle.std.specs.Prelude.{◌≡◌, ◌≢◌, ◌+◌, ◌<◌, ◌||◌, ◌^◌, ℕ, List, [], ◌++◌, length, false};
+ghost use Rattle.std.specs.Prelude.{◌≡◌, ◌≢◌, ◌+◌, ◌<◌, ◌||◌, ◌^◌, ℕ, List, [], length, false};
 ghost use Rattle.http_desk.specs.Quiet.{QuietSend, send_failed};
 ghost use Rattle.std.specs.List.{flat_map};
 ghost use Rattle.std.specs.Io.KnownBytes.{Appends};

@@ -3,7 +3,7 @@ ghost use Rattle.std.specs.Prelude.{◌≢◌, ◌||◌, ◌<◌, false, ◌≡�
 ghost use Rattle.std.specs.Io.KnownBytes.{Appends};
 ghost use Rattle.httparse.specs.Spans.{IsWithin, span_bytes};
 ghost use Rattle.isad_core.specs.Texts.{Bytes};
-ghost use Rattle.http_messages.specs.Heads.{Accepted, is_head, longest_body};
+ghost use Rattle.http_messages.specs.Heads.{Accepted, is_head};
 ghost use Rattle.http_messages.specs.Heard.{request_in};
 ghost use Rattle.http_desk.specs.Messages.{HasHead};
 ghost use Rattle.http_desk.specs.Sending.{Sends};

@@ -1,10 +1,10 @@
 -- What a path leads to in the router of the table, and by the definitions.
-use Rattle.std.proofs.Common.{◌≡◌, ◌<◌, ◌+◌, ◌==◌, ℕ, List, [], ◌∷◌, ◌++◌, length, map, Option, Some, None, Bool, true, false, cond, refl, sym, ap, ◌∙◌, subst, arith, codes, Ok, Err, Result, lit<, zero, suc}
-use Rattle.std.specs.Prelude.{◌&&◌, not, ltb, nat_le, option_map, option_and_then}
+use Rattle.std.proofs.Common.{◌≡◌, ◌+◌, ◌==◌, ℕ, List, [], ◌∷◌, ◌++◌, length, map, Option, Some, None, Bool, true, false, refl, sym, ap, ◌∙◌, subst, arith, codes, lit<, zero, suc}
+use Rattle.std.specs.Prelude.{◌&&◌, not, ltb, nat_le, option_and_then}
 use Rattle.std.specs.Char.{is_ascii_digit}
 use Rattle.std.specs.List.{list_all, list_any}
 use Rattle.std.specs.Str.{bytes_eq, IsUtf8, is_utf8, IsAscii}
-use Rattle.std.proofs.lemmas.Str.{IsUtf8-append, IsUtf8-from_ascii, IsUtf8-from_is_utf8, is_utf8-from_IsUtf8}
+use Rattle.std.proofs.lemmas.Str.{IsUtf8-append, IsUtf8-from_ascii, IsUtf8-from_is_utf8}
 use Rattle.std.proofs.lemmas.Slice.Eq.{bytes_eq-Decides}
 use Rattle.office_core.specs.declared.query.Query.{Query}
 use Rattle.office_core.specs.declared.query.Query.TheVariants as query
@@ -12,10 +12,7 @@ use Rattle.std.proofs.lemmas.Bool.Decides.{nat_tests}
 use Rattle.matchit.specs.Rows.{RowsOf, param_token}
 use Rattle.matchit.specs.Seek.{first, has_slash}
 use Rattle.matchit.specs.Seek as seek
-use Rattle.matchit.specs.Order.{placed}
-use Rattle.matchit.specs.Route.{Scan}
-use Rattle.matchit.specs.Router.{RouteOf, InsertsRead}
-use Rattle.matchit.specs.declared.error.InsertError.{InsertError}
+use Rattle.matchit.specs.Router.{RouteOf}
 use Rattle.matchit.proofs.OnLiterals.{matchit_on_literals}
 use Rattle.isad_core.specs.Texts.{Bytes}
 use Rattle.http_messages.specs.declared.routing.Leads.{Leads}
@@ -25,10 +22,10 @@ use Rattle.http_messages.specs.declared.routing.Plain.TheVariants as plains
 use Rattle.http_messages.specs.declared.routing.Ending.{Ending}
 use Rattle.http_messages.specs.declared.routing.Ending.TheVariants as endings
 use Rattle.http_messages.specs.declared.form.Form.TheVariants as form
-use Rattle.http_messages.specs.Routes.{Route, plain, ending, plain_route, ending_route, route_of, or_else, after, number_in, is_number, is_name, is_segment, numbered, named}
-use Rattle.http_messages.specs.Routing.{plain_in, makes, beginning, table, with_read}
+use Rattle.http_messages.specs.Routes.{Route, plain, ending, plain_route, ending_route, route_of, or_else, after, is_number, is_name, is_segment, numbered, named}
+use Rattle.http_messages.specs.Routing.{plain_in, makes, beginning, table}
 use Rattle.http_messages.proofs.Bodies.{never_true}
-use Rattle.http_messages.proofs.Matched.{is_literal, hits, picked, literals, endings as ending_rows, all_shaped, all_apart, all_apart_from, AllBytes, first_picked, picked_apart, none_picked, both_left, both_right}
+use Rattle.http_messages.proofs.Matched.{is_literal, hits, picked, all_shaped, all_apart, all_apart_from, AllBytes, first_picked, picked_apart, none_picked, both_left, both_right}
 
 -- ---- the rows of the router
 
@@ -123,12 +120,6 @@ rows_shaped = refl
 rows_apart : all_apart rows ≡ true
 rows_apart = refl
 
-rows_literals : literals rows ≡ map plain_row all_plain
-rows_literals = refl
-
-rows_endings : ending_rows rows ≡ map ending_row all_ending
-rows_endings = refl
-
 endings_apart : all_apart (map ending_row all_ending) ≡ true
 endings_apart = refl
 
@@ -137,18 +128,6 @@ plain_pair (text, to) = (text, plain_in to)
 
 abbrev ending_pair : Ending → Bytes × (Bytes → Option Route)
 ending_pair to = (beginning to, makes to)
-
-plain_pairs : plain ≡ map plain_pair all_plain
-plain_pairs = refl
-
-ending_pairs : ending ≡ map ending_pair all_ending
-ending_pairs = refl
-
--- one pattern more
-pub one_read : (read : Result Scan InsertError) (to : Leads) (old new : RowsOf (RouteOf Leads)) → InsertsRead read to old new (Ok tt)
-    → new ≡ with_read read to old
-one_read (Ok s) to old new h = h.1
-one_read (Err e) to old new h = h.0
 
 -- ---- what a row leads to
 

@@ -17,10 +17,6 @@ pub later_none : (s : Scan) → later 0 s ≡ s
 later_none (Whole k) = ap Whole (zero-add k)
 later_none (Open p) = refl
 
-pub later_more : (n : ℕ) (s : Scan) → later n (one_more s) ≡ later (n + 1) s
-later_more n (Whole k) = let e : n + (k + 1) ≡ (n + 1) + k = omega arith in ap Whole e
-later_more n (Open p) = refl
-
 one_more_whole : (s : Scan) (n : ℕ) → one_more s ≡ Whole n → (k : ℕ) × (s ≡ Whole k) × (n ≡ k + 1)
 one_more_whole (Whole k) n e = (k, refl, cc)
 one_more_whole (Open p) n e = absurd (cc)

@@ -1,5 +1,5 @@
 //! Where a head ends.
-ghost use Rattle.std.specs.Prelude.{◌≡◌, ◌≤◌, length};
+ghost use Rattle.std.specs.Prelude.{◌≡◌};
 ghost use Rattle.http_messages.specs.Ending.{scan_from, next_place};
 
 /// What a byte of a head may stand after.

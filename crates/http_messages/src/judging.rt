@@ -1,13 +1,13 @@
 //! Judges a request's head.
-ghost use Rattle.std.specs.Prelude.{◌≡◌, ◌+◌, ◌<◌, ◌≤◌, ◌^◌, ℕ, List, length, map, take, count_by, All, true, false, Option, Some, None, IfSome, IfNone, drop, ◌∷◌, [], option_map, unwrap_or, min, nat_lt, ◌==◌, ◌&&◌, ◌||◌, not, codes};
+ghost use Rattle.std.specs.Prelude.{◌≡◌, ◌+◌, ◌<◌, ◌≤◌, ◌^◌, length, map, take, count_by, All, true, false, Option, Some, None, IfSome, IfNone, drop, ◌∷◌, [], option_map, unwrap_or, min, nat_lt, ◌==◌, ◌&&◌, ◌||◌, not, codes};
 ghost use Rattle.std.specs.List.{list_all, list_any, find};
-ghost use Rattle.std.specs.Str.{str_eq_ignore_ascii_case, bytes_eq};
+ghost use Rattle.std.specs.Str.{str_eq_ignore_ascii_case};
 ghost use Rattle.std.specs.Char.{is_ascii_digit};
 ghost use Rattle.std.specs.Str.Parse.{digits_value};
 ghost use Rattle.httparse.specs.Grammar.{skip_ows, is_ows};
 ghost use Rattle.httparse.specs.Spans.{IsHeaderWithin, IsWithin, header_bytes, span_bytes};
 ghost use Rattle.http_messages.specs.Heads.{is_named, is_digits, strip_zeros, same_number, agrees, asks_leave, asks_close, is_close, list_items, accept, hosts, is_head, weigh_size, weigh_length, Judges, weigh, longest_body, is_body, Refused};
-ghost use Rattle.http_messages.specs.Heard.{verdict_in, request_in, IsFit};
+ghost use Rattle.http_messages.specs.Heard.{verdict_in, IsFit};
 
 use crate::status::Status;
 use http::Method;

@@ -1,5 +1,5 @@
 //! What a path leads to.
-ghost use Rattle.std.specs.Prelude.{◌≡◌, ◌&&◌, ◌==◌, ◌<◌, ◌≤◌, ◌^◌, [], length, map, take, drop, not, nat_le, nat_eq, option_map, option_and_then, if◌then◌else◌, IfOk, Some, None, true};
+ghost use Rattle.std.specs.Prelude.{◌≡◌, ◌&&◌, ◌==◌, ◌≤◌, [], length, map, option_map, option_and_then, if◌then◌else◌, IfOk, Some, None, true};
 ghost use Rattle.std.specs.List.{list_all, list_any};
 ghost use Rattle.std.specs.Char.{is_ascii_digit};
 ghost use Rattle.std.specs.Str.{bytes_eq, is_utf8};

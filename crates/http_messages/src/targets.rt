@@ -1,5 +1,5 @@
 //! The path of a target.
-ghost use Rattle.std.specs.Prelude.{◌≡◌, length, take, drop};
+ghost use Rattle.std.specs.Prelude.{◌≡◌};
 ghost use Rattle.http_messages.specs.Targets as spec;
 
 /// Up to the first question mark.

@@ -1,5 +1,5 @@
 //! Finding aids.
-ghost use Rattle.std.specs.Prelude.{◌≡◌, ◌++◌, ◌+◌, ◌<◌, ◌^◌, IfOk, OnOk};
+ghost use Rattle.std.specs.Prelude.{◌≡◌, ◌++◌, ◌+◌, IfOk, OnOk};
 ghost use Rattle.std.specs.List.{flat_map};
 ghost use Rattle.isad_core.specs.Printed.{aid, body_lines, full_lines, unit_lines};
 ghost use Rattle.isad_core.specs.Printed.{container_text, element_text, indent, line};

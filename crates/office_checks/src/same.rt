@@ -123,7 +123,7 @@ impl Same for Index {
 }
 
 impl Same for Table {
-    ghost use Rattle.std.specs.Prelude.{◌≡◌, []};
+    ghost use Rattle.std.specs.Prelude.{◌≡◌};
     ghost use Rattle.office_checks.specs.Plain.{IsPlainTable};
 
     ghost is_plain = { IsPlainTable };

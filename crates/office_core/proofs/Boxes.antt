@@ -12,10 +12,6 @@ use Rattle.office_core.specs.Rules.{after, step, cancelled, issued, returned, im
 use Rattle.office_core.proofs.Steps.{step_at}
 use Rattle.catalogue_core.proofs.Imported.{taken_is, distinct_again}
 
--- no two containers have one name, location and kind
-AreApartBoxes : State → Type 0
-AreApartBoxes s = distinct s.catalogue.containers ≡ s.catalogue.containers
-
 imported_boxes : (s : State) (source file : Bytes) (t : Taken) → taken s source file ≡ t → distinct s.catalogue.containers ≡ s.catalogue.containers → distinct (imported s t).catalogue.containers ≡ (imported s t).catalogue.containers
 imported_boxes s source file (Err fault) e b = b
 imported_boxes s source file (Ok intake) e b =

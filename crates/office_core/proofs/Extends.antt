@@ -21,10 +21,6 @@ pub some_is : {X : Type 0} (o : Option X) (x : X) → o ≡ Some x → is_some o
 some_is None x e = absurd (cc)
 some_is (Some y) x e = refl
 
-pub some_value : {X : Type 0} (o : Option X) → is_some o ≡ true → (x : X) × (o ≡ Some x)
-some_value None e = absurd (false≢true e)
-some_value (Some x) e = (x, refl)
-
 pub numbered_kept : {X : Type 0} (xs : List X) (y x : X) (n : ℕ) → numbered xs n ≡ Some x → numbered (xs ++ y ∷ []) n ≡ Some x
 numbered_kept xs y x n e =
     let l = numbered_within xs n (some_is (numbered xs n) x e) in

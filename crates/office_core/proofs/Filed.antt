@@ -10,12 +10,12 @@ use Rattle.desk_core.specs.declared.reader.Place.{Place}
 use Rattle.office_core.specs.State.{State, Order, Line, Run, End, Done, Cancelled, container_of, order_out, is_shelf, is_desk, waits, is_due, picked, line_for, is_line_before, next_run, brings, is_idle, idle, containers, opens}
 use Rattle.office_core.specs.declared.command.Command.{Command}
 use Rattle.office_core.specs.declared.command.Command.TheVariants as command
-use Rattle.office_core.specs.Rules.{checks, after, ordered, cancelled, fetched, reshelved, issued, returned, state_after, imported, taken}
+use Rattle.office_core.specs.Rules.{checks, after, ordered, cancelled, fetched, reshelved, issued, returned, imported, taken}
 use Rattle.catalogue_core.specs.Intake.{Taken}
 use Rattle.office_core.specs.SoundDesk.{ExactlyOne, IsFiled, is_out_for, IsAscending, AreFiled}
 use Rattle.office_core.proofs.Words.{same_number, other_number, put_here, put_there, put_each, stands-push, stands-without_other, stands-without_same, below_none, ascending-without, ascending-push, all_from_stands, numbered_within, numbered-push, numbered-push_last, numbered_past}
 use Rattle.office_core.proofs.LineOrder.{any-in_order}
-use Rattle.office_core.proofs.Steps.{held_so, Passes, run_keeps}
+use Rattle.office_core.proofs.Steps.{held_so, Passes}
 
 -- One order, by where it stands
 
@@ -111,9 +111,6 @@ filed_same k k' w w' h h' p p' ek ew eh ep f =
     let fw : w ≡ w' = fun_ext (λ c. sym (ew c)) in
     let fh : h ≡ h' = fun_ext (λ c. sym (eh c)) in
     subst (λ x. IsFiled x w' h' p') (sym ek) (subst (λ x. IsFiled k w' h' x) (sym ep) (subst (λ x. IsFiled k w' x p) fh (subst (λ x. IsFiled k x h p) fw f)))
-
-IsFiledIn : State → ℕ → Type 0
-IsFiledIn s o = IsFiled (container_of s o) (λ c. stands o (s.queue c)) (λ c. is_out_for o (s.place c)) (s.past o)
 
 pub moved : (s t : State) (o : ℕ) → OnlyMoves s t o → IsFiled (container_of t o) (λ c. stands o (t.queue c)) (λ c. is_out_for o (t.place c)) (t.past o) → ((c : ℕ) → IsAscending (t.queue c)) → AreFiled s → AreFiled t
 moved s t o m here asc f =
@@ -302,9 +299,6 @@ all_taken P (suc k) (n ∷ ns) h = (h.0, all_taken P k ns h.1)
 pub picked_due : (s : State) → AllByRecursion (λ o. is_due s o ≡ true) (picked s)
 picked_due s = all_taken (λ o. is_due s o ≡ true) s.settings.run_size (filter (is_due s) (numbers_to (length s.orders))) (all_filtered (is_due s) (numbers_to (length s.orders)))
 
-line_of : ℕ → Order → Line
-line_of o order = record { container = order.container; order = o; ticket = order.ticket }
-
 shelf_at : (s : State) (c o : ℕ) (r : Option Order) (rest : List Line) → some_and (λ order. some_and (nat_eq o) (first (s.queue order.container)) && (is_shelf (s.place order.container) && opens s order.ticket order.container)) r ≡ true → (list_any (λ line. nat_eq line.container c) rest ≡ true → is_shelf (s.place c) ≡ true) → list_any (λ line. nat_eq line.container c) (cons_option (option_map (λ order. record { container = order.container; order = o; ticket = order.ticket }) r) rest) ≡ true → is_shelf (s.place c) ≡ true
 shelf_at s c o None rest due ih e = absurd (false≢true due)
 shelf_at s c o (Some order) rest due ih e =
@@ -374,10 +368,4 @@ filed_after s (command.SetClosure u until) f ok = record { each = f.each; queues
 filed_after s (command.Move u parent) f ok = record { each = f.each; queues = f.queues }
 filed_after s (command.Remove u) f ok = record { each = f.each; queues = f.queues }
 
-pub always_filed : (s : State) (commands : List Command) → AreFiled s → AreFiled (state_after s commands)
-always_filed = run_keeps AreFiled filed_after
-
 -- Two orders that are out have different containers
-
-pub out_apart : (s : State) (o p c : ℕ) → s.place c ≡ Out o → s.place c ≡ Out p → o ≡ p
-out_apart s o p c e f = cc

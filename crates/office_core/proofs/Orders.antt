@@ -104,8 +104,6 @@ same_z d e h = grind (arith, Decides-int_eq d e)
 -- Order
 
 module _ (s : State) (t c : ℕ) (f : AreFiled s) (g : AreGoodOrders s) where
-  new_order : Order
-  new_order = record { ticket = t; container = c; day = s.day }
 
   n : ℕ
   n = suc (length s.orders)

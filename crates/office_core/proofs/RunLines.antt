@@ -68,9 +68,6 @@ due_at s o (Some order) e h = (order, record { there = e; head = (and_parts (som
 due : (s : State) (o : ℕ) → is_due s o ≡ true → (order : Order) × IsDue s o order
 due s o h = due_at s o (numbered s.orders o) refl h
 
-line : ℕ → Order → Line
-line o order = record { container = order.container; order = o; ticket = order.ticket }
-
 -- the lines of orders that are due, one by one
 lines_cons : (P : List Line → Type 0) (s : State) (o : ℕ) (order : Order) (rest : List Line) → numbered s.orders o ≡ Some order → P (record { container = order.container; order = o; ticket = order.ticket } ∷ rest) → P (cons_option (line_for s o) rest)
 lines_cons P s o order rest e p = subst (λ r. P (cons_option (option_map (λ order. record { container = order.container; order = o; ticket = order.ticket }) r) rest)) (sym e) p

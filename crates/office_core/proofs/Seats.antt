@@ -17,9 +17,6 @@ use Rattle.office_core.proofs.Words.{same_number, other_number}
 use Rattle.office_core.proofs.Steps.{held_so, held_not, Passes}
 use Rattle.office_core.proofs.Extends.{Extends, extends_after}
 
-sits : ℕ → List (Option ℕ) → Bool
-sits u seats = list_any (is_seat_of u) seats
-
 or_second : (a b : Bool) → b ≡ true → (a || b) ≡ true
 or_second true b e = refl
 or_second false b e = e
@@ -53,9 +50,6 @@ not_sat u t seats ne e =
       | inl h ↦ elim (sit_only u t seats h) [ inl same ↦ absurd (ne same) | inr k ↦ absurd (false≢true (sym e ∙ k)) ]
       | inr h ↦ h
     ]
-
-false_or : (a b : Bool) → (a || b) ≡ false → (a ≡ false) × (b ≡ false)
-false_or = or_parts
 
 sit_once : (t : ℕ) (seats : List (Option ℕ)) → list_any (is_seat_of t) seats ≡ false → SitOnce seats → SitOnce (sit t seats)
 sit_once t [] e h = tt

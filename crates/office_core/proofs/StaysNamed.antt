@@ -1,6 +1,6 @@
 -- What a number names, it goes on to name.
 use Rattle.std.proofs.Common.{◌≡◌, ℕ, zero, suc, ◌+◌, ◌<◌, ◌≤◌, Bool, true, false, ◌&&◌, List, [], ◌∷◌, ◌++◌, Option, Some, None, Ok, Err, refl, sym, ap, ◌∙◌, subst, inl, inr, arith}
-use Rattle.std.specs.Prelude.{ℤ, cond, find, length, map, nat_eq, option_map, unwrap_or}
+use Rattle.std.specs.Prelude.{ℤ, cond, find, length, map, option_map, unwrap_or}
 use Rattle.std.specs.List.{list_any, AllByRecursion}
 use Rattle.std.specs.Str.{bytes_eq}
 use Rattle.std.proofs.lemmas.Bool.{false≢true, eqb-true, eq-eqb, or_cases, or_left, or_right, and_parts}
@@ -58,18 +58,6 @@ is_unit unit other = has_id unit.id other && is_from unit.source unit.legacy oth
 
 itself : (unit : Unit) → is_unit unit unit ≡ true
 itself unit = rw (eq-eqb unit.id unit.id refl, same_text unit.source, same_text unit.legacy) refl
-
--- the same number, source and number in the source
-one_unit : (a b c : Unit) → is_unit a b ≡ true → is_unit b c ≡ true → is_unit a c ≡ true
-one_unit a b c e f =
-    let x = and_parts (has_id a.id b) (is_from a.source a.legacy b) e in
-    let y = and_parts (bytes_eq b.source a.source) (bytes_eq b.legacy a.legacy) x.1 in
-    let i = eqb-true a.id b.id x.0 in
-    let s = one_text b.source a.source y.0 in
-    let l = one_text b.legacy a.legacy y.1 in
-    subst (λ n. (nat_eq n c.id && (bytes_eq c.source a.source && bytes_eq c.legacy a.legacy)) ≡ true) (sym i)
-    (subst (λ t. (nat_eq b.id c.id && (bytes_eq c.source t && bytes_eq c.legacy a.legacy)) ≡ true) s
-    (subst (λ t. (nat_eq b.id c.id && (bytes_eq c.source b.source && bytes_eq c.legacy t)) ≡ true) l f))
 
 -- units that are in the list, told one by one
 each_itself : (us all : List Unit) → ((p : Unit → Bool) → list_any p us ≡ true → list_any p all ≡ true) → AllByRecursion (λ unit. list_any (is_unit unit) all ≡ true) us

@@ -1,5 +1,5 @@
 -- What the rules keep.
-use Rattle.std.specs.Prelude.{◌≡◌, ◌≢◌, ℕ, zero, suc, ◌-◌, ◌≤◌, Bool, true, cond, List, [], ◌∷◌, length, Option, Some, None, Ok, option_map, ◌⊎◌}
+use Rattle.std.specs.Prelude.{◌≡◌, ◌≢◌, ℕ, zero, suc, ◌≤◌, Bool, true, cond, List, [], ◌∷◌, length, Option, Some, None, Ok, option_map, ◌⊎◌}
 use Rattle.office_core.specs.Words.{numbered, stands}
 use Rattle.office_core.specs.State.{Order, End, Done, Cancelled, State, container_of, order_out, is_by}
 use Rattle.office_core.specs.SoundDesk.{is_out_for, IsGoodHolder}

@@ -8,7 +8,6 @@ ghost use Rattle.office_core.specs.State.{State, Settings, start};
 ghost use Rattle.office_core.specs.Rules.{step, state_after};
 ghost use Rattle.office_core.specs.SoundDesk.{IsSoundDesk};
 ghost use Rattle.isad_core.specs.Days.{IsDayNumber};
-ghost use Rattle.tree_core.specs.Spans.{number};
 ghost use Rattle.office_core.specs.Soundness.{AreGoodDays, AreGoodSettings, IsSound, NamesDays};
 ghost use Rattle.office_core.specs.Imported.{ImportsBringTheNew, ImportsKeepTheCatalogue};
 ghost use Rattle.office_core.specs.Secrecy.{SamePublic, AnswersAlike, published_part};

@@ -89,9 +89,6 @@ module _ {R : Type 0} (key : R → ℕ) where
         ]
       ]
 
-  pub less_apart : (rows : List R) → AreInOrder (λ x y. key x < key y) rows → AreInOrder (λ x y. key x ≢ key y) rows
-  less_apart rows h = order_weaker (λ x y. key x < key y) (λ x y. key x ≢ key y) rows (λ x y l e. omega (arith, l, e)) h
-
   abbrev is_of : ℕ → R → Bool
   is_of m r = nat_eq (key r) m
 

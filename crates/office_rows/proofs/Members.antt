@@ -1,5 +1,5 @@
 -- What stands in a list, and what tests say of it.
-use Rattle.std.proofs.Common.{◌≡◌, ℕ, zero, suc, ◌+◌, ◌≤◌, Bool, true, false, List, [], ◌∷◌, ◌++◌, Option, Some, None, refl, sym, ap, ◌∙◌, subst, inl, inr, arith}
+use Rattle.std.proofs.Common.{◌≡◌, ℕ, zero, suc, ◌+◌, ◌≤◌, Bool, true, List, [], ◌∷◌, ◌++◌, Option, Some, None, refl, sym, ap, ◌∙◌, subst, inl, inr, arith}
 use Rattle.std.specs.Prelude.{map, filter_map}
 use Rattle.std.specs.List.{list_any, list_all, flat_map, AllByRecursion, cons_option}
 use Rattle.std.proofs.lemmas.Bool.{and_parts, and_from, or_cases, or_left, or_right, false≢true}
@@ -9,8 +9,7 @@ use Rattle.office_core.specs.Laws.{numbers_from}
 use Rattle.catalogue_core.specs.Members.{StandsIn}
 pub use Rattle.tree_core.proofs.Lists.{any_agree as any_same, any_none as none_of_in, none_any as none_in}
 pub use Rattle.tree_core.proofs.Lists.{In-append as in_append, In-append_left as append_in_left, In-append_right as append_in_right}
-pub use Rattle.tree_core.proofs.Lists.{In-map as map_in}
-pub use Rattle.tree_core.proofs.Members.{In-filter as in_filter, filter-In as filter_in}
+pub use Rattle.tree_core.proofs.Members.{In-filter as in_filter}
 
 module _ {X : Type 0} where
   pub all_in : (P : X → Type 0) (xs : List X) (x : X) → AllByRecursion P xs → StandsIn x xs → P x

@@ -44,8 +44,6 @@ no_more [] = refl
 no_more (x ∷ xs) = ap (λ l. x ∷ l) (no_more xs)
 
 module _ (k : ℕ) (c o : Forest ℕ) where
-  end : ℕ
-  end = k + 2 * size c + 1
 
   inside : filter (λ (other : Span). nat_lt other.lft (k + 2 * size c + 1)) (number (k + 1) c ++ number (k + 2 * size c + 2) o) ≡ number (k + 1) c
   inside =

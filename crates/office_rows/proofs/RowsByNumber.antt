@@ -57,11 +57,6 @@ in_filter {X} p (y ∷ ys) x i = at (p y) refl i (λ k. in_filter p ys x k)
     at true e (inr k) f = let r = f k in (inr r.0, r.1)
     at false e k f = let r = f k in (inr r.0, r.1)
 
-pub filter_in : {X : Type 0} (p : X → Bool) (xs : List X) (x : X) → In x xs → p x ≡ true → In x (filter p xs)
-filter_in p [] x i t = absurd i
-filter_in p (y ∷ ys) x (inl e) t = subst (λ b. In x (cond b (y ∷ filter p ys) (filter p ys))) (sym (sym (ap p e) ∙ t)) (inl e)
-filter_in p (y ∷ ys) x (inr i) t = elim (p y) as (λ b. In x (cond b (y ∷ filter p ys) (filter p ys))) [ true ↦ inr (filter_in p ys x i t) | false ↦ filter_in p ys x i t ]
-
 -- ---- lists of lists
 
 pub flat_map_same : {X Y : Type 0} (f g : X → List Y) (xs : List X) → ((x : X) → In x xs → f x ≡ g x) → flat_map f xs ≡ flat_map g xs
@@ -150,11 +145,6 @@ one_kept {R} key n (r ∷ rows) d = at (nat_eq (key r) n) refl (one_kept key n r
 pub in_numbers : (m k n : ℕ) → m ≤ k → k < m + n → In k (numbers_from m n)
 in_numbers m k zero a b = absurd (omega arith)
 in_numbers m k (suc n) a b = elim (cases_eq k m) [ inl e ↦ inl e | inr other ↦ inr (in_numbers (suc m) k n (omega arith) (omega arith)) ]
-
-pub numbers_in : (m k n : ℕ) → In k (numbers_from m n) → (m ≤ k) × (k < m + n)
-numbers_in m k zero i = absurd i
-numbers_in m k (suc n) (inl e) = (omega arith, omega arith)
-numbers_in m k (suc n) (inr i) = let r = numbers_in (suc m) k n i in (omega (arith, r.0), omega (arith, r.1))
 
 pub numbers_length : (m n : ℕ) → length (numbers_from m n) ≡ n
 numbers_length m zero = refl

@@ -1,5 +1,5 @@
 -- What the desk's commands do to the rows of orders, and what the rows say.
-use Rattle.std.proofs.Common.{◌≡◌, ◌≢◌, ℕ, zero, suc, ◌+◌, ◌<◌, ◌≤◌, Bool, true, false, cond, ◌&&◌, ◌||◌, List, [], ◌∷◌, ◌++◌, length, Option, Some, None, Ok, refl, sym, ap, ◌∙◌, subst, inl, inr, arith}
+use Rattle.std.proofs.Common.{◌≡◌, ◌≢◌, ℕ, zero, suc, ◌+◌, ◌<◌, ◌≤◌, Bool, true, false, cond, ◌&&◌, ◌||◌, List, [], ◌∷◌, length, Option, Some, None, Ok, refl, sym, ap, ◌∙◌, subst, inl, inr, arith}
 use Rattle.std.specs.Prelude.{nat_eq, map, filter, is_some, option_map, slice_get, filter_map, option_and_then, unwrap_or}
 use Rattle.std.specs.List.{AllByRecursion, cons_option}
 use Rattle.std.proofs.Math.Path.{fun_ext}
@@ -10,7 +10,7 @@ use Rattle.desk_core.specs.declared.reader.Place.{Place}
 use Rattle.office_core.specs.State.{is_desk, is_by, State, Order, containers, End, Done, Cancelled, container_of}
 use Rattle.office_core.specs.declared.command.Command.TheVariants as command
 use Rattle.office_core.specs.declared.done.Done.TheVariants as done
-use Rattle.office_core.specs.Rules.{Reply, step, ordered, issued}
+use Rattle.office_core.specs.Rules.{Reply, step, issued}
 use Rattle.office_core.specs.SoundDesk.{ExactlyOne, IsFiled, IsAscending, AreFiled, AreGoodPlaces, IsSoundDesk, is_out_for}
 use Rattle.office_core.specs.Laws.{Standing, Waiting, WithItsReader, Ended, stands_as, standing}
 use Rattle.desk_core.specs.DeskRows.{HoldingRow, OrderRow, with_state, waiting_for}
@@ -18,7 +18,7 @@ use Rattle.office_rows.specs.DeskShown.{reader_row, reader_from, order_from, One
 use Rattle.office_core.proofs.Words.{same_number, other_number, below_none, numbered_within}
 use Rattle.office_core.proofs.Steps.{held_so, step_at}
 use Rattle.office_core.proofs.Counts.{none_to, numbered_from_one}
-use Rattle.office_core.proofs.Filed.{only_issues, is_issued, no_order, OnlyMoves, waiting, only_orders}
+use Rattle.office_core.proofs.Filed.{only_issues, is_issued, no_order, OnlyMoves, waiting}
 use Rattle.office_core.proofs.OrderLaws.{stands_out, waiting_stands, stands_waiting, goes_same}
 
 -- where one order moves, one row changes
@@ -43,30 +43,6 @@ pub rows_moved : (s t : State) (o : ℕ) → OnlyMoves s t o → t.orders ≡ s.
 rows_moved s t o m e = ap (rows_from (order_row t) 1) e ∙ rows_moved_from s t o m 1 s.orders
 
 -- Order adds a row
-
-rows_push : {X Y : Type 0} (row : ℕ → X → Y) (n : ℕ) (xs : List X) (x : X) → rows_from row n (xs ++ x ∷ []) ≡ rows_from row n xs ++ row (length xs + n) x ∷ []
-rows_push row n [] x = let e : n ≡ 0 + n = omega arith in ap (λ k. row k x ∷ []) e
-rows_push row n (y ∷ ys) x =
-    let e : length ys + suc n ≡ suc (length ys) + n = omega arith in
-    ap (λ rows. row n y ∷ rows) (rows_push row (suc n) ys x ∙ ap (λ k. rows_from row (suc n) ys ++ row k x ∷ []) e)
-
-rows_same_below : (s t : State) (o : ℕ) → OnlyMoves s t o → (n : ℕ) (orders : List Order) → length orders + n ≤ o → rows_from (order_row t) n orders ≡ rows_from (order_row s) n orders
-rows_same_below s t o m n [] h = refl
-rows_same_below s t o m n (x ∷ xs) h =
-    let ne : n ≢ o = omega arith in
-    ap (λ k. record { id = n; ticket = x.ticket; container = x.container; day = x.day; state = state_number k } ∷ rows_from (order_row t) (suc n) xs) (goes_same s t n (m.orders n ne) (m.queues n ne) (m.places n ne) (m.past n ne))
-    ∙ ap (λ rows. order_row s n x ∷ rows) (rows_same_below s t o m (suc n) xs (omega arith))
-
-pub rows_ordered : (s : State) (t c : ℕ) → standing (ordered s t c) (suc (length s.orders)) ≡ Some Waiting → order_rows (ordered s t c) ≡ order_rows s ++ record { id = suc (length s.orders); ticket = t; container = c; day = s.day; state = 1 } ∷ []
-rows_ordered s t c w =
-    let u = ordered s t c in
-    let n = suc (length s.orders) in
-    let order : Order = record { ticket = t; container = c; day = s.day } in
-    let e : length s.orders + 1 ≡ n = omega arith in
-    rows_push (order_row u) 1 s.orders order
-    ∙ ap (λ rows. rows ++ order_row u (length s.orders + 1) order ∷ []) (rows_same_below s u n (only_orders s t c) 1 s.orders (omega arith))
-    ∙ ap (λ k. order_rows s ++ order_row u k order ∷ []) e
-    ∙ ap (λ x. order_rows s ++ record { id = n; ticket = t; container = c; day = s.day; state = state_number x } ∷ []) w
 
 -- The queue is what the rows say
 

@@ -44,9 +44,6 @@ all_two : (P Q R : Unit → Type 0) → ((u : Unit) → P u → Q u → R u) →
 all_two P Q R f [] p q = tt
 all_two P Q R f (u ∷ us) p q = (f u p.0 q.0, all_two P Q R f us p.1 q.1)
 
-is_row_of : ℕ → UnitRow → Bool
-is_row_of u row = nat_eq row.id u
-
 pub rows_found : (us : List Unit) → IsDistinct nat_eq (map number_of us) → AllByRecursion (λ u. find (λ (row : UnitRow). nat_eq row.id u.id) (map unit_row us) ≡ Some (unit_row u)) us
 rows_found [] d = tt
 rows_found (u ∷ us) d =
@@ -117,9 +114,6 @@ after_less a b h = at (nat_lt a 4) (nat_lt b 4) refl refl
     at true false e f = omega (arith, h)
     at false true e f = let u = Rattle.std.proofs.lemmas.Bool.ltb-false a 4 e in let v = Rattle.std.proofs.lemmas.Bool.ltb-true b 4 f in absurd (omega (arith, u, v, h))
     at false false e f = omega (arith, h)
-
-is_k : ℕ → ElementRow → Bool
-is_k k row = nat_eq row.k (after_level k)
 
 abbrev value_at : ℕ → List ElementRow → Option Bytes
 value_at k rows = option_map (λ (row : ElementRow). row.value) (find (λ (row : ElementRow). nat_eq row.k (after_level k)) rows)

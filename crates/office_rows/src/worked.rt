@@ -4,7 +4,6 @@ ghost use Rattle.office_rows.specs.WorkedCatalogueCauses as causes;
 ghost use Rattle.office_rows.specs.WorkedCells as cell_causes;
 ghost use Rattle.office_rows.specs.WorkedDeskCauses as desk_causes;
 ghost use Rattle.office_rows.specs.WorkedReading as tables;
-ghost use Rattle.office_core.specs.WorkedReplies as row;
 
 /// The rows of small offices say the states that they show, in both versions.
 pub fn worked_tables()

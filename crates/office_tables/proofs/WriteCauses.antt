@@ -32,7 +32,7 @@ use Rattle.sqlite.specs.Effect.{Database, edit_error, alter_error, IsNoText, Ref
 use Rattle.sqlite.specs.Rows.{Part, Then, stamped, rowids_for, count_of, higher, Gives, Queried, Sourced, Edited, Counter, Counts, CounterIn, CountsIn, Task, Written, sequence}
 use Rattle.sqlite.specs.Does.{Does, AtPlace, OnRows, WritesRows, Concludes, Defines, MakesTable, MakesSequence, MakesIndex, lacks_sequence, sequence_text}
 use Rattle.sqlite.specs.declared.run.Mode.{Mode}
-use Rattle.sqlite.specs.State.{State, HasCleanDisk, shows_rows, ExecutesIn, Executes, IsNotRun, IsNoStatement, IsMisplaced, RunsCommand, Fails, MayChange, store_error, text_of, mode_of}
+use Rattle.sqlite.specs.State.{State, HasCleanDisk, shows_rows, ExecutesIn, Executes, IsNotRun, IsNoStatement, IsMisplaced, RunsCommand, Fails, store_error, text_of, mode_of}
 use Rattle.sqlite.specs.State as state
 use Rattle.sqlite.proofs.Callers.{IsPlain, command_of}
 use Rattle.office_tables.specs.Faults.{fault_of, BlamesDisk}

@@ -1,6 +1,6 @@
 //! The tables are made.
 
-ghost use Rattle.std.specs.Prelude.{◌≡◌, List, OnOk, OnErr, IfErr};
+ghost use Rattle.std.specs.Prelude.{List, OnOk, OnErr, IfErr};
 ghost use Rattle.sqlite.specs.State.{HasCleanDisk};
 ghost use Rattle.sqlite.specs.Held.{state};
 ghost use Rattle.sqlite.specs.Schema.{Schema};

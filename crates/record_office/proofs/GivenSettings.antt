@@ -1,5 +1,5 @@
 -- Settings that were given are taken as they are, or refused.
-use Rattle.std.proofs.Common.{◌≡◌, List, Option, Some, None, Result, Ok, Err, IfOk, IfErr, refl, subst, sym, ap}
+use Rattle.std.proofs.Common.{◌≡◌, List, Option, Some, None, Result, Ok, Err, IfOk, IfErr, refl, subst, sym}
 use Rattle.clap.specs.Walk.{Row}
 use Rattle.office_core.specs.SettingsFaults.{WrongSetting, wrong_setting, Country, Repo, Seats, Daily, Hands, RunSize}
 use Rattle.office.specs.Founding.{AreTaken, Founding, IsTaken, fault_of}

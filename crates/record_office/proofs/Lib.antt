@@ -5,6 +5,5 @@ pub mod Named
 pub mod PerformedLemmas
 pub mod StreamLemmas
 pub mod RefusalLines
-pub mod ServedLemmas
 pub mod StoreLemmas
 pub mod Trials

@@ -1,12 +1,9 @@
 -- What a command needs, by its name; and the values that are refused.
-use Rattle.std.proofs.Common.{◌≡◌, Bool, true, false, List, Some, codes, inl, inr, refl, subst, sym}
+use Rattle.std.proofs.Common.{◌≡◌, List, codes, subst, sym}
 use Rattle.std.specs.Prelude.{MatchBool}
 use Rattle.std.specs.Str.{bytes_eq}
 use Rattle.clap.specs.Walk.{Row, Text}
 use Rattle.office_words.specs.Given.{HasImport, HasNeeds, HasServer, HasSettings, HasText, Previews, Begins, Tries, Imports, Talks, Serves, Checks, Migrates}
-use Rattle.record_office.specs.Tasks.{AreNoCodes, AreRefused, AreRefusedFor, TakesSettings}
-use Rattle.record_office.specs.declared.tasks.TaskFault.{TaskFault}
-use Rattle.record_office.specs.declared.tasks.TaskFault.TheVariants as fault
 
 abbrev pub NeedsOf : Text → List Row → Type 0
 NeedsOf name rows =
@@ -33,15 +30,3 @@ needed name rows (Migrates is store) = subst (λ n. NeedsOf n rows) (sym is) sto
 -- the needs of the command of that name
 pub needs_at : (name word : Text) (rows : List Row) → HasNeeds name rows → name ≡ word → NeedsOf word rows
 needs_at name word rows has is = subst (λ n. NeedsOf n rows) is (needed name rows has)
-
-pub no_codes : (name : Text) (rows : List Row) (f : TaskFault) → name ≡ codes "preview" → AreNoCodes rows f → AreRefusedFor (Some (name, rows)) f
-no_codes name rows fault.Memory is why = tt
-no_codes name rows (fault.Words text) is why = tt
-no_codes name rows fault.Date is why = absurd why
-no_codes name rows fault.Settings is why = inl (is, why)
-
-pub no_settings : (name : Text) (rows : List Row) (f : TaskFault) → TakesSettings name → AreRefused rows f → AreRefusedFor (Some (name, rows)) f
-no_settings name rows fault.Memory is why = tt
-no_settings name rows (fault.Words text) is why = tt
-no_settings name rows fault.Date is why = inr (is, why)
-no_settings name rows fault.Settings is why = inr (is, why)

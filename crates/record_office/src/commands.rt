@@ -1,5 +1,5 @@
 //! Does the task that the words name.
-ghost use Rattle.std.specs.Prelude.{◌≡◌, true, false, IfErr, OnOk, map};
+ghost use Rattle.std.specs.Prelude.{true, false, IfErr, OnOk, map};
 ghost use Rattle.std.specs.String.{string_bytes};
 ghost use Rattle.sqlite.specs.WalFiles.{image_at};
 ghost use Rattle.record_office.specs.Faults.{IsUnopened};

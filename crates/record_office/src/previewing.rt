@@ -1,5 +1,5 @@
 //! Prints the finding aids of a file.
-ghost use Rattle.std.specs.Prelude.{◌≡◌, ℕ, List, IfErr, IfOk, OnOk};
+ghost use Rattle.std.specs.Prelude.{ℕ, List, IfErr, IfOk, OnOk};
 ghost use Rattle.std.specs.Io.KnownBytes.{Consumes};
 ghost use Rattle.std.specs.Option.{option_copied};
 ghost use Rattle.record_office.specs.Faults.{RefusesFile};

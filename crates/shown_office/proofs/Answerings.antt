@@ -13,11 +13,10 @@ use Rattle.office_core.specs.declared.query.Query.{Query}
 use Rattle.office_core.specs.declared.query.Answer.{Answer}
 use Rattle.office_tables.specs.Faults.{HasCause, IsUnlimited}
 use Rattle.office_tables.specs.Step.{IsCut, Looks}
-use Rattle.office_tables.proofs.Calls.{cut_after, cut_then}
+use Rattle.office_tables.proofs.Calls.{cut_then}
 use Rattle.office_tables.proofs.Causes.{still_unlimited}
 use Rattle.office_tables.proofs.LaterCauses.{next_cause}
 use Rattle.office_tables.specs.declared.fault.StoreFault.{StoreFault}
-use Rattle.office_tables.specs.declared.fault.StoreFault.TheVariants as fault
 use Rattle.shown_office.specs.Answering.{Answers}
 use Rattle.shown_office.specs.Shown.{ShowsState}
 
@@ -41,10 +40,6 @@ module _ (places : Trees → Forest ℕ → Type 0) (version : Version) where
         answers_not a c r e is (cut_then a b c looked.goes.on cut)
         (λ s sound it clean free.
         next_cause a b c looked.goes.on cut clean e (λ at_b. why s sound (still_shown a b looked at_b s it) clean (still_unlimited a b looked.goes.on free)))
-
-    -- there was no memory for what was read
-    pub stops_short : (a b : store.State) (r : Result Answer StoreFault) → r ≡ Err fault.Memory → Looks a b → Answers places version asked a b r
-    stops_short a b r is looked = answers_not a b r fault.Memory is (cut_after a b looked.goes.on) (λ s sound it clean free. tt)
 
     -- it tells what was read
     pub answers_by : (a b : store.State) (told : Answer) → Looks a b

@@ -61,27 +61,6 @@ module _ {S : Type 0} (g : kept_in.Ghosts S) (places : Trees → Forest ℕ → 
   abbrev c : store.State
   c = state g after_it
 
-  pub passed : IsChange places version known asked today done before b → Goes before b
-      → Tells g (ShowsWhole places version) CanBeJudged mid after_it r (λ _. ⊤) (λ _ s reply. CanBeJudged s → today ≡ s.day → reply ≡ gated s done)
-      → Does places version known asked before c r
-  passed change goes tells =
-      let still = λ (clean : HasCleanDisk c). early b c _ (looked_crash r b c tells.looks tells.cut) clean in
-      record {
-        steps = λ clean s sound so it.
-            let at_b = still clean in
-            let shown = change.shows at_b s sound so it in
-            let judged = change.judged s sound so in
-            let answers = tells.answers clean tt (after s asked) shown in
-            if_ok_with r (Looks b c) (λ reply. CanBeJudged (after s asked) → today ≡ (after s asked).day → reply ≡ gated (after s asked) done) (λ reply. DoesStep places version s asked reply c.now)
-            (λ reply looked is. gated_step places version s asked c.now (change.last s so) reply
-            (is judged (change.day s so) ∙ ap (gated (after s asked)) (change.tells at_b s so it))
-            (subst (λ (db : Database). ShowsState places version db (after s asked)) (sym (looked.same clean)) shown))
-            tells.looks answers;
-        goes = on_ok_then r (Looks b c) (Goes before c) (λ looked. goes_then before b c goes looked.goes) tells.looks;
-        cut = on_err_then r (IsCut b c) (IsCut before c) (λ cut. cut_then before b c goes.on cut) tells.cut;
-        faults = λ s sound so it. excused_then before b c goes.on r tells.cut (λ at_b. tells.faults tt (after s asked) (change.shows at_b s sound so it) tt (change.judged s sound so));
-      }
-
   -- the same of a change that bears only on some containers
   pub passed_where : (OthersStay : State → Type 0) → IsChange places version known asked today done before b → ((s : State) → IsSoundOffice s → known s → OthersStay (after s asked)) → Goes before b
       → Tells g (ShowsWhole places version) CanBeJudged mid after_it r (λ _. ⊤) (λ _ s reply. CanBeJudged s → today ≡ s.day → OthersStay s → reply ≡ gated s done)

@@ -1,7 +1,7 @@
 //! After a change within a branch of units, nothing that is out may be withheld from the reader who has it. Only a
 //! container in which a unit of the branch lies can be: where more than a few are out, only these are asked.
 
-ghost use Rattle.std.specs.Prelude.{◌≡◌, ⊤, ℕ, List, ◌++◌, None, map, filter, nat_eq, option_to_list, IfOk};
+ghost use Rattle.std.specs.Prelude.{◌≡◌, ⊤, ℕ, List, ◌++◌, None, map, filter, option_to_list, IfOk};
 ghost use Rattle.std.specs.List.{AllByRecursion, last_or, list_any};
 ghost use Rattle.std.specs.List.Sorted.{IsNonDecreasing};
 ghost use Rattle.sqlite.specs.Held.{state};

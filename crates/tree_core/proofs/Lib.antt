@@ -25,5 +25,4 @@ pub mod Adjacent
 pub mod Climbing
 pub mod Orders
 pub mod Sharing
-pub mod MarkRows
 pub mod TopsLemmas

@@ -1,13 +1,13 @@
 -- The nodes of a forest whose ids do not repeat, after a branch is cut away or moved. `id` says the id of what stands in a node.
-use Rattle.std.proofs.Common.{◌≡◌, ℕ, Bool, true, false, not, ◌||◌, List, [], ◌∷◌, ◌++◌, map, Option, Some, None, refl, sym, ap, ◌∙◌, subst, nat_eq, ◌⊎◌, inl, inr, arith, append-nil, append_assoc}
+use Rattle.std.proofs.Common.{◌≡◌, ℕ, Bool, true, false, not, ◌||◌, List, [], ◌∷◌, ◌++◌, map, Option, Some, None, refl, sym, ap, ◌∙◌, subst, nat_eq, inl, inr, arith, append-nil, append_assoc}
 use Rattle.std.proofs.lemmas.Bool.{eqb-true, cases_Bool, false≢true}
 use Rattle.std.proofs.lemmas.List.Folds.{list_any-append}
 use Rattle.std.proofs.lemmas.List.Elements.{filter-append}
 use Rattle.std.proofs.lemmas.List.Sorted.{IsPermutation-trans, IsPermutation-sym, IsPermutation-cons, IsPermutation-append_comm, IsPermutation-append_left, IsPermutation-append_right, list_any-IsPermutation}
 use Rattle.std.specs.List.{list_any, filter}
 use Rattle.std.specs.List.Sorted.{IsPermutation}
-use Rattle.tree_core.specs.Forest.{Forest, Empty, Node, nodes, each, has, has_place, tree, branch, join, put_below, put_last, cut, move_last, HasDistinctIds}
-use Rattle.tree_core.proofs.Lists.{In, In-append_right, In-map, any_from_In}
+use Rattle.tree_core.specs.Forest.{Forest, Empty, Node, nodes, each, has, has_place, tree, branch, join, put_below, cut, move_last, HasDistinctIds}
+use Rattle.tree_core.proofs.Lists.{In, In-map, any_from_In}
 use Rattle.tree_core.proofs.LinkPaths.{parts}
 use Rattle.tree_core.proofs.Adding.{pull, perm_same}
 use Rattle.tree_core.proofs.EachLemmas.{nodes-each, has-each, cut-each, branch-each}

@@ -1,5 +1,5 @@
 -- Rows of which each can be read and has all its cells are the rows of what is read.
-use Rattle.std.proofs.Common.{◌≡◌, ℕ, zero, suc, ℤ, pos, List, [], ◌∷◌, length, map, true, false, Option, Some, None, is_none, filter_map, Ordering, Less, refl, sym, ap, ap₂, ◌∙◌, unwrap_or, IsTrue}
+use Rattle.std.proofs.Common.{◌≡◌, ℕ, zero, suc, ℤ, pos, List, [], ◌∷◌, length, map, false, Option, Some, None, is_none, filter_map, Ordering, Less, refl, sym, ap, ap₂, ◌∙◌, unwrap_or, IsTrue}
 use Rattle.std.specs.Prelude.{option_map}
 use Rattle.std.specs.List.{AllByRecursion, cons_option}
 use Rattle.std.specs.Ordering.{int_cmp}

@@ -1,6 +1,6 @@
 //! The forest of a file's rows.
 ghost use Rattle.std.specs.Prelude.{◌≡◌, ◌≤◌, ◌<◌, ◌++◌, ◌∷◌, ℕ, [], if◌then◌else◌};
-ghost use Rattle.std.specs.Prelude.{IfOk, OnOk, None, Option, length, map, nat_eq, slice_get};
+ghost use Rattle.std.specs.Prelude.{IfOk, OnOk, None, Option, length, map, nat_eq};
 ghost use Rattle.std.specs.List.{All};
 ghost use Rattle.std.specs.Option.{option_eq};
 ghost use Rattle.catalogue_core.specs.Merging.{numbered_from};

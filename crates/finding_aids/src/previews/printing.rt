@@ -1,5 +1,5 @@
 //! The finding aids of a file's trees.
-ghost use Rattle.std.specs.Prelude.{◌≡◌, ◌≤◌, ◌+◌, ◌++◌, ◌∷◌, []};
+ghost use Rattle.std.specs.Prelude.{◌≡◌, ◌≤◌, ◌+◌, ◌++◌, []};
 ghost use Rattle.std.specs.Prelude.{IfOk, OnOk, List, map, option_copied, unwrap_or};
 ghost use Rattle.isad_core.specs.Limits.{most_deep};
 ghost use Rattle.isad_core.specs.Printed.{aid, unit_lines};

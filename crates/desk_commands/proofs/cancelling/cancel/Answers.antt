@@ -1,12 +1,9 @@
-use Rattle.std.proofs.Common.{◌≡◌, true, false, not, nat_eq, Option, None, Some, Err, refl, sym, ap, subst, ◌∙◌}
-use Rattle.std.specs.Prelude.{IfSome, ⊤}
+use Rattle.std.proofs.Common.{◌≡◌, true, false, nat_eq, Option, Err, sym, subst, ◌∙◌}
 use Rattle.sqlite.specs.Held.{state}
-use Rattle.isad_core.specs.Limits.{IsNumber}
 use Rattle.desk_core.specs.declared.refusal.Refusal.TheVariants.{OrderNotWaiting, UnknownOrder}
 use Rattle.desk_store.specs.Orders.{IsThere, order_with, state_number}
 use Rattle.desk_store.specs.declared.orders.PlacedOrder.{PlacedOrder}
 use Rattle.office_core.specs.declared.command.Command.TheVariants as command
-use Rattle.office_core.specs.State.{waits}
 use Rattle.office_rows.specs.Reading.{tables}
 use Rattle.office_rows.proofs.LegibleRows.{desk_legible}
 use Rattle.office_tables.proofs.CallEnds.{same_fault}

@@ -1,4 +1,4 @@
-use Rattle.std.proofs.Common.{◌≡◌, Option, None, Some, Err, sym, ap, subst, ◌∙◌}
+use Rattle.std.proofs.Common.{Option, Err, ap, subst, ◌∙◌}
 use Rattle.std.specs.Prelude.{List, slice_get}
 use Rattle.sqlite.specs.Held.{state}
 use Rattle.desk_core.specs.declared.refusal.Refusal.TheVariants.{UnknownContainer}

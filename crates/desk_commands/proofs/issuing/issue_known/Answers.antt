@@ -1,18 +1,9 @@
-use Rattle.std.proofs.Common.{◌≡◌, None, Some, Err, sym, ap, subst, ◌∙◌}
-use Rattle.std.specs.Prelude.{Option, option_map}
+use Rattle.std.proofs.Common.{Err, sym, ap, subst, ◌∙◌}
+use Rattle.std.specs.Prelude.{option_map}
 use Rattle.sqlite.specs.Effect.{Database}
 use Rattle.sqlite.specs.Held.{state}
-use Rattle.sqlite.specs.State.{HasCleanDisk}
-use Rattle.desk_core.specs.Checks.{issue_checks}
-use Rattle.desk_core.specs.Decisions.{issue_facts}
-use Rattle.desk_core.specs.Refusals.{first_that_holds}
-use Rattle.desk_core.specs.declared.reader.Limits.{Limits}
-use Rattle.desk_core.specs.declared.reader.Reader.{Reader as Sitter}
 use Rattle.desk_store.specs.declared.cards.ReaderCard.{ReaderCard}
 use Rattle.desk_store.specs.declared.orders.WaitingOrder.{WaitingOrder}
-use Rattle.office_core.specs.Rules.{refusal}
-use Rattle.office_core.specs.SoundOffice.{IsSoundOffice}
-use Rattle.office_core.specs.State.{State}
 use Rattle.office_core.specs.declared.command.Command.TheVariants as command
 use Rattle.office_rows.specs.Reading.{tables}
 use Rattle.office_rows.proofs.LegibleRows.{desk_legible}
@@ -20,12 +11,10 @@ use Rattle.office_tables.proofs.CallEnds.{same_fault}
 use Rattle.office_tables.proofs.Calls.{cut_then, early, looks_then, office_of, still}
 use Rattle.office_tables.proofs.Causes.{cause_then, still_unlimited}
 use Rattle.shown_office.specs.Shown.{ShowsState}
-use Rattle.shown_office.proofs.CardsShown.{sitter_shown}
 use Rattle.shown_office.proofs.CommandSteps.{refuses}
 use Rattle.shown_office.proofs.Doings.{does_after, does_not, does_refuse}
 use Rattle.shown_office.proofs.Judged.{judged_now}
-use Rattle.desk_commands.specs.Lending.{asked_for}
-use Rattle.desk_commands.proofs.Issued.{agrees, decided_as, first_order}
+use Rattle.desk_commands.proofs.Issued.{decided_as, first_order}
 use Rattle.desk_commands.proofs.issuing.issue_known.Goals as goal
 
 pub reader-requires : goal.reader-requires

@@ -1,4 +1,4 @@
-use Rattle.std.proofs.Common.{◌<◌, ◌^◌, refl, arith}
+use Rattle.std.proofs.Common.{refl, arith}
 use Rattle.sqlite.specs.Held.{state}
 use Rattle.office_core.specs.declared.command.Command.TheVariants as command
 use Rattle.office_rows.specs.Reading.{tables}

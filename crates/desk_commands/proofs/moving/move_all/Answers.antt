@@ -1,17 +1,17 @@
-use Rattle.std.proofs.Common.{ℕ, ◌+◌, ◌<◌, ◌^◌, List, ◌++◌, ◌∷◌, [], take, get_or, refl, sym, ap, subst, ◌∙◌, arith}
+use Rattle.std.proofs.Common.{ℕ, ◌<◌, ◌^◌, List, ◌∷◌, [], take, get_or, refl, sym, subst, arith}
 use Rattle.std.specs.List.{AllByRecursion}
 use Rattle.std.proofs.lemmas.List.{take_more, take_all}
 use Rattle.sqlite.specs.Held.{state}
 use Rattle.isad_core.specs.Limits.{IsNumber}
-use Rattle.desk_core.specs.DeskRows.{Desk, HoldingRow}
+use Rattle.desk_core.specs.DeskRows.{HoldingRow}
 use Rattle.desk_store.specs.Shows.{IsLegible, ShowsDesk, ShowsRoom}
 use Rattle.office_tables.specs.Schema as tables
 use Rattle.office_tables.specs.declared.fault.StoreFault.TheVariants as fault
-use Rattle.office_tables.proofs.CallEnds.{excused_then, makes_not, same_fault}
+use Rattle.office_tables.proofs.CallEnds.{makes_not, same_fault}
 use Rattle.office_tables.proofs.Calls.{cut_after, cut_then, early, goes_nowhere, goes_then, still_office}
 use Rattle.office_tables.proofs.Causes.{cause_then, still_unlimited}
 use Rattle.office_tables.proofs.Touching.{nothing_touched, touched_again}
-use Rattle.desk_commands.specs.Moving.{all_placed, with_all_placed}
+use Rattle.desk_commands.specs.Moving.{with_all_placed}
 use Rattle.desk_commands.proofs.MovedAll.{all_taken, each_of, legible_all, one_more_placed}
 use Rattle.desk_commands.proofs.moving.move_all.Goals as goal
 

@@ -1,7 +1,6 @@
-use Rattle.std.proofs.Common.{◌≡◌, true, false, Option, None, Some, Err, refl, sym, ap, subst, ◌∙◌}
-use Rattle.std.specs.Prelude.{IfSome, ⊤, is_some}
+use Rattle.std.proofs.Common.{Option, Err, sym, ap, subst, ◌∙◌}
+use Rattle.std.specs.Prelude.{is_some}
 use Rattle.sqlite.specs.Held.{state}
-use Rattle.isad_core.specs.Limits.{IsNumber}
 use Rattle.desk_core.specs.declared.refusal.Refusal.TheVariants.{NotIssued, UnknownContainer}
 use Rattle.desk_core.specs.declared.reader.Place.{Place}
 use Rattle.desk_store.specs.Stacks.{IsQueued, box_with}

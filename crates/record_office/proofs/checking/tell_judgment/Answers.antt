@@ -1,4 +1,4 @@
-use Rattle.std.proofs.Common.{◌∙◌, append_assoc, rules}
+use Rattle.std.proofs.Common.{rules}
 use Rattle.record_office.proofs.Judgments.{no_line, told_old, told_unsound}
 use Rattle.record_office.proofs.checking.tell_judgment.Goals as goal
 
