@@ -1,5 +1,4 @@
 //! Serves an office on a port of this machine.
-ghost use Rattle.std.specs.Prelude.{◌≡◌, Some, None};
 ghost use Rattle.office_core.specs.State.{State};
 ghost use Rattle.record_office.specs.Served.{AreSessions, Serves, sessions_of};
 
@@ -107,7 +106,8 @@ pub fn serve<M: Machine>(
     if connections == 0 {
         return true;
     }
-    for _connection in 1..connections {
+    let others = connections - 1;
+    for _connection in 0..others {
         if !serve_one(alloc, &listener, office) {
             return false;
         }
