@@ -187,7 +187,7 @@ def silent(program, port):
 
 def unread(program, port):
     """A client that asks for much and reads nothing."""
-    with Server(program, port, 2, 2000) as server:
+    with Server(program, port, 2, 500) as server:
         client = socket.socket()
         with client:
             client.setsockopt(socket.SOL_SOCKET, socket.SO_RCVBUF, 4096)
