@@ -4,7 +4,7 @@
 How many writes an answer takes (by strace, where that is there), how long 1,000 requests take on one connection, by Python and by
 curl; that an answer that closes reaches a client that has sent more than is read; that clients that send nothing, stop inside
 a message or read nothing are left after PATIENCE seconds, and what they began is not done; that nobody connects once the last
-connection is taken, nor to another address of this machine. It takes some 45 seconds, nearly all of them waiting, and ends with 1
+connection is taken, nor to another address of this machine. It takes some 60 seconds, nearly all of them waiting, and ends with 1
 where something is other than wanted."""
 import contextlib
 import os
@@ -194,7 +194,8 @@ def unread(program, port):
             client.connect((HERE, port))
             client.sendall(AID * 20)
             taken, _ = asked(server, "read nothing")
-            same(f"read nothing: left after {PATIENCE} seconds", PATIENCE - 1 < taken < PATIENCE + LATE, True)
+            # a write that moved some bytes in its time is followed by another
+            same(f"read nothing: left after {PATIENCE} seconds or more", PATIENCE - 1 < taken < 3 * PATIENCE + LATE, True)
         server.ends_well("the end after a client that reads nothing")
 
 
