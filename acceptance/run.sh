@@ -7,7 +7,8 @@
 # fifty times in one session. sessions.py: random sessions beside a plain office. ../mutation/faults/init.py: `init` without one of
 # its allocations. migrating.py: a store of version 1 of 2,000 units, made by sqlite3, is migrated and compared. stopped.py:
 # commands that are stopped after each change of their files. failing.py: a disk that fails at each of these changes, under a
-# program that goes on. killed.py: kill -9 in the middle of imports and sessions.
+# program that goes on. killed.py: kill -9 in the middle of imports and sessions. sockets.py: the sockets of `serve`: writes, time-outs,
+# answers that close, the port.
 # It ends with 1 where something is other than wanted. What wants curl, sqlite3 or a C compiler is left out, and said,
 # where that is missing and cannot be installed; in CI that too is wrong.
 set -euo pipefail
@@ -297,4 +298,5 @@ if has sqlite3 && has cc gcc; then
     timeout 600 python3 "$here/failing.py" "$program" "$fast" broken:all once:none full:odd || wrong=1
 fi
 timeout 600 python3 "$here/killed.py" "$program" "$fast" || wrong=1
+timeout 300 python3 "$here/sockets.py" "$program" || wrong=1
 exit "$wrong"

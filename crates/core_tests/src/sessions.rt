@@ -1,9 +1,10 @@
 //! Sessions over readers and writers that give and take in pieces, fail, or are interrupted.
 
-use crate::streams::{Again, Counter, Halves, Narrow, Pieces, Then};
+use crate::streams::{Again, Counter, Halves, Long, Narrow, Pieces, Telling, Then, Waiting};
 use http_desk::ended::{Calls, Ended};
 use http_desk::session::{talk, talk_watched};
 use std::alloc::Global;
+use std::cell::Cell;
 use std::process::Abort;
 use std::test::Fail;
 
@@ -17,6 +18,13 @@ const FONDS: &[u8] =
 
 const REGISTER: &[u8] =
     b"POST /desk/register HTTP/1.1\r\nHost: x\r\nContent-Length: 35\r\n\r\n{\"name\":\"Ann\",\"until\":\"2024-12-31\"}";
+
+const WAITS: &[u8] =
+    b"POST /desk/register HTTP/1.1\r\nHost: x\r\nContent-Length: 35\r\nExpect: 100-continue\r\n\r\n";
+
+const ANN: &[u8] = b"{\"name\":\"Ann\",\"until\":\"2024-12-31\"}";
+
+const LEAVE: &[u8] = b"HTTP/1.1 100 Continue\r\n\r\n";
 
 fn unseen() -> Calls {
     Calls {
@@ -121,6 +129,78 @@ fn calls_without_end(rt: HostRuntime) -> Result<(), Fail> {
         assert_eq!(rt; ended, Ended::Bound);
         assert_eq!(rt; writer.calls, 136);
         assert_eq!(rt; writer.held.len(), room);
+    }
+    Ok(())
+}
+
+// Leave to send a body is flushed before any byte of the body is read; a flush that is interrupted is tried again.
+#[test]
+fn leave_before_the_body(rt: HostRuntime) -> Result<(), Fail> {
+    for shy in 0..15u32 {
+        let flushed = Cell::new(0);
+        let mut desk = Counter { tickets: 0 };
+        let mut reader = Waiting {
+            head: WAITS,
+            body: ANN,
+            flushed: &flushed,
+            leave: LEAVE.len(),
+            early: false,
+        };
+        let mut writer = Telling {
+            held: Vec::new(rt.alloc()),
+            flushed: &flushed,
+            shy,
+            writes: 0,
+        };
+        let mut calls = unseen();
+        let ended = talk_watched(rt.alloc(), &mut reader, &mut writer, &mut desk, &mut calls);
+        assert_eq!(rt; ended, Ended::End);
+        assert!(rt; !reader.early);
+        assert!(rt; writer.held.starts_with(LEAVE));
+        assert!(rt; writer.held.ends_with(b"\r\n\r\n{\"ticket\":1}"));
+        assert_eq!(rt; flushed.get(), writer.held.len());
+        assert_eq!(rt; calls.interrupted, shy > 0);
+        assert_eq!(rt; writer.writes, 2);
+    }
+    Ok(())
+}
+
+// The calls of leave to send a body are bounded too: its 25 bytes and 16 more, whatever of it was taken.
+#[test]
+fn leave_without_end(rt: HostRuntime) -> Result<(), Fail> {
+    for room in [0usize, 10, 25] {
+        let mut desk = Counter { tickets: 0 };
+        let mut reader = Pieces::new(WAITS, 1000, Then::Ends);
+        let mut writer = Narrow::new(rt.alloc(), room, 1, Then::Waits);
+        writer.flushes_wait = true;
+        let ended = talk(rt.alloc(), &mut reader, &mut writer, &mut desk);
+        assert_eq!(rt; ended, Ended::Bound);
+        assert_eq!(rt; writer.calls, 41);
+        assert_eq!(rt; writer.held.len(), room);
+        assert_eq!(rt; desk.tickets, 0);
+    }
+    Ok(())
+}
+
+// An answer that fits into a lot with its head is one write, and any other two.
+#[test]
+fn few_writes(rt: HostRuntime) -> Result<(), Fail> {
+    for size in [0usize, 40, 999, 1900, 1959, 1960, 2048, 5000, 300_000] {
+        let flushed = Cell::new(0);
+        let mut desk = Long { size };
+        let mut reader = Pieces::new(ONE, 1000, Then::Ends);
+        let mut writer = Telling {
+            held: Vec::new(rt.alloc()),
+            flushed: &flushed,
+            shy: 0,
+            writes: 0,
+        };
+        let ended = talk(rt.alloc(), &mut reader, &mut writer, &mut desk);
+        assert_eq!(rt; ended, Ended::End);
+        assert!(rt; writer.held.len() > size);
+        let wanted = if writer.held.len() <= 2048 { 1 } else { 2 };
+        assert_eq!(rt; writer.writes, wanted, "{size}");
+        assert_eq!(rt; flushed.get(), writer.held.len());
     }
     Ok(())
 }

@@ -5,6 +5,7 @@ ghost use Rattle.std.specs.Prelude.{◌<◌};
 use isad_core::List;
 use office_core::{Answer, Busy, Command, Done, Machine, Query, Reply};
 use std::alloc::Global;
+use std::cell::Cell;
 use std::io::{self, ErrorKind, Read, Write};
 
 /// Tells one fonds, and gives tickets.
@@ -119,6 +120,7 @@ pub struct Narrow {
     pub then: Then,
     pub calls: u64,
     pub flushes: u64,
+    pub flushes_wait: bool,
 }
 
 impl Narrow {
@@ -130,6 +132,7 @@ impl Narrow {
             then,
             calls: 0,
             flushes: 0,
+            flushes_wait: false,
         }
     }
 }
@@ -153,6 +156,9 @@ impl Write for Narrow {
     fn flush(&mut self) -> io::Result<()> {
         self.calls = self.calls.wrapping_add(1);
         self.flushes = self.flushes.wrapping_add(1);
+        if self.flushes_wait {
+            return Err(io::Error::from(ErrorKind::Interrupted));
+        }
         Ok(())
     }
 }
@@ -202,6 +208,84 @@ impl Write for Fixed {
 
     fn flush(&mut self) -> io::Result<()> {
         Ok(())
+    }
+}
+
+/// Gives a head, and then a body. It notes a body that is asked for before so many bytes were flushed.
+#[derive(Drop)]
+pub struct Waiting<'a> {
+    pub head: &'a [u8],
+    pub body: &'a [u8],
+    pub flushed: &'a Cell<usize>,
+    pub leave: usize,
+    pub early: bool,
+}
+
+impl Read for Waiting<'_> {
+    fn read(&mut self, buf: &mut [u8]) -> io::Result<usize> {
+        if self.head.is_empty() {
+            self.early = self.early || self.flushed.get() < self.leave;
+            self.head = self.body;
+            self.body = &[];
+        }
+        let n = self.head.len().min(buf.len());
+        for i in 0..n {
+            buf[i] = self.head[i];
+        }
+        self.head = &self.head[n..];
+        Ok(n)
+    }
+}
+
+/// Tells how many bytes were flushed. Its first flushes are interrupted.
+#[derive(Drop)]
+pub struct Telling<'a> {
+    pub held: Vec<u8>,
+    pub flushed: &'a Cell<usize>,
+    pub shy: u32,
+    pub writes: u64,
+}
+
+impl Write for Telling<'_> {
+    fn write(&mut self, buf: &[u8]) -> io::Result<usize> {
+        self.writes = self.writes.wrapping_add(1);
+        self.held.extend_from_slice(buf)?;
+        Ok(buf.len())
+    }
+
+    fn flush(&mut self) -> io::Result<()> {
+        if self.shy > 0 {
+            self.shy -= 1;
+            return Err(io::Error::from(ErrorKind::Interrupted));
+        }
+        self.flushed.set(self.held.len());
+        Ok(())
+    }
+}
+
+/// Tells a text of so many bytes.
+#[derive(Drop)]
+pub struct Long {
+    pub size: usize,
+}
+
+impl Machine for Long {
+    ghost shows = { λ office s. ⊥ };
+
+    ghost is_intact = { λ office. Prim.Unit {0} };
+
+    fn apply(&mut self, _alloc: Global, _command: Command) -> Result<Reply, Busy> {
+        Err(Busy::Memory)
+    }
+
+    fn ask(&mut self, alloc: Global, _query: Query) -> Result<Answer, Busy> {
+        let mut text = Vec::new(alloc);
+        for _byte in 0..self.size {
+            if text.push(b'x').is_err() {
+                return Err(Busy::Memory);
+            }
+        }
+        Ok(Answer::Text(List(text)))
     }
 }
 

@@ -115,7 +115,7 @@ fn serve_on_port<M: Machine, W: Write>(
     ensures intact { M.is_intact office.new → M.is_intact office.old }
 {
     let listener = listen(rt, alloc, port, out)?;
-    if serve(alloc, &listener, connections, office) {
+    if serve(alloc, listener, connections, office) {
         Ok(())
     } else {
         Err(Fault::Net)

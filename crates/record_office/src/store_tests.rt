@@ -263,7 +263,7 @@ fn a_connection_is_served(rt: HostRuntime) -> Result<(), Fail> {
     let mut office = Office::<SpanPlaces, MemStore>::create(conn, settings(alloc)?)
         .ok()
         .ok_or("no office")?;
-    let is_served = serve(alloc, &listener, 1, &mut office);
+    let is_served = serve(alloc, listener, 1, &mut office);
     let _ = office.into_connection();
     assert!(rt; is_served);
     let mut read = String::new(alloc);
