@@ -17,8 +17,8 @@ use Rattle.catalogue_core.proofs.GoodChanges.{each_good}
 use Rattle.catalogue_core.proofs.ImportedAgain.{all_each}
 use Rattle.catalogue_core.proofs.KeptUnits.{closure_keeps}
 use Rattle.catalogue_core.proofs.LegibleMerges.{each_legible}
-use Rattle.catalogue_rows.specs.Shows.{Shows}
-use Rattle.catalogue_rows.specs.declared.office.OfficeRow.{OfficeRow}
+use Rattle.catalogue_statements.specs.Represents.{Represents}
+use Rattle.catalogue_statements.specs.declared.office.OfficeRow.{OfficeRow}
 use Rattle.office_core.specs.Rules.{after}
 use Rattle.office_core.specs.SoundOffice.{IsSoundOffice}
 use Rattle.office_core.specs.State.{State}
@@ -26,13 +26,13 @@ use Rattle.office_core.specs.declared.command.Command.TheVariants as command
 use Rattle.office_core.specs.declared.done.Done.TheVariants as done
 use Rattle.office_tables.specs.Schema as tables
 use Rattle.office_tables.specs.Step.{OnlyTouches}
-use Rattle.shown_office.specs.Gate.{OthersAreOpen}
-use Rattle.shown_office.specs.Judging.{CanBeJudged}
-use Rattle.shown_office.specs.Shown.{office_of}
-use Rattle.shown_office.proofs.Changed.{shown_with}
-use Rattle.shown_office.proofs.Judged.{distinct_ids, judged_with}
-use Rattle.shown_office.proofs.OpenElsewhere.{none_left, others_open, stays_changed}
-use Rattle.shown_office.proofs.Passing.{IsChange}
+use Rattle.refinement.specs.Gate.{OthersAreOpen}
+use Rattle.refinement.specs.Judging.{CanBeJudged}
+use Rattle.refinement.specs.Represents.{office_of}
+use Rattle.refinement.proofs.Changed.{shown_with}
+use Rattle.refinement.proofs.Judged.{distinct_ids, judged_with}
+use Rattle.refinement.proofs.OpenElsewhere.{none_left, others_open, stays_changed}
+use Rattle.refinement.proofs.Passing.{IsChange}
 
 module _ (u : ℕ) (until : Option ℤ) where
   abbrev change : Unit → Unit
@@ -53,10 +53,10 @@ module _ (u : ℕ) (until : Option ℤ) where
       (legible_after s sound)
 
   pub closes : (places : Trees → Forest ℕ → Type 0) (version : Version) (old new : store.State) (today : ℤ) → IsSomeDay until
-      → (HasCleanDisk new → (o : OfficeRow) (k : Catalogue) → Shows places version old.now o k → ⊤ → Shows places version new.now o (with_closure u until k)) → (HasCleanDisk new → OnlyTouches (tables.unit.tree ∷ []) old.now new.now)
+      → (HasCleanDisk new → (o : OfficeRow) (k : Catalogue) → Represents places version old.now o k → ⊤ → Represents places version new.now o (with_closure u until k)) → (HasCleanDisk new → OnlyTouches (tables.unit.tree ∷ []) old.now new.now)
       → IsChange places version (λ s. (today ≡ s.day) × (has_unit s.catalogue.forest u ≡ true)) (command.SetClosure u until) today (done.SetClosure u) old new
   closes places version old new today day makes only = record {
-    shows = λ clean s sound so it.
+    represents = λ clean s sound so it.
         shown_with s (each change s.catalogue.forest) places version old.now new.now (tables.unit.tree ∷ []) refl (only clean) it (legible_after s sound)
         (makes clean (office_of s) s.catalogue it.catalogue tt);
     judged = λ s sound so. judged_after s sound day;

@@ -14,7 +14,7 @@ use Rattle.tree_core.proofs.EachLemmas.{branch-each}
 use Rattle.desk_core.specs.DeskRows.{Desk, PermitRow}
 use Rattle.desk_store.specs.Holdings.{issued_of}
 use Rattle.desk_store.specs.declared.holdings.Loan.{Loan}
-use Rattle.desk_store.specs.Shows.{IsNumberOf, ShowsDesk}
+use Rattle.desk_store.specs.Represents.{IsNumberOf, RepresentsDesk}
 use Rattle.catalogue_core.specs.Finding.{has_unit}
 use Rattle.catalogue_core.specs.GoodCatalogues.{IsSomeDay}
 use Rattle.catalogue_core.specs.LegibleCatalogues.{HasLegibleTexts, IsLegibleCatalogue}
@@ -25,26 +25,26 @@ use Rattle.catalogue_core.proofs.EachAfter.{all_cut}
 use Rattle.catalogue_core.proofs.EachOf.{all_filtered}
 use Rattle.catalogue_core.proofs.GoodChanges.{cut_good}
 use Rattle.catalogue_core.proofs.UnitsAfter.{each_there}
-use Rattle.catalogue_rows.specs.Shows.{Shows}
-use Rattle.catalogue_rows.specs.declared.office.OfficeRow.{OfficeRow}
+use Rattle.catalogue_statements.specs.Represents.{Represents}
+use Rattle.catalogue_statements.specs.declared.office.OfficeRow.{OfficeRow}
 use Rattle.catalogue_store.specs.Removing.{HasNoBranch, tables_of_units}
 use Rattle.office_core.specs.Rules.{removed}
 use Rattle.office_core.specs.SoundOffice.{IsSoundOffice}
 use Rattle.office_core.specs.State.{Permit, State, is_permitted}
 use Rattle.office_core.specs.declared.command.Command.TheVariants as command
 use Rattle.office_core.specs.declared.done.Done.TheVariants as done
-use Rattle.office_rows.specs.DeskShown.{permit_rows}
-use Rattle.office_rows.specs.Reading.{tables}
-use Rattle.office_rows.proofs.LegibleRows.{desk_legible}
-use Rattle.shown_office.specs.Gate.{AreAsked, AreEnough}
-use Rattle.shown_office.specs.Judging.{CanBeJudged}
-use Rattle.shown_office.specs.Shown.{office_of}
-use Rattle.shown_office.proofs.Gates.{enough_of}
-use Rattle.shown_office.proofs.Judged.{distinct_ids, judged_with}
-use Rattle.shown_office.proofs.OpenByPermits.{IsAlike, permitted_left}
-use Rattle.shown_office.proofs.OpenElsewhere.{stays_permitted, still_open}
-use Rattle.shown_office.proofs.Passing.{IsChange}
-use Rattle.shown_office.proofs.PermitFrames.{desk_with_permits}
+use Rattle.state_encoding.specs.DeskShown.{permit_rows}
+use Rattle.state_encoding.specs.Reading.{tables}
+use Rattle.state_encoding.proofs.LegibleRows.{desk_legible}
+use Rattle.refinement.specs.Gate.{AreAsked, AreEnough}
+use Rattle.refinement.specs.Judging.{CanBeJudged}
+use Rattle.refinement.specs.Represents.{office_of}
+use Rattle.refinement.proofs.Gates.{enough_of}
+use Rattle.refinement.proofs.Judged.{distinct_ids, judged_with}
+use Rattle.refinement.proofs.OpenByPermits.{IsAlike, permitted_left}
+use Rattle.refinement.proofs.OpenElsewhere.{stays_permitted, still_open}
+use Rattle.refinement.proofs.Passing.{IsChange}
+use Rattle.refinement.proofs.PermitFrames.{desk_with_permits}
 use Rattle.catalogue_commands.proofs.PermitsLeft.{permits_left}
 
 module _ (u : ℕ) where
@@ -81,18 +81,18 @@ module _ (u : ℕ) where
       }
 
   pub removes : (version : Version) (loans : List Loan) (places : Trees → Forest ℕ → Type 0) (old new : store.State) (today : ℤ) (n : ℕ)
-      → (HasCleanDisk new → (o : OfficeRow) (k : Catalogue) → Shows places version old.now o k → MayCut has_id u k.forest → HasNoBranch places version u o k old.now new.now)
+      → (HasCleanDisk new → (o : OfficeRow) (k : Catalogue) → Represents places version old.now o k → MayCut has_id u k.forest → HasNoBranch places version u o k old.now new.now)
       → (HasCleanDisk new → (f : Forest ℕ) → places old.now.trees f → n ≡ length (branch (nat_eq u) f))
       → IsChange places version (λ s. (today ≡ s.day) × (has_unit s.catalogue.forest u ≡ true) × AreAsked u s (issued_of (tables version s).desk) loans) (command.Remove u) today (done.Remove n) old new
   removes version loans places old new today n takes count = record {
-    shows = λ clean s sound so it.
+    represents = λ clean s sound so it.
         let left = takes clean (office_of s) s.catalogue it.catalogue so.1 in
         let d : Desk = (tables version s).desk in
         let desk = desk_with_permits old.now new.now tables_of_units left.only d (filter (gone s) (permit_rows s)) refl (left.permits (permit_rows s) it.desk.permits)
         (all_filtered (λ (p : PermitRow). IsNumberOf d.readers p.ticket) (gone s) (permit_rows s) it.desk.permit_tickets) it.desk in
         record {
-          catalogue = left.shows;
-          desk = subst (λ (permits : List PermitRow). ShowsDesk new.now.trees (record d { permits = permits })) (sym (rows_are s sound so.1)) desk;
+          catalogue = left.represents;
+          desk = subst (λ (permits : List PermitRow). RepresentsDesk new.now.trees (record d { permits = permits })) (sym (rows_are s sound so.1)) desk;
           texts = record { country = it.texts.country; repo = it.texts.repo; catalogue = legible_after s sound; readers = it.texts.readers };
         };
     judged = λ s sound so. judged_after s sound so.1;

@@ -1,12 +1,12 @@
 //! The commands that change the catalogue of an office, over its tables, each within a transaction.
 #![tactic(auto)]
 
-mod closing;
-mod moving;
-mod removing;
-mod statuses;
+mod closure;
+mod removal;
+mod status;
+mod unit_move;
 
-pub use closing::change_closure;
-pub use moving::move_to;
-pub use removing::remove_unit;
-pub use statuses::change_status;
+pub use closure::change_closure;
+pub use removal::remove_unit;
+pub use status::change_status;
+pub use unit_move::move_to;

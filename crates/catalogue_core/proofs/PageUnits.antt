@@ -8,7 +8,7 @@ use Rattle.isad_core.specs.Texts.{Bytes}
 use Rattle.isad_core.specs.Codes.{code_of}
 use Rattle.isad_core.specs.Values.{line_elements, text_of}
 use Rattle.isad_core.specs.declared.element.Element.{Element}
-use Rattle.isad_core.specs.declared.shown.Page.{Page}
+use Rattle.isad_core.specs.declared.display.Page.{Page}
 use Rattle.isad_core.specs.declared.values.BoxKey.{BoxKey}
 use Rattle.isad_core.specs.declared.values.Values.{Values}
 use Rattle.tree_core.specs.Forest.{Forest, Empty, Node, has, path}

@@ -5,9 +5,9 @@ use Rattle.std.specs.List.{flat_map, AllByRecursion}
 use Rattle.isad_core.specs.Texts.{Bytes}
 use Rattle.isad_core.specs.Values.{line_elements, own_lines, title}
 use Rattle.isad_core.specs.Codes.{code_of}
-use Rattle.isad_core.specs.declared.shown.Shown.{Shown}
-use Rattle.isad_core.specs.declared.shown.Page.{Page}
-use Rattle.isad_core.specs.declared.shown.Body.TheVariants.{Full}
+use Rattle.isad_core.specs.declared.display.Shown.{Shown}
+use Rattle.isad_core.specs.declared.display.Page.{Page}
+use Rattle.isad_core.specs.declared.display.Body.TheVariants.{Full}
 use Rattle.isad_core.specs.declared.values.BoxKey.{BoxKey}
 use Rattle.tree_core.specs.Forest.{Forest, Empty, Node, nodes, has, path, tree}
 use Rattle.catalogue_core.proofs.EachOf.{all_append, all_split}

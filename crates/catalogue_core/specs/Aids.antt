@@ -6,8 +6,8 @@ use Rattle.isad_core.specs.Codes.{code_of}
 use Rattle.isad_core.specs.Values.{identifier, own_lines, title}
 use Rattle.isad_core.specs.declared.values.BoxKey.{BoxKey}
 use Rattle.isad_core.specs.declared.values.Values.{Values}
-use Rattle.isad_core.specs.declared.shown.Shown.{Shown}
-use Rattle.isad_core.specs.declared.shown.Body.TheVariants.{Full, Closed}
+use Rattle.isad_core.specs.declared.display.Shown.{Shown}
+use Rattle.isad_core.specs.declared.display.Body.TheVariants.{Full, Closed}
 use Rattle.tree_core.specs.Forest.{Forest, Empty, Node}
 use Rattle.catalogue_core.specs.Merging.{box_number}
 use Rattle.catalogue_core.specs.Publishing.{PublicUnit, Told, Stub}

@@ -7,8 +7,8 @@ use Rattle.isad_core.specs.Elements.{is_found_above}
 use Rattle.isad_core.specs.Values.{line_elements, text_of}
 use Rattle.isad_core.specs.Printed.{aid, numbered_line}
 use Rattle.isad_core.specs.declared.element.Element.{Element}
-use Rattle.isad_core.specs.declared.shown.Page.{Page}
-use Rattle.isad_core.specs.declared.shown.Shown.{Shown}
+use Rattle.isad_core.specs.declared.display.Page.{Page}
+use Rattle.isad_core.specs.declared.display.Shown.{Shown}
 use Rattle.isad_core.specs.declared.values.BoxKey.{BoxKey}
 use Rattle.isad_core.specs.declared.values.Values.{Values}
 use Rattle.tree_core.specs.Forest.{Forest, Empty, Node, path, tree}

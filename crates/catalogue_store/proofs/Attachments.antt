@@ -22,8 +22,8 @@ use Rattle.catalogue_core.specs.Marking.{names}
 use Rattle.catalogue_store.specs.Attaching.{AreAttached}
 use Rattle.catalogue_core.specs.Merging.{Catalogue, box_number}
 use Rattle.office_tables.specs.Order.{Rises}
-use Rattle.catalogue_rows.specs.Rows.{HousingRow, by_housing, by_number, counted_from}
-use Rattle.catalogue_rows.specs.Shows.{ShowsUnits, ShowsHousings, housing_cells, housings_of}
+use Rattle.catalogue_statements.specs.Rows.{HousingRow, by_housing, by_number, counted_from}
+use Rattle.catalogue_statements.specs.Represents.{RepresentsUnits, RepresentsHousings, housing_cells, housings_of}
 use Rattle.catalogue_core.specs.Units.{Unit, has_id}
 use Rattle.office_tables.proofs.Rows.{had, has_map, map_has}
 use Rattle.office_tables.proofs.Sorted.{same_rising}
@@ -99,7 +99,7 @@ is_counted n [] b h = absurd h
 is_counted n (c ∷ boxes) b (inl e) = (n, inl (ap (λ b. (let y : ℕ × BoxKey = (n, b) in y)) e))
 is_counted n (c ∷ boxes) b (inr h) = let it = is_counted (n + 1) boxes b h in (it.0, inr it.1)
 
-module _ (db : Trees) (c : Catalogue) (units : ShowsUnits db c.forest) (at : ShowsHousings db c.forest c.containers) (container : ℕ) where
+module _ (db : Trees) (c : Catalogue) (units : RepresentsUnits db c.forest) (at : RepresentsHousings db c.forest c.containers) (container : ℕ) where
   rows : List HousingRow
   rows = filter (λ (h : HousingRow). nat_eq container h.container) at.housings
 

@@ -9,16 +9,16 @@ use Rattle.tree_core.specs.Forest.{Forest, Empty}
 use Rattle.office_tables.specs.Creation.{HasMade}
 use Rattle.tree_core.specs.Versions.{Version}
 use Rattle.office_tables.specs.Schema.{schema, desk_tables}
-use Rattle.catalogue_rows.specs.Rows.{office_row, element_row, housing_row}
-use Rattle.catalogue_rows.specs.Shows.{Shows}
+use Rattle.catalogue_statements.specs.Rows.{office_row, element_row, housing_row}
+use Rattle.catalogue_statements.specs.Represents.{Represents}
 use Rattle.office_tables.specs.Step.{PutsRow}
 use Rattle.office_tables.proofs.numbered.OwnNumbers.{none_there}
-use Rattle.catalogue_rows.specs.declared.office.OfficeRow.{OfficeRow}
+use Rattle.catalogue_statements.specs.declared.office.OfficeRow.{OfficeRow}
 
-pub shows_beginning : (v : Version) (shows : Trees → Forest ℕ → Type 0) → ((old new : Trees) (f : Forest ℕ) → new tables.link.tree ≡ old tables.link.tree → shows old f → shows new f)
-    → (start mid new : Database) (o : OfficeRow) → HasMade desk_tables (schema v) start mid → new.schema ≡ mid.schema → PutsRow tables.office.tree (office_row v o) mid new → shows mid.trees Empty
-    → Shows shows v new o (record { forest = Empty; containers = []; next = o.next_unit })
-shows_beginning v shows same start mid new o made schema_is puts placed =
+pub shows_beginning : (v : Version) (represents : Trees → Forest ℕ → Type 0) → ((old new : Trees) (f : Forest ℕ) → new tables.link.tree ≡ old tables.link.tree → represents old f → represents new f)
+    → (start mid new : Database) (o : OfficeRow) → HasMade desk_tables (schema v) start mid → new.schema ≡ mid.schema → PutsRow tables.office.tree (office_row v o) mid new → represents mid.trees Empty
+    → Represents represents v new o (record { forest = Empty; containers = []; next = o.next_unit })
+shows_beginning v represents same start mid new o made schema_is puts placed =
     let none = made.empty in
     let kept = puts.only in
     record {

@@ -8,9 +8,9 @@ use Rattle.sqlite_rules.proofs.ListLemmas.{has_filtered, has_last}
 use Rattle.isad_core.specs.declared.values.BoxKey.{BoxKey}
 use Rattle.isad_core.specs.Boxes.{is_same}
 use Rattle.catalogue_core.specs.Merging.{number_in, box_number}
-use Rattle.catalogue_rows.specs.Rows.{counted_from}
+use Rattle.catalogue_statements.specs.Rows.{counted_from}
 use Rattle.catalogue_core.proofs.Imported.{same_box}
-use Rattle.catalogue_rows.proofs.Untold.{one_less}
+use Rattle.catalogue_statements.proofs.Untold.{one_less}
 use Rattle.office_tables.proofs.Rows.{had, map_has}
 
 from_its_number : (n : ℕ) (cs : List BoxKey) → (x : ℕ × BoxKey) → Has (counted_from (n + 1) cs) x → n < x.0

@@ -13,15 +13,15 @@ use Rattle.tree_core.specs.Versions.{Version}
 use Rattle.catalogue_core.specs.Describing.{KnowsItsContainers}
 use Rattle.catalogue_core.specs.Merging.{Catalogue}
 use Rattle.catalogue_core.specs.Units.{Unit, has_id}
-use Rattle.office_tables.specs.Calls.{Makes}
+use Rattle.office_tables.specs.Calls.{Updates}
 use Rattle.office_tables.specs.Step.{OnlyTouches}
 use Rattle.office_tables.specs.declared.fault.StoreFault.{StoreFault}
 use Rattle.office_tables.proofs.Calls.{on_ok_both}
-use Rattle.catalogue_rows.specs.Adding.{IsDescribed}
-use Rattle.catalogue_rows.specs.Rows.{ElementRow, HousingRow, office_row, unit_row}
-use Rattle.catalogue_rows.specs.Shows.{Shows, ShowsCatalogue}
-use Rattle.catalogue_rows.specs.declared.office.OfficeRow.{OfficeRow}
-use Rattle.catalogue_rows.proofs.NewUnits.{shows_added}
+use Rattle.catalogue_statements.specs.Adding.{IsDescribed}
+use Rattle.catalogue_statements.specs.Rows.{ElementRow, HousingRow, office_row, unit_row}
+use Rattle.catalogue_statements.specs.Represents.{Represents, RepresentsCatalogue}
+use Rattle.catalogue_statements.specs.declared.office.OfficeRow.{OfficeRow}
+use Rattle.catalogue_statements.proofs.NewUnits.{shows_added}
 use Rattle.catalogue_store.specs.Entering.{with_entered}
 use Rattle.catalogue_store.proofs.Telling.{same_described}
 
@@ -35,8 +35,8 @@ pub record HasEntered (old new : Database) (c : Catalogue) (u : Unit) (elements 
 
 -- Units, texts and containers are told whatever the office's row is: so they are told as they are beside a row that
 -- counts the unit.
-pub shows_entered : (v : Version) (old new : Database) (o : OfficeRow) (c : Catalogue) (parent : Option ℕ) (u : Unit) → (it : ShowsCatalogue v old o c) → has_place has_id parent c.forest ≡ true → KnowsItsContainers c
-    → HasEntered old new c u it.elements.elements it.housings.housings → ShowsCatalogue v new o (with_entered parent u c)
+pub shows_entered : (v : Version) (old new : Database) (o : OfficeRow) (c : Catalogue) (parent : Option ℕ) (u : Unit) → (it : RepresentsCatalogue v old o c) → has_place has_id parent c.forest ≡ true → KnowsItsContainers c
+    → HasEntered old new c u it.elements.elements it.housings.housings → RepresentsCatalogue v new o (with_entered parent u c)
 shows_entered v old new o c parent u it there knows wrote =
     let counted : Trees = λ tree. cond (nat_eq tree tables.office.tree) (office_row v (record o { next_unit = u.id + 1 }) ∷ []) (new.trees tree) in
     let beside : Database = record new { trees = counted } in
@@ -62,18 +62,18 @@ shows_entered v old new o c parent u it there knows wrote =
 pub makes_placed : {S X : Type 0} (g : store.Ghosts S) (places : Trees → Forest ℕ → Type 0) → ((old new : Trees) (f : Forest ℕ) → new tables.link.tree ≡ old tables.link.tree → places old f → places new f)
     → (version : Version) (kept may : Catalogue → Type 0) (made : Catalogue → Catalogue) (touched : List ℕ) (before after : Held S) (r : Result X StoreFault) → list_any (nat_eq tables.link.tree) touched ≡ false
     → ((c : Catalogue) → each (λ (u : Unit). u.id) (made c).forest ≡ each (λ (u : Unit). u.id) c.forest)
-    → Makes g (ShowsCatalogue version) kept before after r may made touched → Makes g (Shows places version) kept before after r may made touched
+    → Updates g (RepresentsCatalogue version) kept before after r may made touched → Updates g (Represents places version) kept before after r may made touched
 makes_placed g places same version kept may made touched before after r apart stays it =
     let old = state g before in
     let new = state g after in
     record {
-      shows_made = λ clean o c shown allowed.
-          on_ok_both r (ShowsCatalogue version new.now o (made c)) (OnlyTouches touched old.now new.now) (Shows places version new.now o (made c))
+      represents_updated = λ clean o c shown allowed.
+          on_ok_both r (RepresentsCatalogue version new.now o (made c)) (OnlyTouches touched old.now new.now) (Represents places version new.now o (made c))
           (λ told only. record {
             catalogue = told;
             shown = subst (places new.now.trees) (sym (stays c)) (same old.now.trees new.now.trees (each (λ (u : Unit). u.id) c.forest) (only tables.link.tree refl apart) shown.shown);
           })
-          (it.shows_made clean o c shown.catalogue allowed) (it.only clean);
+          (it.represents_updated clean o c shown.catalogue allowed) (it.only clean);
       only = it.only;
       goes = it.goes;
       cut = it.cut;

@@ -15,10 +15,10 @@ use Rattle.tree_core.proofs.TopsLemmas.{tops-each, part_below-each}
 use Rattle.catalogue_core.proofs.EachOf.{all_split}
 use Rattle.catalogue_core.specs.Finding.{has_unit}
 use Rattle.catalogue_core.specs.Units.{Unit, has_id}
-use Rattle.catalogue_rows.specs.Shows.{ShowsUnits}
-use Rattle.catalogue_rows.specs.Standings.{standing_of}
-use Rattle.catalogue_rows.specs.declared.answer.Standing.{Standing}
-use Rattle.catalogue_rows.proofs.FoundUnits.{found_one}
+use Rattle.catalogue_statements.specs.Represents.{RepresentsUnits}
+use Rattle.catalogue_statements.specs.Standings.{standing_of}
+use Rattle.catalogue_statements.specs.declared.row_types.Standing.{Standing}
+use Rattle.catalogue_statements.proofs.FoundUnits.{found_one}
 use Rattle.catalogue_store.specs.Heads.{head_at, head_of}
 use Rattle.catalogue_store.specs.declared.heads.Head.{Head}
 use Rattle.catalogue_store.proofs.MarkForests.{all_here, has_right, tree_in}
@@ -61,7 +61,7 @@ all_there f [] h = tt
 all_there f (u ∷ units) h = (has_some f u (nodes f) h.0, all_there f units h.1)
 
 -- and its head is found
-pub heads_are : (db : Trees) (f : Forest Unit) (at : ShowsUnits db f) (units : List Unit) (heads : List Head) → AllByRecursion (Has (nodes f)) units
+pub heads_are : (db : Trees) (f : Forest Unit) (at : RepresentsUnits db f) (units : List Unit) (heads : List Head) → AllByRecursion (Has (nodes f)) units
     → map Some heads ≡ map (head_at f) (map (λ (u : Unit). u.id) units) → heads ≡ map head_of units
 heads_are db f at [] [] all e = refl
 heads_are db f at [] (h ∷ heads) all e = absurd (let k : Some h ∷ map Some heads ≡ [] = e in cc)

@@ -12,9 +12,9 @@ use Rattle.catalogue_core.specs.Describing.{with_boxes, KnowsItsContainers, with
 use Rattle.catalogue_core.specs.Merging.{Catalogue}
 use Rattle.catalogue_core.specs.Units.{Unit, has_id}
 use Rattle.catalogue_core.proofs.Imported.{distinct_again}
-use Rattle.catalogue_rows.proofs.BoxNumbers.{all_known, still_known}
+use Rattle.catalogue_statements.proofs.BoxNumbers.{all_known, still_known}
 use Rattle.catalogue_core.proofs.NodeLemmas.{nodes_join}
-use Rattle.catalogue_rows.proofs.Statuses.{all_map}
+use Rattle.catalogue_statements.proofs.Statuses.{all_map}
 
 module _ {A : Type 0} (P : A → Type 0) where
   both : (xs ys : List A) → AllByRecursion P (xs ++ ys) → AllByRecursion P xs × AllByRecursion P ys

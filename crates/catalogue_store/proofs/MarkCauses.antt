@@ -15,15 +15,15 @@ use Rattle.catalogue_core.specs.Bounds.{IsKept, IsLegibleUnit}
 use Rattle.catalogue_store.specs.Attaching.{AreAttached}
 use Rattle.catalogue_core.specs.Marking.{names}
 use Rattle.catalogue_core.specs.Merging.{Catalogue}
-use Rattle.catalogue_rows.specs.Shows.{ShowsUnits}
+use Rattle.catalogue_statements.specs.Represents.{RepresentsUnits}
 use Rattle.catalogue_core.specs.Units.{Unit}
-use Rattle.catalogue_rows.specs.declared.answer.Status.{Status}
+use Rattle.catalogue_statements.specs.declared.row_types.Status.{Status}
 use Rattle.catalogue_store.proofs.MarkReads.{blank_unit}
 use Rattle.office_tables.proofs.Rows.{had}
 
 -- ---- the units of a catalogue
 
-pub legible_units : (db : Trees) (c : Catalogue) (at : ShowsUnits db c.forest) → IsKept c → AllByRecursion IsLegibleUnit at.units
+pub legible_units : (db : Trees) (c : Catalogue) (at : RepresentsUnits db c.forest) → IsKept c → AllByRecursion IsLegibleUnit at.units
 legible_units db c at kept = all-permutation IsLegibleUnit (nodes c.forest) at.units at.are kept.units
 
 low_ids : (c : Catalogue) → IsKept c → AllByRecursion (λ (u : Unit). u.id < 2 ^ 63) (nodes c.forest)
@@ -41,7 +41,7 @@ none_first f [] x h e = h
 none_first f (y ∷ xs) x h e = let clash : Some (f y) ≡ None = e in cc
 
 -- a unit that is there has one
-pub status_there : (db : Trees) (f : Forest Unit) (at : ShowsUnits db f) (id : ℕ) (u : Unit) (found : List Status) → Has (nodes f) u → id ≡ u.id
+pub status_there : (db : Trees) (f : Forest Unit) (at : RepresentsUnits db f) (id : ℕ) (u : Unit) (found : List Status) → Has (nodes f) u → id ≡ u.id
     → found ≡ map (λ (x : Unit). (let y : Status = record { draft = x.draft; until = x.until } in y)) (filter (λ (x : Unit). nat_eq id x.id) at.units) → slice_get found 0 ≡ None → ⊥
 status_there db f at id u found there same is none =
     let in_units : Has at.units u = had at.units (nodes f) (IsPermutation-sym (nodes f) at.units at.are) u there in

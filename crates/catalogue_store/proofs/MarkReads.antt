@@ -18,11 +18,11 @@ use Rattle.catalogue_core.specs.Housing.{is_some_there}
 use Rattle.catalogue_core.specs.Marked.{mark_at, marks_at}
 use Rattle.catalogue_core.specs.Merging.{box_number}
 use Rattle.office_tables.specs.Order.{Rises}
-use Rattle.catalogue_rows.specs.Rows.{by_number, counted_from, HousingRow}
-use Rattle.catalogue_rows.specs.Shows.{ShowsUnits, ShowsHousings, housing_cells, housings_of}
+use Rattle.catalogue_statements.specs.Rows.{by_number, counted_from, HousingRow}
+use Rattle.catalogue_statements.specs.Represents.{RepresentsUnits, RepresentsHousings, housing_cells, housings_of}
 use Rattle.catalogue_core.specs.Units.{Unit}
-use Rattle.catalogue_rows.specs.declared.answer.Status.{Status}
-use Rattle.catalogue_rows.proofs.Offices.{length-counted}
+use Rattle.catalogue_statements.specs.declared.row_types.Status.{Status}
+use Rattle.catalogue_statements.proofs.Offices.{length-counted}
 use Rattle.office_tables.proofs.Rows.{had}
 use Rattle.office_tables.proofs.Reading.{first_shown}
 
@@ -47,7 +47,7 @@ status_of u = record { draft = u.draft; until = u.until }
 some_same : (u : Unit) (s : Status) → Some s ≡ option_map status_of (Some u) → s ≡ status_of u
 some_same u s e = cc
 
-pub status_read : (db : Trees) (f : Forest Unit) (at : ShowsUnits db f) (id : ℕ) (u : Unit) (found : List Status) (s : Status) → Has (nodes f) u → id ≡ u.id
+pub status_read : (db : Trees) (f : Forest Unit) (at : RepresentsUnits db f) (id : ℕ) (u : Unit) (found : List Status) (s : Status) → Has (nodes f) u → id ≡ u.id
     → found ≡ map (λ (x : Unit). (let y : Status = record { draft = x.draft; until = x.until } in y)) (filter (λ (x : Unit). nat_eq id x.id) at.units) → Some s ≡ slice_get found 0 → (s.draft ≡ u.draft) × (s.until ≡ u.until)
 unfolding status_of
 status_read db f at id u found s there same is first =
@@ -62,7 +62,7 @@ some_if_long : (n : ℕ) (boxes : List BoxKey) → n ≡ length boxes → not (n
 some_if_long n [] e = ap not (eq-eqb n 0 e)
 some_if_long n (b ∷ boxes) e = ap not (ne_eqb n 0 (λ z. let k : 0 ≡ length boxes + 1 = omega arith in absurd (omega arith)))
 
-pub boxes_read : (db : Trees) (f : Forest Unit) (containers : List BoxKey) (at : ShowsHousings db f containers) (id n : ℕ) (u : Unit) (ys : List HousingRow) → Has (nodes f) u → id ≡ u.id
+pub boxes_read : (db : Trees) (f : Forest Unit) (containers : List BoxKey) (at : RepresentsHousings db f containers) (id n : ℕ) (u : Unit) (ys : List HousingRow) → Has (nodes f) u → id ≡ u.id
     → IsPermutation (filter (λ (h : HousingRow). nat_eq id h.unit) at.housings) ys → n ≡ length ys → not (n == 0) ≡ is_some_there u.values.boxes
 boxes_read db f containers at id n u ys there same perm long =
     let cell = λ (h : HousingRow). (let c : ℕ × ℕ = (h.ord, h.container) in c) in

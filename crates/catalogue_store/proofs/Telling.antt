@@ -4,14 +4,14 @@ use Rattle.std.proofs.Common.{◌≡◌, ℕ, List, ◌∙◌}
 use Rattle.sqlite.specs.Tree.{Trees}
 use Rattle.isad_core.specs.declared.values.BoxKey.{BoxKey}
 use Rattle.isad_core.specs.declared.values.Values.{Values}
-use Rattle.catalogue_rows.specs.Adding.{AreElements, AreHoused, IsDescribed}
+use Rattle.catalogue_statements.specs.Adding.{AreElements, AreHoused, IsDescribed}
 use Rattle.catalogue_core.specs.Describing.{with_boxes, KnowsItsContainers}
 use Rattle.catalogue_core.specs.Merging.{Catalogue}
-use Rattle.catalogue_rows.specs.Rows.{ElementRow, HousingRow, element_row, housing_row}
+use Rattle.catalogue_statements.specs.Rows.{ElementRow, HousingRow, element_row, housing_row}
 use Rattle.tree_core.specs.Versions.{Version}
 use Rattle.office_tables.proofs.numbered.OwnNumbers.{still_numbered}
-use Rattle.catalogue_rows.specs.Shows.{ShowsCatalogue}
-use Rattle.catalogue_rows.specs.declared.office.OfficeRow.{OfficeRow}
+use Rattle.catalogue_statements.specs.Represents.{RepresentsCatalogue}
+use Rattle.catalogue_statements.specs.declared.office.OfficeRow.{OfficeRow}
 use Rattle.sqlite.specs.Effect.{Database}
 
 pub same_elements : (old new : Trees) (xs : List ElementRow) → new tables.element.tree ≡ old tables.element.tree → AreElements old xs → AreElements new xs
@@ -21,10 +21,10 @@ pub same_housed : (old new : Trees) (boxes : List BoxKey) (hs : List HousingRow)
 same_housed old new boxes hs containers housings at = record { containers = containers ∙ at.containers; apart = at.apart; rows = still_numbered housing_row (old tables.housing.tree) (new tables.housing.tree) hs housings at.rows }
 
 -- what a catalogue's tables have of both
-pub elements_shown : (v : Version) (db : Database) (o : OfficeRow) (c : Catalogue) → (at : ShowsCatalogue v db o c) → AreElements db.trees at.elements.elements
+pub elements_shown : (v : Version) (db : Database) (o : OfficeRow) (c : Catalogue) → (at : RepresentsCatalogue v db o c) → AreElements db.trees at.elements.elements
 elements_shown v db o c at = record { rows = at.elements.rows }
 
-pub housed_shown : (v : Version) (db : Database) (o : OfficeRow) (c : Catalogue) → (at : ShowsCatalogue v db o c) → KnowsItsContainers c → AreHoused db.trees c.containers at.housings.housings
+pub housed_shown : (v : Version) (db : Database) (o : OfficeRow) (c : Catalogue) → (at : RepresentsCatalogue v db o c) → KnowsItsContainers c → AreHoused db.trees c.containers at.housings.housings
 housed_shown v db o c at knows = record { containers = at.containers; apart = knows.apart; rows = at.housings.rows }
 
 pub same_described : (old new : Trees) (unit : ℕ) (values : Values) (boxes : List BoxKey) (xs : List ElementRow) (hs : List HousingRow) → new tables.element.tree ≡ old tables.element.tree → new tables.container.tree ≡ old tables.container.tree → new tables.housing.tree ≡ old tables.housing.tree

@@ -10,11 +10,11 @@ use Rattle.tree_core.specs.Forest.{nodes}
 use Rattle.catalogue_core.specs.Describing.{KnowsItsContainers}
 use Rattle.catalogue_core.specs.Merging.{Catalogue}
 use Rattle.catalogue_core.specs.Units.{Unit}
-use Rattle.catalogue_rows.specs.Shows.{element_cells, elements_of, housing_cells, housings_of}
-use Rattle.catalogue_rows.specs.Values.{ShowsValues, TellsTexts}
-use Rattle.catalogue_rows.specs.declared.office.OfficeRow.{OfficeRow}
+use Rattle.catalogue_statements.specs.Represents.{element_cells, elements_of, housing_cells, housings_of}
+use Rattle.catalogue_statements.specs.Values.{RepresentsValues, TellsTexts}
+use Rattle.catalogue_statements.specs.declared.office.OfficeRow.{OfficeRow}
 
-module _ (db : Database) (o : OfficeRow) (c : Catalogue) (it : ShowsValues db o c) (n : ℕ) (u : Unit) (there : Has (nodes c.forest) u) (is : n ≡ u.id) where
+module _ (db : Database) (o : OfficeRow) (c : Catalogue) (it : RepresentsValues db o c) (n : ℕ) (u : Unit) (there : Has (nodes c.forest) u) (is : n ≡ u.id) where
   pub texts_told : TellsTexts n db u.values it.catalogue.elements.elements
   texts_told =
       let elements = it.catalogue.elements in

@@ -13,7 +13,7 @@ use Rattle.catalogue_core.specs.Bounds.{IsKept}
 use Rattle.catalogue_core.specs.Finding.{has_unit}
 use Rattle.catalogue_core.specs.Merging.{Catalogue}
 use Rattle.catalogue_core.specs.Units.{Unit, has_id}
-use Rattle.catalogue_rows.specs.Shows.{ShowsUnits}
+use Rattle.catalogue_statements.specs.Represents.{RepresentsUnits}
 use Rattle.tree_core.specs.Forest.{Forest, each}
 
 none_so_high : (n : ℕ) (ids : List ℕ) → 2 ^ 63 ≤ n → AllByRecursion (λ id. id < 2 ^ 63) ids → list_any (nat_eq n) ids ≡ false
@@ -35,7 +35,7 @@ some_there p (x ∷ xs) = at (p x) (some_there p xs)
     at false e = e
 
 -- the rows with this number say whether there is such a unit
-pub unit_there : {Y : Type 0} (db : Trees) (f : Forest Unit) (at : ShowsUnits db f) (row : Unit → Y) (n len : ℕ) (found : List Y) → found ≡ map row (filter (λ (u : Unit). nat_eq n u.id) at.units) → len ≡ length found
+pub unit_there : {Y : Type 0} (db : Trees) (f : Forest Unit) (at : RepresentsUnits db f) (row : Unit → Y) (n len : ℕ) (found : List Y) → found ≡ map row (filter (λ (u : Unit). nat_eq n u.id) at.units) → len ≡ length found
     → not (len == 0) ≡ has_unit f n
 unit_there db f at row n len found is long =
     ap (λ k. not (k == 0)) (long ∙ ap length is ∙ length-map (filter (has_id n) at.units) row)

@@ -18,11 +18,11 @@ use Rattle.tree_core.specs.Forest.{Forest, nodes, has}
 use Rattle.catalogue_core.specs.Bounds.{IsLegibleUnit}
 use Rattle.isad_core.specs.Legible.{IsLegibleBox}
 use Rattle.catalogue_core.specs.Merging.{number_in, box_number}
-use Rattle.catalogue_rows.specs.Rows.{counted_from, ElementRow}
-use Rattle.catalogue_rows.specs.Shows.{ShowsElements, texts_from, element_number, element_cells, elements_of}
+use Rattle.catalogue_statements.specs.Rows.{counted_from, ElementRow}
+use Rattle.catalogue_statements.specs.Represents.{RepresentsElements, texts_from, element_number, element_cells, elements_of}
 use Rattle.catalogue_core.specs.Units.{Unit, has_id}
 use Rattle.office_tables.proofs.Rows.{had, has_map, map_has}
-use Rattle.catalogue_rows.proofs.Untold.{numbered, one_less}
+use Rattle.catalogue_statements.proofs.Untold.{numbered, one_less}
 
 -- a call that does not fail
 pub never_fails : {X E : Type 0} (r : Result X E) (Q : E → Type 0) → IsOk r → IfErr r Q
@@ -37,7 +37,7 @@ texts_legible k (None ∷ texts) h = texts_legible (k + 1) texts h.1
 texts_legible k (Some text ∷ texts) h = (h.0, texts_legible (k + 1) texts h.1)
 
 -- each row has a text of a unit
-pub legible_elements : (db : Trees) (f : Forest Unit) (at : ShowsElements db f) → AllByRecursion IsLegibleUnit (nodes f) → AllByRecursion (λ (e : ElementRow). IsUtf8 e.value) at.elements
+pub legible_elements : (db : Trees) (f : Forest Unit) (at : RepresentsElements db f) → AllByRecursion IsLegibleUnit (nodes f) → AllByRecursion (λ (e : ElementRow). IsUtf8 e.value) at.elements
 legible_elements db f at legible = all_from (λ (e : ElementRow). IsUtf8 e.value) at.elements one
   where
     one : (e : ElementRow) → Has at.elements e → IsUtf8 e.value

@@ -12,18 +12,18 @@ use Rattle.isad_core.specs.declared.values.BoxKey.{BoxKey}
 use Rattle.isad_core.specs.declared.values.Values.{Values}
 use Rattle.isad_core.specs.Boxes.{is_same}
 use Rattle.tree_core.specs.Forest.{Forest, nodes, each, has}
-use Rattle.catalogue_rows.specs.Adding.{WithTexts, cell_of, WithHousings, housing_cell, IsDescribed}
+use Rattle.catalogue_statements.specs.Adding.{WithTexts, cell_of, WithHousings, housing_cell, IsDescribed}
 use Rattle.catalogue_core.specs.Describing.{with_boxes, with_values, KnowsItsContainers}
 use Rattle.catalogue_core.specs.Merging.{Catalogue}
-use Rattle.catalogue_rows.specs.Rows.{unit_row, ElementRow, HousingRow}
+use Rattle.catalogue_statements.specs.Rows.{unit_row, ElementRow, HousingRow}
 use Rattle.tree_core.specs.Versions.{Version}
 use Rattle.tree_core.proofs.EachLemmas.{nodes-each}
-use Rattle.catalogue_rows.specs.Shows.{Shows, element_cells, elements_of, housing_cells, housings_of}
+use Rattle.catalogue_statements.specs.Represents.{Represents, element_cells, elements_of, housing_cells, housings_of}
 use Rattle.catalogue_core.specs.Units.{Unit, has_id}
-use Rattle.catalogue_rows.specs.declared.office.OfficeRow.{OfficeRow}
-use Rattle.catalogue_rows.proofs.HousingLemmas.{same_cells}
-use Rattle.catalogue_rows.proofs.Parts.{own_cells, others_cells, all_theirs}
-use Rattle.catalogue_rows.proofs.Statuses.{each_each, all_map, kept_by, rising, still_there}
+use Rattle.catalogue_statements.specs.declared.office.OfficeRow.{OfficeRow}
+use Rattle.catalogue_statements.proofs.HousingLemmas.{same_cells}
+use Rattle.catalogue_statements.proofs.Parts.{own_cells, others_cells, all_theirs}
+use Rattle.catalogue_statements.proofs.Statuses.{each_each, all_map, kept_by, rising, still_there}
 
 -- what tells the unit's values in the tables is what tells these, and all else is as it was
 pub record HasValued (old new : Database) (unit : ℕ) (values : Values) (units : List Unit) (elements : List ElementRow) (housings : List HousingRow) (boxes : List BoxKey) : Type 0 where
@@ -73,10 +73,10 @@ module _ (unit : ℕ) (values : Values) where
       (λ apart. IsPermutation-trans (housing_cells more u.values) (housings_of u.id xs) (housings_of u.id ys) h (others_cells (λ (h : HousingRow). h.unit) housing_cell unit u.id (housing_cells more values) xs ys apart told)))
       (nodes f) still)
 
-  pub shows_valued : (v : Version) (shows : Trees → Forest ℕ → Type 0) → ((old new : Trees) (f : Forest ℕ) → new tables.link.tree ≡ old tables.link.tree → shows old f → shows new f)
-      → (old new : Database) (o : OfficeRow) (c : Catalogue) (it : Shows shows v old o c) → KnowsItsContainers c → has (has_id unit) c.forest ≡ true
-      → HasValued old new unit values it.catalogue.units.units it.catalogue.elements.elements it.catalogue.housings.housings c.containers → Shows shows v new o (with_values unit values c)
-  shows_valued v shows same old new o c it knows there wrote =
+  pub shows_valued : (v : Version) (represents : Trees → Forest ℕ → Type 0) → ((old new : Trees) (f : Forest ℕ) → new tables.link.tree ≡ old tables.link.tree → represents old f → represents new f)
+      → (old new : Database) (o : OfficeRow) (c : Catalogue) (it : Represents represents v old o c) → KnowsItsContainers c → has (has_id unit) c.forest ≡ true
+      → HasValued old new unit values it.catalogue.units.units it.catalogue.elements.elements it.catalogue.housings.housings c.containers → Represents represents v new o (with_values unit values c)
+  shows_valued v represents same old new o c it knows there wrote =
       let at = it.catalogue in
       let f = c.forest in
       let boxes = with_boxes c.containers values.boxes in
@@ -110,5 +110,5 @@ module _ (unit : ℕ) (values : Values) where
                 (all_weaker (λ (h : HousingRow). has (has_id h.unit) f ≡ true) (λ (h : HousingRow). here h.unit) (λ h k. still_there valued same_id f h.unit ∙ k) at.housings.housings at.housings.others) made.housed_more;
           };
         };
-        shown = same old.trees new.trees (each (λ (u : Unit). u.id) (each valued f)) wrote.places (subst (shows old.trees) (sym (each_each valued (λ (u : Unit). u.id) (λ (u : Unit). u.id) same_id f)) it.shown);
+        shown = same old.trees new.trees (each (λ (u : Unit). u.id) (each valued f)) wrote.places (subst (represents old.trees) (sym (each_each valued (λ (u : Unit). u.id) (λ (u : Unit). u.id) same_id f)) it.shown);
       }

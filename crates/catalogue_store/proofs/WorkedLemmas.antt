@@ -12,7 +12,7 @@ use Rattle.tree_core.proofs.LinkPaths.{length-path}
 use Rattle.catalogue_core.specs.Bounds.{IsKept, IsLegibleUnit}
 use Rattle.catalogue_core.specs.Describing.{KnowsItsContainers, HasAllPlaces}
 use Rattle.tree_core.specs.Versions.{Links}
-use Rattle.catalogue_rows.specs.Shows.{Shows, ShowsLinkRows}
+use Rattle.catalogue_statements.specs.Represents.{Represents, RepresentsLinkRows}
 use Rattle.catalogue_core.specs.Units.{Unit}
 use Rattle.catalogue_store.specs.Worked.{box, fonds, series, worked, settings, element_rows, housing_rows, link_rows, tables}
 use Rattle.office_tables.proofs.Puts.{not_falling}
@@ -53,7 +53,7 @@ worked_known = record { apart = refl; known = (refl, (refl, tt)) }
 pub worked_places : HasAllPlaces worked
 worked_places = (refl, (refl, tt))
 
-pub worked_shown : Shows ShowsLinkRows Links tables settings worked
+pub worked_shown : Represents RepresentsLinkRows Links tables settings worked
 unfolding IsDistinct
 worked_shown = record {
   catalogue = record {

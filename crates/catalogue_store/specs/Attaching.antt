@@ -3,9 +3,9 @@ use Rattle.std.specs.Prelude.{ℕ, List, [], ◌∷◌, map, filter, IsPermutati
 use Rattle.tree_core.specs.Forest.{Forest, nodes, path, tree}
 use Rattle.catalogue_core.specs.Merging.{Catalogue}
 use Rattle.office_tables.specs.Order.{Rises}
-use Rattle.catalogue_rows.specs.Rows.{by_number}
+use Rattle.catalogue_statements.specs.Rows.{by_number}
 use Rattle.catalogue_core.specs.Units.{Unit, has_id}
-use Rattle.catalogue_store.specs.declared.marking.Attached.{Attached}
+use Rattle.catalogue_store.specs.declared.container_marks.Attached.{Attached}
 use Rattle.catalogue_core.specs.Marking.{AreMarks, AreWalkMarks, names}
 
 -- the units that name the container, each once, in order of their numbers

@@ -29,9 +29,9 @@ pub use Rattle.office_tables.specs.Transactions
 pub use Rattle.office_tables.specs.Counting
 pub use Rattle.office_tables.specs.Text
 pub use Rattle.office_tables.specs.Tests
-pub use Rattle.catalogue_rows.specs.Rows
-pub use Rattle.catalogue_rows.specs.Shows
-pub use Rattle.catalogue_rows.specs.Adding
-pub use Rattle.catalogue_rows.specs.Removals
-pub use Rattle.catalogue_rows.specs.Values
-pub use Rattle.catalogue_rows.specs.Added
+pub use Rattle.catalogue_statements.specs.Rows
+pub use Rattle.catalogue_statements.specs.Represents
+pub use Rattle.catalogue_statements.specs.Adding
+pub use Rattle.catalogue_statements.specs.Removals
+pub use Rattle.catalogue_statements.specs.Values
+pub use Rattle.catalogue_statements.specs.Added

@@ -3,7 +3,7 @@ use Rattle.std.specs.Prelude.{length}
 use Rattle.tree_core.specs.Forest.{size}
 use Rattle.catalogue_core.specs.Merging.{Catalogue}
 use Rattle.office_tables.specs.Counting.{capped}
-use Rattle.catalogue_rows.specs.declared.office.OfficeRow.{OfficeRow}
+use Rattle.catalogue_statements.specs.declared.office.OfficeRow.{OfficeRow}
 use Rattle.catalogue_store.specs.declared.office.Office.{Office}
 
 -- its row, and how many units and containers there are

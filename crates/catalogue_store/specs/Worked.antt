@@ -6,11 +6,11 @@ use Rattle.isad_core.specs.declared.values.BoxKey.{BoxKey}
 use Rattle.tree_core.specs.Forest.{Empty, Node}
 use Rattle.tree_core.specs.declared.rows.Link.{Link}
 use Rattle.catalogue_core.specs.Merging.{Catalogue}
-use Rattle.catalogue_rows.specs.Rows.{office_row, unit_row, ElementRow, element_row, container_row, HousingRow, housing_row, link_row}
+use Rattle.catalogue_statements.specs.Rows.{office_row, unit_row, ElementRow, element_row, container_row, HousingRow, housing_row, link_row}
 use Rattle.tree_core.specs.Versions.{Links}
 use Rattle.office_tables.specs.Schema.{schema, office, unit, element, container, housing, link}
 use Rattle.catalogue_core.specs.Units.{Unit}
-use Rattle.catalogue_rows.specs.declared.office.OfficeRow.{OfficeRow}
+use Rattle.catalogue_statements.specs.declared.office.OfficeRow.{OfficeRow}
 
 -- ---- the catalogue
 

@@ -7,22 +7,22 @@ ghost use Rattle.sqlite.specs.Effect.{Database};
 ghost use Rattle.sqlite.specs.Change.{KeepsRows};
 ghost use Rattle.isad_core.specs.Limits.{IsNumber};
 ghost use Rattle.tree_core.specs.Forest.{Empty};
-ghost use Rattle.office_tables.specs.Calls.{ShowsAlone, Tells};
+ghost use Rattle.office_tables.specs.Calls.{RepresentsAlone, Answers};
 ghost use Rattle.office_tables.specs.Creation.{IsMaking, LeavesMaking};
 ghost use Rattle.catalogue_core.specs.Bounds.{IsKept};
 ghost use Rattle.catalogue_core.specs.Finding.{Finds, has_unit};
 ghost use Rattle.office_tables.specs.Schema.{desk_schema, desk_tables};
-ghost use Rattle.catalogue_rows.specs.Shows.{Shows, ShowsUnits};
+ghost use Rattle.catalogue_statements.specs.Represents.{Represents, RepresentsUnits};
 ghost use Rattle.office_tables.specs.Step.{InOffice, InTransaction};
 ghost use Rattle.catalogue_core.specs.Units.{is_from};
 
 use crate::office::insert_office;
 use crate::places::Places;
-use catalogue_rows::OfficeRow;
-use catalogue_rows::units::{statuses_of, units_from};
+use catalogue_statements::OfficeRow;
+use catalogue_statements::units::{statuses_of, units_from};
 use isad_core::Text;
 use office_tables::StoreFault;
-use office_tables::making::{create_containers, create_units};
+use office_tables::table_creation::{create_containers, create_units};
 use office_tables::value::NO_NUMBER;
 use sqlite::{Alter, Connection};
 use std::alloc::Global;
@@ -33,9 +33,9 @@ pub fn create<P: Places, S: Alter>(
     row: &OfficeRow,
 ) -> Result<(), StoreFault>
     requires { IsNumber row.now.next_unit }
-    ensures shows { (start : Database) → IsMaking desk_tables desk_schema start (state S.Store conn.old)
+    ensures represents { (start : Database) → IsMaking desk_tables desk_schema start (state S.Store conn.old)
         → HasCleanDisk (state S.Store conn.new)
-        → OnOk result (Shows P.shows P.version (state S.Store conn.new).now row.now
+        → OnOk result (Represents P.represents P.version (state S.Store conn.new).now row.now
         (record { forest = Empty; containers = []; next = row.now.next_unit })) }
     ensures desk { (start : Database) → IsMaking desk_tables desk_schema start (state S.Store conn.old)
         → HasCleanDisk (state S.Store conn.new)
@@ -57,7 +57,7 @@ pub fn known<S: Alter>(
     legacy: &Text,
 ) -> Result<Option<u64>, StoreFault>
     requires inside { InOffice (state S.Store conn.old) }
-    ensures tells { Tells S.Store (ShowsAlone ShowsUnits) (λ _. ⊤) conn.old conn.new result (λ _. ⊤)
+    ensures tells { Answers S.Store (RepresentsAlone RepresentsUnits) (λ _. ⊤) conn.old conn.new result (λ _. ⊤)
         (λ _ f. Finds (is_from source.now legacy.now) f) }
 {
     let found = units_from(alloc, conn, source, legacy)?;
@@ -71,7 +71,7 @@ pub fn is_unit<P: Places, S: Alter>(
     unit: u64,
 ) -> Result<bool, StoreFault>
     requires inside { InTransaction P.version (state S.Store conn.old) }
-    ensures tells { Tells S.Store (Shows P.shows P.version) IsKept conn.old conn.new result (λ _. ⊤)
+    ensures tells { Answers S.Store (Represents P.represents P.version) IsKept conn.old conn.new result (λ _. ⊤)
         (λ _ c there. IsKept c → there ≡ has_unit c.forest unit) }
     ensures small { IfOk result (λ there. there ≡ true → IsNumber unit) }
 {

@@ -14,18 +14,18 @@ ghost use Rattle.catalogue_core.specs.Bounds.{IsKept};
 ghost use Rattle.catalogue_core.specs.Finding.{has_unit};
 ghost use Rattle.catalogue_core.specs.Units.{has_id};
 ghost use Rattle.office_tables.specs.Asking.{Reads};
-ghost use Rattle.office_tables.specs.Calls.{Tells};
-ghost use Rattle.office_tables.specs.Faults.{Excused};
+ghost use Rattle.office_tables.specs.Calls.{Answers};
+ghost use Rattle.office_tables.specs.Faults.{FaultsHaveCause};
 ghost use Rattle.office_tables.specs.Numbered.{HoldsNumbered};
 ghost use Rattle.office_tables.specs.Schema as tables;
 ghost use Rattle.office_tables.specs.Step.{InOffice, InTransaction};
-ghost use Rattle.catalogue_rows.specs.Rows.{ElementRow, element_row};
-ghost use Rattle.catalogue_rows.specs.Shows.{Shows, element_cells, element_number, elements_of};
+ghost use Rattle.catalogue_statements.specs.Rows.{ElementRow, element_row};
+ghost use Rattle.catalogue_statements.specs.Represents.{Represents, element_cells, element_number, elements_of};
 ghost use Rattle.catalogue_store.specs.Heads.{head_at, head_of};
 
 use crate::places::Places;
-use catalogue_rows::elements::texts_at;
-use catalogue_rows::units::standings_of;
+use catalogue_statements::elements::texts_at;
+use catalogue_statements::units::standings_of;
 use isad_core::{Day, Text};
 use office_tables::StoreFault;
 use office_tables::value::NO_NUMBER;
@@ -68,7 +68,7 @@ fn text_of<S: Alter>(
         → IfOk result (λ text. text ≡ unwrap_or (text_at (Some place) values) []) }
     ensures faults { (xs : List ElementRow) → HoldsNumbered tables.element element_row (state S.Store conn.old) xs
         → AllByRecursion (λ e. IsUtf8 e.value) xs
-        → Excused (state S.Store conn.old) (state S.Store conn.new) result }
+        → FaultsHaveCause (state S.Store conn.old) (state S.Store conn.new) result }
 {
     let mut found = texts_at(alloc, conn, unit, element)?;
     match found.pop() {
@@ -85,7 +85,7 @@ pub fn find_head<P: Places, S: Alter>(
 ) -> Result<Option<Head>, StoreFault>
     requires inside { InTransaction P.version (state S.Store conn.old) }
     requires small { IsNumber unit }
-    ensures tells { Tells S.Store (Shows P.shows P.version) IsKept conn.old conn.new result (λ _. ⊤)
+    ensures tells { Answers S.Store (Represents P.represents P.version) IsKept conn.old conn.new result (λ _. ⊤)
         (λ _ c head. head ≡ option_map head_of (find (has_id unit) (nodes c.forest))) }
 {
     let mut found = standings_of(alloc, conn, unit)?;
@@ -111,7 +111,7 @@ fn heads_of<P: Places, S: Alter>(
     units: &[u64],
 ) -> Result<Vec<Head>, StoreFault>
     requires inside { InTransaction P.version (state S.Store conn.old) }
-    ensures tells { Tells S.Store (Shows P.shows P.version) IsKept conn.old conn.new result
+    ensures tells { Answers S.Store (Represents P.represents P.version) IsKept conn.old conn.new result
         (λ c. AllByRecursion (λ unit. has_unit c.forest unit ≡ true) units.now)
         (λ _ c heads. map Some heads.items ≡ map (head_at c.forest) units.now) }
 {
@@ -138,7 +138,7 @@ pub fn path_heads<P: Places, S: Alter>(
 ) -> Result<Vec<Head>, StoreFault>
     requires inside { InTransaction P.version (state S.Store conn.old) }
     requires small { IsNumber unit }
-    ensures tells { Tells S.Store (Shows P.shows P.version) IsKept conn.old conn.new result (λ _. ⊤)
+    ensures tells { Answers S.Store (Represents P.represents P.version) IsKept conn.old conn.new result (λ _. ⊤)
         (λ _ c heads. heads.items ≡ map head_of (path (has_id unit) c.forest)) }
 {
     let units = P::path(alloc, conn, unit)?;
@@ -153,7 +153,7 @@ pub fn heads_below<P: Places, S: Alter>(
 ) -> Result<Vec<Head>, StoreFault>
     requires inside { InTransaction P.version (state S.Store conn.old) }
     requires small { IfSome unit IsNumber }
-    ensures tells { Tells S.Store (Shows P.shows P.version) IsKept conn.old conn.new result (λ _. ⊤)
+    ensures tells { Answers S.Store (Represents P.represents P.version) IsKept conn.old conn.new result (λ _. ⊤)
         (λ _ c heads. heads.items ≡ map head_of (tops (part_below has_id unit c.forest))) }
 {
     let units = P::below(alloc, conn, unit)?;

@@ -6,7 +6,7 @@ ghost use Rattle.catalogue_core.specs.Bounds.{IsKept};
 ghost use Rattle.catalogue_core.specs.Describing.{KnowsItsContainers, HasAllPlaces, with_unit, with_values};
 ghost use Rattle.catalogue_core.specs.Merging.{Catalogue};
 ghost use Rattle.tree_core.specs.Versions.{Links};
-ghost use Rattle.catalogue_rows.specs.Shows.{Shows, ShowsLinkRows};
+ghost use Rattle.catalogue_statements.specs.Represents.{Represents, RepresentsLinkRows};
 ghost use Rattle.catalogue_core.specs.Units.{«Unit» as Described};
 ghost use Rattle.catalogue_store.specs.Worked.{settings, tables, worked};
 
@@ -18,7 +18,7 @@ pub fn worked_catalogue()
     ensures kept { IsKept worked }
     ensures known { KnowsItsContainers worked }
     ensures places { HasAllPlaces worked }
-    ensures shown { Shows ShowsLinkRows Links tables settings worked }
+    ensures shown { Represents RepresentsLinkRows Links tables settings worked }
 {}
 
 /// A catalogue that knows its containers knows them after a unit is added or takes other values.

@@ -4,21 +4,21 @@ ghost use Rattle.std.specs.Prelude.{◌≡◌, [], OnOk, ⊤};
 ghost use Rattle.sqlite.specs.Held.{state};
 ghost use Rattle.sqlite.specs.State.{HasCleanDisk};
 ghost use Rattle.isad_core.specs.Limits.{IsNumber};
-ghost use Rattle.office_tables.specs.Calls.{Tells};
+ghost use Rattle.office_tables.specs.Calls.{Answers};
 ghost use Rattle.office_tables.specs.Changing.{Leaves};
-ghost use Rattle.office_tables.specs.Faults.{Excused};
+ghost use Rattle.office_tables.specs.Faults.{FaultsHaveCause};
 ghost use Rattle.office_tables.specs.Schema as tables;
 ghost use Rattle.office_tables.specs.Step.{InTransaction, PutsRow};
-ghost use Rattle.catalogue_rows.specs.Rows.{office_row as row_of_office};
-ghost use Rattle.catalogue_rows.specs.Settings.{AreLegibleSettings};
-ghost use Rattle.catalogue_rows.specs.Shows.{ShowsSettings};
+ghost use Rattle.catalogue_statements.specs.Rows.{office_row as row_of_office};
+ghost use Rattle.catalogue_statements.specs.Settings.{AreLegibleSettings};
+ghost use Rattle.catalogue_statements.specs.Represents.{RepresentsSettings};
 ghost use Rattle.catalogue_store.specs.Offices.{told_office};
 
 use crate::places::Places;
-use catalogue_rows::OfficeRow;
-use catalogue_rows::office::{count_containers, count_units, office_rows};
+use catalogue_statements::OfficeRow;
+use catalogue_statements::office::{count_containers, count_units, office_rows};
 use office_tables::StoreFault;
-use office_tables::answer::only_number;
+use office_tables::from_row::only_number;
 use office_tables::value::{day, number, words};
 use sqlite::{Alter, Connection};
 use std::alloc::Global;
@@ -36,7 +36,7 @@ pub fn insert_office<P: Places, S: Alter>(
         (state S.Store conn.new).now) }
     ensures faults { InTransaction P.version (state S.Store conn.old)
         → (state S.Store conn.old).now.trees tables.office.tree ≡ []
-        → Excused (state S.Store conn.old) (state S.Store conn.new) result }
+        → FaultsHaveCause (state S.Store conn.old) (state S.Store conn.new) result }
 {
     let version = P::number();
     // An open connection's rows keep the rules of its tables.
@@ -74,7 +74,7 @@ pub fn office_row<P: Places, S: Alter>(
     conn: &mut Connection<S>,
 ) -> Result<Office, StoreFault>
     requires inside { InTransaction P.version (state S.Store conn.old) }
-    ensures tells { Tells S.Store (ShowsSettings P.shows P.version) AreLegibleSettings conn.old conn.new result (λ _. ⊤)
+    ensures tells { Answers S.Store (RepresentsSettings P.represents P.version) AreLegibleSettings conn.old conn.new result (λ _. ⊤)
         (λ c o office. office ≡ told_office c o) }
 {
     let mut rows = office_rows(alloc, conn)?;
@@ -96,7 +96,7 @@ pub fn settings<P: Places, S: Alter>(
     conn: &mut Connection<S>,
 ) -> Result<OfficeRow, StoreFault>
     requires inside { InTransaction P.version (state S.Store conn.old) }
-    ensures tells { Tells S.Store (ShowsSettings P.shows P.version) AreLegibleSettings conn.old conn.new result (λ _. ⊤)
+    ensures tells { Answers S.Store (RepresentsSettings P.represents P.version) AreLegibleSettings conn.old conn.new result (λ _. ⊤)
         (λ _ o row. row ≡ o) }
 {
     let mut rows = office_rows(alloc, conn)?;

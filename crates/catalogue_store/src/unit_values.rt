@@ -14,23 +14,23 @@ ghost use Rattle.catalogue_core.specs.Bounds.{IsKept};
 ghost use Rattle.catalogue_core.specs.Describing.{KnowsItsContainers};
 ghost use Rattle.catalogue_core.specs.Merging.{box_number};
 ghost use Rattle.office_tables.specs.Asking.{Reads};
-ghost use Rattle.office_tables.specs.Calls.{Tells};
-ghost use Rattle.office_tables.specs.Faults.{Excused};
+ghost use Rattle.office_tables.specs.Calls.{Answers};
+ghost use Rattle.office_tables.specs.Faults.{FaultsHaveCause};
 ghost use Rattle.office_tables.specs.Numbered.{HoldsNumbered};
 ghost use Rattle.office_tables.specs.Schema as tables;
 ghost use Rattle.office_tables.specs.Step.{InOffice};
-ghost use Rattle.catalogue_rows.specs.Rows.{HousingRow, housing_row};
-ghost use Rattle.catalogue_rows.specs.Shows.{ShowsContainers, element_cells, housing_cells};
-ghost use Rattle.catalogue_rows.specs.Shows.{element_number as number_of_place, housings_of as containers_among};
-ghost use Rattle.catalogue_rows.specs.Values.{ShowsValues, TellsTexts};
-ghost use Rattle.catalogue_rows.specs.declared.answer.Element.{Element};
-ghost use Rattle.catalogue_rows.specs.declared.answer.Housing.{Housing};
+ghost use Rattle.catalogue_statements.specs.Rows.{HousingRow, housing_row};
+ghost use Rattle.catalogue_statements.specs.Represents.{RepresentsContainers, element_cells, housing_cells};
+ghost use Rattle.catalogue_statements.specs.Represents.{element_number as number_of_place, housings_of as containers_among};
+ghost use Rattle.catalogue_statements.specs.Values.{RepresentsValues, TellsTexts};
+ghost use Rattle.catalogue_statements.specs.declared.row_types.Element.{Element};
+ghost use Rattle.catalogue_statements.specs.declared.row_types.Housing.{Housing};
 ghost use Rattle.catalogue_store.specs.Valuing.{values_of};
 
-use catalogue_rows::answer::{Element, Housing};
-use catalogue_rows::containers::{find_container, housings_of};
-use catalogue_rows::elements::elements_of;
-use catalogue_rows::units::levels_of;
+use catalogue_statements::containers::{find_container, housings_of};
+use catalogue_statements::elements::elements_of;
+use catalogue_statements::row_types::{Element, Housing};
+use catalogue_statements::units::levels_of;
 use isad_core::{BoxKey, List, Text, Values};
 use office_tables::StoreFault;
 use office_tables::value::NO_NUMBER;
@@ -84,7 +84,7 @@ fn texts_of<S: Alter>(
 ) -> Result<[Option<Text>; 25], StoreFault>
     requires inside { InOffice (state S.Store conn.old) }
     requires small { IsNumber unit }
-    ensures tells { Tells S.Store (TellsTexts unit) (AllByRecursion (λ e. IsUtf8 e.value)) conn.old conn.new result
+    ensures tells { Answers S.Store (TellsTexts unit) (AllByRecursion (λ e. IsUtf8 e.value)) conn.old conn.new result
         (λ _. ⊤) (λ values _ texts. texts ≡ values.texts) }
 {
     let found = elements_of(alloc, conn, unit)?;
@@ -117,7 +117,7 @@ fn containers_of<S: Alter>(
         → IsPermutation (housing_cells boxes values) (containers_among unit xs)
         → IfOk result (λ numbers. numbers ≡ map (box_number boxes) values.boxes) }
     ensures faults { (xs : List HousingRow) → HoldsNumbered tables.housing housing_row (state S.Store conn.old) xs
-        → Excused (state S.Store conn.old) (state S.Store conn.new) result }
+        → FaultsHaveCause (state S.Store conn.old) (state S.Store conn.new) result }
 {
     let found = housings_of(alloc, conn, unit)?;
     Ok(numbers_in(alloc, &found)?)
@@ -132,12 +132,12 @@ fn container_of<S: Alter>(
     requires inside { InOffice (state S.Store conn.old) }
     ensures reads { Reads (state S.Store conn.old) (state S.Store conn.new) result }
     ensures key { HasCleanDisk (state S.Store conn.new) → (boxes : List BoxKey)
-        → ShowsContainers (state S.Store conn.old).now.trees boxes → (b : BoxKey) → number ≡ box_number boxes b
+        → RepresentsContainers (state S.Store conn.old).now.trees boxes → (b : BoxKey) → number ≡ box_number boxes b
         → IfOk result (λ key. key ≡ b) }
-    ensures faults { (boxes : List BoxKey) → ShowsContainers (state S.Store conn.old).now.trees boxes
+    ensures faults { (boxes : List BoxKey) → RepresentsContainers (state S.Store conn.old).now.trees boxes
         → AllByRecursion IsLegibleBox boxes → length boxes < 2 ^ 62 → (b : BoxKey)
         → list_any (is_same_box b) boxes ≡ true → number ≡ box_number boxes b
-        → Excused (state S.Store conn.old) (state S.Store conn.new) result }
+        → FaultsHaveCause (state S.Store conn.old) (state S.Store conn.new) result }
 {
     if number >= NO_NUMBER {
         return Err(StoreFault::Schema);
@@ -158,12 +158,12 @@ fn boxes_of<S: Alter>(
     requires inside { InOffice (state S.Store conn.old) }
     ensures reads { Reads (state S.Store conn.old) (state S.Store conn.new) result }
     ensures boxes { HasCleanDisk (state S.Store conn.new) → (boxes : List BoxKey)
-        → ShowsContainers (state S.Store conn.old).now.trees boxes → (bs : List BoxKey)
+        → RepresentsContainers (state S.Store conn.old).now.trees boxes → (bs : List BoxKey)
         → numbers.now ≡ map (box_number boxes) bs → IfOk result (λ keys. keys ≡ bs) }
-    ensures faults { (boxes : List BoxKey) → ShowsContainers (state S.Store conn.old).now.trees boxes
+    ensures faults { (boxes : List BoxKey) → RepresentsContainers (state S.Store conn.old).now.trees boxes
         → AllByRecursion IsLegibleBox boxes → length boxes < 2 ^ 62 → (bs : List BoxKey)
         → list_all (λ b. list_any (is_same_box b) boxes) bs ≡ true → numbers.now ≡ map (box_number boxes) bs
-        → Excused (state S.Store conn.old) (state S.Store conn.new) result }
+        → FaultsHaveCause (state S.Store conn.old) (state S.Store conn.new) result }
 {
     let mut keys = List::new(alloc);
     for number in numbers {
@@ -180,7 +180,7 @@ pub fn values<S: Alter>(
 ) -> Result<Option<UnitValues>, StoreFault>
     requires inside { InOffice (state S.Store conn.old) }
     requires small { IsNumber unit }
-    ensures tells { Tells S.Store ShowsValues IsKept conn.old conn.new result KnowsItsContainers
+    ensures tells { Answers S.Store RepresentsValues IsKept conn.old conn.new result KnowsItsContainers
         (λ _ c found. found ≡ values_of unit c) }
 {
     let mut levels = levels_of(alloc, conn, unit)?;

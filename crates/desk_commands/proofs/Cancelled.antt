@@ -10,7 +10,7 @@ use Rattle.desk_core.specs.DeskRows.{OrderRow, with_state}
 use Rattle.desk_core.specs.declared.refusal.Refusal.TheVariants.{OrderNotWaiting, UnknownOrder}
 use Rattle.desk_store.specs.Orders.{with_order_state}
 use Rattle.desk_store.specs.Orders as store
-use Rattle.desk_store.specs.Shows.{ShowsDesk}
+use Rattle.desk_store.specs.Represents.{RepresentsDesk}
 use Rattle.desk_store.specs.declared.orders.OrderState.{OrderState}
 use Rattle.desk_store.specs.declared.orders.OrderState.TheVariants as states
 use Rattle.office_core.specs.Laws.{Standing, standing}
@@ -24,24 +24,24 @@ use Rattle.office_core.specs.declared.command.Command.TheVariants as command
 use Rattle.office_core.specs.declared.done.Done.TheVariants as done
 use Rattle.office_core.proofs.Filed.{is_cancelled, only_cancels}
 use Rattle.office_core.proofs.OrderLaws.{stands_past}
-use Rattle.office_rows.specs.DeskShown.{order_rows, state_number}
-use Rattle.office_rows.specs.Reading.{tables}
-use Rattle.office_rows.proofs.TableLaws.{rows_moved}
+use Rattle.state_encoding.specs.DeskShown.{order_rows, state_number}
+use Rattle.state_encoding.specs.Reading.{tables}
+use Rattle.state_encoding.proofs.TableLaws.{rows_moved}
 use Rattle.office_tables.specs.Schema as schema
 use Rattle.office_tables.specs.Step.{OnlyTouches}
-use Rattle.shown_office.specs.Doing.{DoesStep}
-use Rattle.shown_office.specs.Shown.{ShowsState}
-use Rattle.shown_office.proofs.CommandSteps.{accepts, refuses}
-use Rattle.shown_office.proofs.OrderRows.{waits_by_row}
+use Rattle.refinement.specs.CommandSteps.{CarriesOutStep}
+use Rattle.refinement.specs.Represents.{RepresentsState}
+use Rattle.refinement.proofs.CommandSteps.{accepts, refuses}
+use Rattle.refinement.proofs.OrderRows.{waits_by_row}
 
 module _ (places : Trees → Forest ℕ → Type 0) (version : Version) (s : State) (o : ℕ) where
   abbrev asked : Command
   asked = command.Cancel o
 
-  pub unknown_order : (db : Database) → is_some (container_of s o) ≡ false → DoesStep places version s asked (Err UnknownOrder) db
+  pub unknown_order : (db : Database) → is_some (container_of s o) ≡ false → CarriesOutStep places version s asked (Err UnknownOrder) db
   unknown_order db unknown = let why : refusal s asked ≡ Some UnknownOrder = rw unknown refl in refuses places version s asked db UnknownOrder why
 
-  pub not_waiting : (db : Database) → is_some (container_of s o) ≡ true → waits s o ≡ false → DoesStep places version s asked (Err OrderNotWaiting) db
+  pub not_waiting : (db : Database) → is_some (container_of s o) ≡ true → waits s o ≡ false → CarriesOutStep places version s asked (Err OrderNotWaiting) db
   not_waiting db known not_so = let why : refusal s asked ≡ Some OrderNotWaiting = rw (known, not_so) refl in refuses places version s asked db OrderNotWaiting why
 
   -- the state of the row tells whether the order waits
@@ -56,11 +56,11 @@ module _ (places : Trees → Forest ℕ → Type 0) (version : Version) (s : Sta
       (stands_past (container_of t o) (λ k. stands o (t.queue k)) (λ k. is_out_for o (t.place k)) (t.past o) c Cancelled (is_cancelled s o c sound.sound.desk.filed is waiting))
 
   pub cancels : IsSoundOffice s → ((old new : Trees) (f : Forest ℕ) → new schema.link.tree ≡ old schema.link.tree → places old f → places new f)
-      → (before now : Database) → waits s o ≡ true → ShowsState places version before s → now.schema ≡ before.schema → OnlyTouches (schema.orders.tree ∷ []) before now
-      → ShowsDesk now.trees (with_order_state o states.Cancelled (tables version s).desk) → DoesStep places version s asked (Ok (done.Cancel o)) now
+      → (before now : Database) → waits s o ≡ true → RepresentsState places version before s → now.schema ≡ before.schema → OnlyTouches (schema.orders.tree ∷ []) before now
+      → RepresentsDesk now.trees (with_order_state o states.Cancelled (tables version s).desk) → CarriesOutStep places version s asked (Ok (done.Cancel o)) now
   cancels sound same before now waiting it schema_is only shown = at (container_of s o) refl waiting
     where
-      at : (container : Option ℕ) → container_of s o ≡ container → some_and (λ c. stands o (s.queue c)) container ≡ true → DoesStep places version s asked (Ok (done.Cancel o)) now
+      at : (container : Option ℕ) → container_of s o ≡ container → some_and (λ c. stands o (s.queue c)) container ≡ true → CarriesOutStep places version s asked (Ok (done.Cancel o)) now
       at None is w = absurd (false≢true w)
       at (Some c) is w =
           let known : is_some (container_of s o) ≡ true = ap is_some is in

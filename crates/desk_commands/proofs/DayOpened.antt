@@ -8,9 +8,9 @@ use Rattle.tree_core.specs.Forest.{Forest}
 use Rattle.tree_core.specs.Versions.{Version, version_number}
 use Rattle.desk_core.specs.DeskRows.{SeatRow}
 use Rattle.desk_core.specs.declared.refusal.Refusal.TheVariants.{StillIssued}
-use Rattle.desk_store.specs.Opening.{House, ShowsHouse, opened}
+use Rattle.desk_store.specs.Opening.{House, RepresentsBoth, opened}
 use Rattle.desk_store.specs.Seats.{all_free}
-use Rattle.desk_store.specs.Shows.{ShowsDesk}
+use Rattle.desk_store.specs.Represents.{RepresentsDesk}
 use Rattle.office_core.specs.Rules.{Reply, after, refusal}
 use Rattle.office_core.specs.SoundOffice.{AreTexts}
 use Rattle.office_core.specs.State.{State, containers, is_out}
@@ -18,14 +18,14 @@ use Rattle.office_core.specs.declared.command.Command.{Command}
 use Rattle.office_core.specs.declared.command.Command.TheVariants as command
 use Rattle.office_core.specs.declared.done.Done.TheVariants as done
 use Rattle.office_core.proofs.Texts.{always_texts}
-use Rattle.office_rows.specs.Reading.{tables}
+use Rattle.state_encoding.specs.Reading.{tables}
 use Rattle.office_tables.specs.Schema as schema
 use Rattle.office_tables.specs.Step.{OnlyTouches}
-use Rattle.shown_office.specs.Doing.{DoesStep}
-use Rattle.shown_office.specs.Shown.{ShowsState, office_of}
-use Rattle.shown_office.proofs.Doings.{accepted, refused}
-use Rattle.shown_office.proofs.Frames.{catalogue_with_office}
-use Rattle.shown_office.proofs.EmptySeats.{none_seated}
+use Rattle.refinement.specs.CommandSteps.{CarriesOutStep}
+use Rattle.refinement.specs.Represents.{RepresentsState, office_of}
+use Rattle.refinement.proofs.Doings.{accepted, refused}
+use Rattle.refinement.proofs.Frames.{catalogue_with_office}
+use Rattle.refinement.proofs.EmptySeats.{none_seated}
 
 -- the desk of a state, and what the office's own row tells
 abbrev pub house_of : Version → State → House
@@ -44,7 +44,7 @@ house_of version s = record {
   desk = (tables version s).desk;
 }
 
-pub shows_house : (places : Trees → Forest ℕ → Type 0) (version : Version) (db : Database) (s : State) → ShowsState places version db s → ShowsHouse db tt (house_of version s)
+pub shows_house : (places : Trees → Forest ℕ → Type 0) (version : Version) (db : Database) (s : State) → RepresentsState places version db s → RepresentsBoth db tt (house_of version s)
 shows_house places version db s it = record { office = it.catalogue.catalogue.office; desk = it.desk }
 
 module _ (version : Version) (s : State) (day : ℤ) (later : int_lt s.day day ≡ true) where
@@ -63,23 +63,23 @@ module _ (version : Version) (s : State) (day : ℤ) (later : int_lt s.day day �
   is_refused : list_any (is_out s) (containers s) ≡ true → refusal s asked ≡ Some StillIssued
   is_refused some = rw (later, some) refl
 
-  pub refuses_day : (places : Trees → Forest ℕ → Type 0) (db : Database) → list_any (is_out s) (containers s) ≡ true → DoesStep places version s asked (Err StillIssued) db
+  pub refuses_day : (places : Trees → Forest ℕ → Type 0) (db : Database) → list_any (is_out s) (containers s) ≡ true → CarriesOutStep places version s asked (Err StillIssued) db
   refuses_day places db some = record {
     told = sym (ap (λ (p : State × Reply). p.1) (refused s asked StillIssued (is_refused some)));
-    shows = λ ok. absurd (cc);
+    represents = λ ok. absurd (cc);
   }
 
   pub opens_day : (places : Trees → Forest ℕ → Type 0) → ((old new : Trees) (f : Forest ℕ) → new schema.link.tree ≡ old schema.link.tree → places old f → places new f)
-      → (before now : Database) → list_any (is_out s) (containers s) ≡ false → ShowsState places version before s → now.schema ≡ before.schema
-      → OnlyTouches (schema.seat.tree ∷ schema.office.tree ∷ []) before now → ShowsHouse now tt (opened day (house_of version s)) → DoesStep places version s asked (Ok (done.OpenDay day)) now
+      → (before now : Database) → list_any (is_out s) (containers s) ≡ false → RepresentsState places version before s → now.schema ≡ before.schema
+      → OnlyTouches (schema.seat.tree ∷ schema.office.tree ∷ []) before now → RepresentsBoth now tt (opened day (house_of version s)) → CarriesOutStep places version s asked (Ok (done.OpenDay day)) now
   opens_day places same before now none it schema_is only house =
       let one = accepted s asked (not_refused none) in
       let texts = always_texts s (asked ∷ []) (tt, tt) it.texts in
       record {
         told = sym (ap (λ (p : State × Reply). p.1) one);
-        shows = λ ok. subst (ShowsState places version now) (sym (ap (λ (p : State × Reply). p.0) one)) (record {
+        represents = λ ok. subst (RepresentsState places version now) (sym (ap (λ (p : State × Reply). p.0) one)) (record {
           catalogue = catalogue_with_office before now (schema.seat.tree ∷ schema.office.tree ∷ []) only places same version (office_of s) (office_of next) s.catalogue refl schema_is house.office refl it.catalogue;
-          desk = subst (ShowsDesk now.trees) (sym desk_after) house.desk;
+          desk = subst (RepresentsDesk now.trees) (sym desk_after) house.desk;
           texts = subst (λ (p : State × Reply). AreTexts p.0) one texts;
         });
       }

@@ -20,8 +20,8 @@ use Rattle.desk_core.specs.declared.reader.Reader.{Reader as Sitter}
 use Rattle.desk_core.specs.declared.refusal.Refusal.{Refusal}
 use Rattle.desk_core.specs.declared.refusal.Refusal.TheVariants.{NotAtDesk, NotFirst, UnknownContainer}
 use Rattle.desk_store.specs.Readers.{card_of}
-use Rattle.desk_store.specs.Shows.{ShowsDesk}
-use Rattle.desk_store.specs.declared.cards.ReaderCard.{ReaderCard}
+use Rattle.desk_store.specs.Represents.{RepresentsDesk}
+use Rattle.desk_store.specs.declared.reader_summary.ReaderCard.{ReaderCard}
 use Rattle.desk_store.specs.declared.orders.OrderState.TheVariants as states
 use Rattle.desk_store.specs.declared.orders.WaitingOrder.{WaitingOrder}
 use Rattle.office_core.specs.Laws.{Standing}
@@ -37,19 +37,19 @@ use Rattle.office_core.proofs.Filed.{is_issued, only_issues, waiting, waits_with
 use Rattle.office_core.proofs.OrderLaws.{stands_out}
 use Rattle.office_core.proofs.Steps.{held_so, passes}
 use Rattle.office_core.proofs.Words.{same_number}
-use Rattle.office_rows.specs.DeskShown.{order_rows, state_number}
-use Rattle.office_rows.specs.Reading.{tables}
-use Rattle.office_rows.proofs.TableLaws.{rows_moved}
+use Rattle.state_encoding.specs.DeskShown.{order_rows, state_number}
+use Rattle.state_encoding.specs.Reading.{tables}
+use Rattle.state_encoding.proofs.TableLaws.{rows_moved}
 use Rattle.office_tables.specs.Schema as schema
 use Rattle.office_tables.specs.Step.{OnlyTouches}
-use Rattle.shown_office.specs.Allowed.{limits_of}
-use Rattle.shown_office.specs.Doing.{DoesStep}
-use Rattle.shown_office.specs.Shown.{ShowsState}
-use Rattle.shown_office.specs.Sitters.{sitter, sitter_of}
-use Rattle.shown_office.proofs.CardsShown.{sitter_shown}
-use Rattle.shown_office.proofs.CommandSteps.{accepts, refuses}
-use Rattle.shown_office.proofs.HoldingRows.{place_after}
-use Rattle.shown_office.proofs.SeatsShown.{some_placed}
+use Rattle.refinement.specs.Allowed.{limits_of}
+use Rattle.refinement.specs.CommandSteps.{CarriesOutStep}
+use Rattle.refinement.specs.Represents.{RepresentsState}
+use Rattle.refinement.specs.Sitters.{sitter, sitter_of}
+use Rattle.refinement.proofs.CardsShown.{sitter_shown}
+use Rattle.refinement.proofs.CommandSteps.{accepts, refuses}
+use Rattle.refinement.proofs.HoldingRows.{place_after}
+use Rattle.refinement.proofs.SeatsShown.{some_placed}
 use Rattle.desk_commands.specs.Lending.{IsQueuedFor, asked_for, first_waiting}
 use Rattle.desk_commands.specs.Moving.{handed_over}
 use Rattle.desk_commands.proofs.QueueTold.{waiter}
@@ -176,7 +176,7 @@ module _ (places : Trees → Forest ℕ → Type 0) (version : Version) (s : Sta
   abbrev asked : Command
   asked = command.Issue c t
 
-  pub nothing_to_issue : (db : Database) → is_container s c ≡ false → DoesStep places version s asked (Err UnknownContainer) db
+  pub nothing_to_issue : (db : Database) → is_container s c ≡ false → CarriesOutStep places version s asked (Err UnknownContainer) db
   nothing_to_issue db unknown = let why : refusal s asked ≡ Some UnknownContainer = rw unknown refl in refuses places version s asked db UnknownContainer why
 
   rows_after : IsSoundOffice s → (o : ℕ) (os : List ℕ) → s.queue c ≡ o ∷ os → is_desk (s.place c) ≡ true → order_rows (issued s c (o ∷ os)) ≡ with_state o 2 (order_rows s)
@@ -187,12 +187,12 @@ module _ (places : Trees → Forest ℕ → Type 0) (version : Version) (s : Sta
       (stands_out (container_of u o) (λ k. stands o (u.queue k)) (λ k. is_out_for o (u.place k)) (u.past o) c (is_issued s c o os is sound.sound.desk.filed))
 
   pub issues : IsSoundOffice s → ((old new : Trees) (f : Forest ℕ) → new schema.link.tree ≡ old schema.link.tree → places old f → places new f)
-      → (before now : Database) (o : ℕ) → refusal s asked ≡ None → first (s.queue c) ≡ Some o → ShowsState places version before s → now.schema ≡ before.schema
-      → OnlyTouches (schema.orders.tree ∷ schema.holding.tree ∷ []) before now → ShowsDesk now.trees (handed_over c (Out o) o states.Out (tables version s).desk)
-      → DoesStep places version s asked (Ok (done.Issue o)) now
+      → (before now : Database) (o : ℕ) → refusal s asked ≡ None → first (s.queue c) ≡ Some o → RepresentsState places version before s → now.schema ≡ before.schema
+      → OnlyTouches (schema.orders.tree ∷ schema.holding.tree ∷ []) before now → RepresentsDesk now.trees (handed_over c (Out o) o states.Out (tables version s).desk)
+      → CarriesOutStep places version s asked (Ok (done.Issue o)) now
   issues sound same before now o why head it schema_is only shown = at (s.queue c) refl head
     where
-      at : (q : List ℕ) → s.queue c ≡ q → first q ≡ Some o → DoesStep places version s asked (Ok (done.Issue o)) now
+      at : (q : List ℕ) → s.queue c ≡ q → first q ≡ Some o → CarriesOutStep places version s asked (Ok (done.Issue o)) now
       at [] is h = absurd (cc)
       at (p ∷ os) is h =
           let one : p ≡ o = cc in

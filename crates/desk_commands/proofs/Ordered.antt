@@ -16,8 +16,8 @@ use Rattle.desk_core.specs.declared.reader.Limits.{Limits}
 use Rattle.desk_core.specs.declared.refusal.Refusal.{Refusal}
 use Rattle.desk_core.specs.declared.refusal.Refusal.TheVariants.{UnknownTicket}
 use Rattle.desk_store.specs.Orders.{IsNextOrder, with_order}
-use Rattle.desk_store.specs.Shows.{ShowsDesk}
-use Rattle.desk_store.specs.declared.cards.ReaderCard.{ReaderCard}
+use Rattle.desk_store.specs.Represents.{RepresentsDesk}
+use Rattle.desk_store.specs.declared.reader_summary.ReaderCard.{ReaderCard}
 use Rattle.office_core.specs.Laws.{Waiting, standing}
 use Rattle.office_core.specs.Rules.{after, checks, ordered, refusal}
 use Rattle.office_core.specs.SoundDesk.{is_out_for}
@@ -29,19 +29,19 @@ use Rattle.office_core.specs.declared.done.Done.TheVariants as done
 use Rattle.office_core.proofs.Filed.{is_ordered, only_orders}
 use Rattle.office_core.proofs.OrderLaws.{goes_same, stands_waiting}
 use Rattle.office_core.proofs.Steps.{held_not, passes}
-use Rattle.office_rows.specs.DeskShown.{order_row, order_rows, rows_from, state_number}
-use Rattle.office_rows.specs.Reading.{tables}
-use Rattle.office_rows.proofs.NumberedRows.{length-rows}
+use Rattle.state_encoding.specs.DeskShown.{order_row, order_rows, rows_from, state_number}
+use Rattle.state_encoding.specs.Reading.{tables}
+use Rattle.state_encoding.proofs.NumberedRows.{length-rows}
 use Rattle.office_tables.specs.Schema as schema
 use Rattle.office_tables.specs.Step.{OnlyTouches}
-use Rattle.shown_office.specs.Allowed.{limits_of}
-use Rattle.shown_office.specs.Doing.{DoesStep}
-use Rattle.shown_office.specs.Shown.{ShowsState}
-use Rattle.shown_office.proofs.CardsShown.{card, card_shown}
-use Rattle.shown_office.proofs.CommandSteps.{accepts}
-use Rattle.shown_office.proofs.Judged.{judged_now}
-use Rattle.shown_office.proofs.OpenByRows.{opens_none}
-use Rattle.shown_office.proofs.OrdersShown.{ordered_shown}
+use Rattle.refinement.specs.Allowed.{limits_of}
+use Rattle.refinement.specs.CommandSteps.{CarriesOutStep}
+use Rattle.refinement.specs.Represents.{RepresentsState}
+use Rattle.refinement.proofs.CardsShown.{card, card_shown}
+use Rattle.refinement.proofs.CommandSteps.{accepts}
+use Rattle.refinement.proofs.Judged.{judged_now}
+use Rattle.refinement.proofs.OpenByRows.{opens_none}
+use Rattle.refinement.proofs.OrdersShown.{ordered_shown}
 use Rattle.desk_commands.specs.Placing.{IsCardOf, MayOrder, ask_of}
 use Rattle.desk_commands.proofs.Registered.{rows_end}
 
@@ -157,10 +157,10 @@ module _ (version : Version) (s : State) (sound : IsSoundOffice s) (t c : ℕ) w
       (omega (arith, few, many), number ∙ ap suc (sym many))
 
   pub orders : (places : Trees → Forest ℕ → Type 0) → ((old new : Trees) (f : Forest ℕ) → new schema.link.tree ≡ old schema.link.tree → places old f → places new f)
-      → (before now : Database) → ShowsState places version before s → now.schema ≡ before.schema → OnlyTouches (schema.orders.tree ∷ []) before now
-      → (order : ℕ) (today : ℤ) → MayOrder s t c order today → ShowsDesk now.trees (with_order t c today (tables version s).desk) → DoesStep places version s (command.Order t c) (Ok (done.Order order)) now
+      → (before now : Database) → RepresentsState places version before s → now.schema ≡ before.schema → OnlyTouches (schema.orders.tree ∷ []) before now
+      → (order : ℕ) (today : ℤ) → MayOrder s t c order today → RepresentsDesk now.trees (with_order t c today (tables version s).desk) → CarriesOutStep places version s (command.Order t c) (Ok (done.Order order)) now
   orders places same before now it schema_is only order today may shown =
       accepts places version s (command.Order t c) same before now (schema.orders.tree ∷ []) refl may.allowed tt it schema_is only
-      (after s (command.Order t c)) refl refl refl (with_order t c s.day (tables version s).desk) (subst (λ d. ShowsDesk now.trees (with_order t c d (tables version s).desk)) may.day shown)
+      (after s (command.Order t c)) refl refl refl (with_order t c s.day (tables version s).desk) (subst (λ d. RepresentsDesk now.trees (with_order t c d (tables version s).desk)) may.day shown)
       (ap (λ (rows : List OrderRow). record (tables version s).desk { orders = rows }) rows_after)
       (done.Order order) (ap done.Order (sym may.number))

@@ -18,11 +18,11 @@ use Rattle.tree_core.specs.Versions.{Version}
 use Rattle.catalogue_core.specs.Finding.{has_unit}
 use Rattle.catalogue_core.specs.Units.{Unit, has_id}
 use Rattle.catalogue_core.specs.Members.{StandsIn}
-use Rattle.catalogue_rows.specs.Rows.{unit_row}
+use Rattle.catalogue_statements.specs.Rows.{unit_row}
 use Rattle.desk_core.specs.declared.refusal.Refusal.TheVariants.{Full, UnknownTicket, UnknownUnit}
 use Rattle.desk_store.specs.Permits.{HasUnitRow, MayHave, by_unit, permits_of, with_permit}
-use Rattle.desk_store.specs.Shows.{ShowsDesk}
-use Rattle.desk_store.specs.declared.granting.Permit.{Permit as Told}
+use Rattle.desk_store.specs.Represents.{RepresentsDesk}
+use Rattle.desk_store.specs.declared.reader_permits.Permit.{Permit as Told}
 use Rattle.office_core.specs.Rules.{after, checks, refusal}
 use Rattle.office_core.specs.SoundDesk.{ByUnit}
 use Rattle.office_core.specs.SoundOffice.{IsSoundOffice}
@@ -32,19 +32,19 @@ use Rattle.office_core.specs.declared.done.Done.TheVariants as done
 use Rattle.office_core.proofs.Counts.{numbered_from_one}
 use Rattle.office_core.proofs.Steps.{held_so, passes}
 use Rattle.office_core.proofs.Words.{numbered_within}
-use Rattle.office_rows.specs.DeskShown.{permit_rows, reader_row}
-use Rattle.office_rows.specs.Reading.{tables}
-use Rattle.office_rows.proofs.Members.{some_in}
-use Rattle.office_rows.proofs.NumberedRows.{length-rows}
+use Rattle.state_encoding.specs.DeskShown.{permit_rows, reader_row}
+use Rattle.state_encoding.specs.Reading.{tables}
+use Rattle.state_encoding.proofs.Members.{some_in}
+use Rattle.state_encoding.proofs.NumberedRows.{length-rows}
 use Rattle.office_tables.specs.Order.{IsOrdered, Rises}
 use Rattle.office_tables.specs.Schema as schema
 use Rattle.office_tables.specs.Step.{OnlyTouches}
 use Rattle.office_tables.proofs.Sorted.{only_order}
 use Rattle.office_tables.proofs.numbered.Counted.{below_less}
-use Rattle.shown_office.specs.Doing.{DoesStep}
-use Rattle.shown_office.specs.Shown.{ShowsState}
-use Rattle.shown_office.proofs.CommandSteps.{accepts}
-use Rattle.shown_office.proofs.PermitsShown.{granted_rows, permits_reordered, permits_shown, told_of}
+use Rattle.refinement.specs.CommandSteps.{CarriesOutStep}
+use Rattle.refinement.specs.Represents.{RepresentsState}
+use Rattle.refinement.proofs.CommandSteps.{accepts}
+use Rattle.refinement.proofs.PermitsShown.{granted_rows, permits_reordered, permits_shown, told_of}
 use Rattle.desk_commands.specs.Permitting.{MayPermit, later_of, until_for}
 
 -- ---- the permits that are read
@@ -120,14 +120,14 @@ has_number f key is u (y ∷ ys) x there same = elim there [
   | inr later ↦ let found = has_number f key is u ys x later same in (found.0, inr found.1, found.2)
 ]
 
-has_unit_row : (places : Trees → Forest ℕ → Type 0) (version : Version) (s : State) (db : Database) (u : ℕ) → ShowsState places version db s → has_unit s.catalogue.forest u ≡ true → HasUnitRow u db.trees
+has_unit_row : (places : Trees → Forest ℕ → Type 0) (version : Version) (s : State) (db : Database) (u : ℕ) → RepresentsState places version db s → has_unit s.catalogue.forest u ≡ true → HasUnitRow u db.trees
 has_unit_row places version s db u it there =
     let shown = it.catalogue.catalogue.units in
     let found = some_in (has_id u) shown.units (sym (list_any-IsPermutation (has_id u) (nodes s.catalogue.forest) shown.units shown.are) ∙ there) in
     subst (λ (rows : List Row). HasUnitRow u (λ _. rows)) (sym shown.rows) (has_number unit_row (λ (x : Unit). x.id) (λ x. refl) u shown.units found.0 found.1 found.2)
 
 module _ (version : Version) (s : State) (sound : IsSoundOffice s) (t u : ℕ) (asked until : ℤ) (may : MayPermit s t u asked until) where
-  pub may_have : (places : Trees → Forest ℕ → Type 0) (db : Database) → ShowsState places version db s → MayHave t u db.trees (tables version s).desk
+  pub may_have : (places : Trees → Forest ℕ → Type 0) (db : Database) → RepresentsState places version db s → MayHave t u db.trees (tables version s).desk
   may_have places db it =
       let ok = passes (checks s (command.Permit t u asked)) may.allowed in
       let known = held_so (is_ticket s t) _ ok.0 in
@@ -136,13 +136,13 @@ module _ (version : Version) (s : State) (sound : IsSoundOffice s) (t u : ℕ) (
       ((numbered_from_one s.readers t known, omega (arith, within, many)), has_unit_row places version s db u it (held_so (has_unit s.catalogue.forest u) _ ok.1.0))
 
   pub permits : (places : Trees → Forest ℕ → Type 0) → ((old new : Trees) (f : Forest ℕ) → new schema.link.tree ≡ old schema.link.tree → places old f → places new f)
-      → (before now : Database) → ShowsState places version before s → now.schema ≡ before.schema → OnlyTouches (schema.permit.tree ∷ []) before now
-      → ShowsDesk now.trees (with_permit t u until (tables version s).desk) → DoesStep places version s (command.Permit t u asked) (Ok (done.Permit t u until)) now
+      → (before now : Database) → RepresentsState places version before s → now.schema ≡ before.schema → OnlyTouches (schema.permit.tree ∷ []) before now
+      → RepresentsDesk now.trees (with_permit t u until (tables version s).desk) → CarriesOutStep places version s (command.Permit t u asked) (Ok (done.Permit t u until)) now
   permits places same before now it schema_is only shown =
       let next = after s (command.Permit t u asked) in
       let known = held_so (is_ticket s t) _ (passes (checks s (command.Permit t u asked)) may.allowed).0 in
       let reordered = granted_rows s t u asked sound.sound.desk.permits (numbered_from_one s.readers t known) (numbered_within s.readers t known) in
-      let stands = subst (λ day. ShowsDesk now.trees (with_permit t u day (tables version s).desk)) may.stands shown in
+      let stands = subst (λ day. RepresentsDesk now.trees (with_permit t u day (tables version s).desk)) may.stands shown in
       accepts places version s (command.Permit t u asked) same before now (schema.permit.tree ∷ []) refl may.allowed tt it schema_is only
       next refl refl refl (tables version next).desk
       (permits_reordered now.trees (with_permit t u (granted_until u asked (s.permits t)) (tables version s).desk) (permit_rows next) reordered stands)

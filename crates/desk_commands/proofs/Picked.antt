@@ -16,13 +16,13 @@ use Rattle.office_core.specs.State.{Order, State, is_due, is_shelf, opens}
 use Rattle.office_core.specs.Words.{first, numbers_to, some_and, stands}
 use Rattle.office_core.specs.Laws.{numbers_from}
 use Rattle.office_core.proofs.Words.{below_none}
-use Rattle.office_rows.specs.DeskShown.{holding_rows, order_row, order_rows, place_from, place_in, rows_from}
-use Rattle.office_rows.specs.Reading.{tables}
-use Rattle.office_rows.proofs.DeskLookups.{flipped}
-use Rattle.office_rows.proofs.Members.{any_same, to_from}
-use Rattle.office_rows.proofs.NumberedRows.{in_rows}
-use Rattle.office_rows.proofs.TableLaws.{reads_back}
-use Rattle.shown_office.proofs.OrderRows.{waits_by_row}
+use Rattle.state_encoding.specs.DeskShown.{holding_rows, order_row, order_rows, place_from, place_in, rows_from}
+use Rattle.state_encoding.specs.Reading.{tables}
+use Rattle.state_encoding.proofs.DeskLookups.{flipped}
+use Rattle.state_encoding.proofs.Members.{any_same, to_from}
+use Rattle.state_encoding.proofs.NumberedRows.{in_rows}
+use Rattle.state_encoding.proofs.TableLaws.{reads_back}
+use Rattle.refinement.proofs.OrderRows.{waits_by_row}
 use Rattle.tree_core.specs.Versions.{Version}
 
 -- ---- a container without a row is on the shelf

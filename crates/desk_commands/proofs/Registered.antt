@@ -13,7 +13,7 @@ use Rattle.tree_core.specs.Versions.{Version}
 use Rattle.desk_core.specs.DeskRows.{Desk, PermitRow, ReaderRow}
 use Rattle.desk_core.specs.declared.refusal.Refusal.TheVariants.{Full}
 use Rattle.desk_store.specs.Readers.{next_ticket, with_reader}
-use Rattle.desk_store.specs.Shows.{ShowsDesk}
+use Rattle.desk_store.specs.Represents.{RepresentsDesk}
 use Rattle.office_core.specs.Words.{numbered, numbers_to}
 use Rattle.office_core.specs.State.{State, Reader}
 use Rattle.office_core.specs.Rules.{is_name, after, refusal, Reply}
@@ -22,15 +22,15 @@ use Rattle.office_core.specs.declared.command.Command.{Command}
 use Rattle.office_core.specs.declared.command.Command.TheVariants as command
 use Rattle.office_core.specs.declared.done.Done.TheVariants as done
 use Rattle.office_core.proofs.Texts.{always_texts}
-use Rattle.office_rows.specs.DeskShown.{rows_from, reader_row, permit_row, permit_rows}
-use Rattle.office_rows.specs.Reading.{tables}
-use Rattle.office_rows.proofs.NumberedRows.{length-rows}
+use Rattle.state_encoding.specs.DeskShown.{rows_from, reader_row, permit_row, permit_rows}
+use Rattle.state_encoding.specs.Reading.{tables}
+use Rattle.state_encoding.proofs.NumberedRows.{length-rows}
 use Rattle.office_tables.specs.Schema as schema
 use Rattle.office_tables.specs.Step.{OnlyTouches}
-use Rattle.shown_office.specs.Doing.{DoesStep}
-use Rattle.shown_office.specs.Shown.{ShowsState}
-use Rattle.shown_office.proofs.DeskSteps.{desk_step}
-use Rattle.shown_office.proofs.Doings.{accepted, refused}
+use Rattle.refinement.specs.CommandSteps.{CarriesOutStep}
+use Rattle.refinement.specs.Represents.{RepresentsState}
+use Rattle.refinement.proofs.DeskSteps.{desk_step}
+use Rattle.refinement.proofs.Doings.{accepted, refused}
 
 rows_more : {X Y : Type 0} (row : ℕ → X → Y) (n : ℕ) (xs : List X) (x : X) → rows_from row n (xs ++ x ∷ []) ≡ rows_from row n xs ++ row (n + length xs) x ∷ []
 rows_more row n [] x = ap (λ k. row k x ∷ []) (let e : n ≡ n + 0 = omega arith in e)
@@ -95,26 +95,26 @@ module _ (version : Version) (s : State) (sound : IsSoundOffice s) (name : Bytes
   not_refused named room = rw (named, room) refl
 
   pub registers : (places : Trees → Forest ℕ → Type 0) → ((old new : Trees) (f : Forest ℕ) → new schema.link.tree ≡ old schema.link.tree → places old f → places new f) → (before later : Database)
-      → is_name name ≡ true → IsUtf8 name → ShowsState places version before s → later.schema ≡ before.schema → OnlyTouches (schema.reader.tree ∷ []) before later
-      → (ticket : Option ℕ) → ticket ≡ next_ticket desk → ShowsDesk later.trees (with_reader (next_ticket desk) name until desk) → DoesStep places version s asked (reply_for ticket) later
+      → is_name name ≡ true → IsUtf8 name → RepresentsState places version before s → later.schema ≡ before.schema → OnlyTouches (schema.reader.tree ∷ []) before later
+      → (ticket : Option ℕ) → ticket ≡ next_ticket desk → RepresentsDesk later.trees (with_reader (next_ticket desk) name until desk) → CarriesOutStep places version s asked (reply_for ticket) later
   registers places same before later named utf8 it schema_is only ticket is shown = at (nat_le most_tickets (length s.readers)) refl
     where
-      at : (b : Bool) → nat_le most_tickets (length s.readers) ≡ b → DoesStep places version s asked (reply_for ticket) later
+      at : (b : Bool) → nat_le most_tickets (length s.readers) ≡ b → CarriesOutStep places version s asked (reply_for ticket) later
       at true e =
           let none = is ∙ next_is true e in
           let one = refused s asked Full (refused_full named e) in
           record {
             told = ap reply_for none ∙ sym (ap (λ (p : State × Reply). p.1) one);
-            shows = λ ok. absurd (let bad : IsOk (reply_for None) = subst (λ k. IsOk (reply_for k)) none ok in cc);
+            represents = λ ok. absurd (let bad : IsOk (reply_for None) = subst (λ k. IsOk (reply_for k)) none ok in cc);
           }
       at false e =
           let some = is ∙ next_is false e in
           let one = accepted s asked (not_refused named e) in
-          let made = subst (λ k. ShowsDesk later.trees (with_reader k name until desk)) (next_is false e) shown in
+          let made = subst (λ k. RepresentsDesk later.trees (with_reader k name until desk)) (next_is false e) shown in
           let texts = always_texts s (asked ∷ []) (utf8, tt) it.texts in
           record {
             told = ap reply_for some ∙ sym (ap (λ (p : State × Reply). p.1) one);
-            shows = λ ok. subst (ShowsState places version later) (sym (ap (λ (p : State × Reply). p.0) one))
+            represents = λ ok. subst (RepresentsState places version later) (sym (ap (λ (p : State × Reply). p.0) one))
                 (desk_step places same version s next before later (schema.reader.tree ∷ []) refl schema_is only it (with_reader (Some (suc (length s.readers))) name until desk) made desk_after refl refl
                 (subst (λ (p : State × Reply). Rattle.office_core.specs.SoundOffice.AreTexts p.0) one texts));
           }

@@ -11,7 +11,7 @@ use Rattle.desk_core.specs.DeskRows.{PermitRow, ReaderRow}
 use Rattle.desk_core.specs.declared.refusal.Refusal.TheVariants.{UnknownTicket}
 use Rattle.desk_store.specs.Readers.{card_of, with_last_day}
 use Rattle.desk_store.specs.Readers as store
-use Rattle.desk_store.specs.Shows.{ShowsDesk}
+use Rattle.desk_store.specs.Represents.{RepresentsDesk}
 use Rattle.office_core.specs.Rules.{Reply, after, refusal, renewed}
 use Rattle.office_core.specs.SoundOffice.{AreTexts}
 use Rattle.office_core.specs.State.{Reader, State, is_ticket}
@@ -21,15 +21,15 @@ use Rattle.office_core.specs.declared.command.Command.TheVariants as command
 use Rattle.office_core.specs.declared.done.Done.TheVariants as done
 use Rattle.office_core.proofs.Texts.{always_texts}
 use Rattle.office_core.proofs.Words.{same_number}
-use Rattle.office_rows.specs.DeskShown.{permit_row, permit_rows, reader_row, rows_from}
-use Rattle.office_rows.specs.Reading.{tables}
+use Rattle.state_encoding.specs.DeskShown.{permit_row, permit_rows, reader_row, rows_from}
+use Rattle.state_encoding.specs.Reading.{tables}
 use Rattle.office_tables.specs.Schema as schema
 use Rattle.office_tables.specs.Step.{OnlyTouches}
-use Rattle.shown_office.specs.Doing.{DoesStep}
-use Rattle.shown_office.specs.Shown.{ShowsState}
-use Rattle.shown_office.proofs.DeskSteps.{desk_step}
-use Rattle.shown_office.proofs.Doings.{accepted, refused}
-use Rattle.shown_office.proofs.RowsOfLists.{found_row}
+use Rattle.refinement.specs.CommandSteps.{CarriesOutStep}
+use Rattle.refinement.specs.Represents.{RepresentsState}
+use Rattle.refinement.proofs.DeskSteps.{desk_step}
+use Rattle.refinement.proofs.Doings.{accepted, refused}
+use Rattle.refinement.proofs.RowsOfLists.{found_row}
 
 other : (n j : ℕ) → nat_eq (n + suc j) n ≡ false
 other n j = grind (arith, nat_tests)
@@ -85,21 +85,21 @@ module _ (version : Version) (s : State) (t : ℕ) (until : ℤ) where
       ap (λ (rows : List ReaderRow). record (tables version next).desk { readers = rows }) (renewed_rows until t s.readers known)
       ∙ ap (λ (rows : List PermitRow). record (with_last_day t until (tables version s).desk) { permits = rows }) permits_same
 
-  pub not_known : (places : Trees → Forest ℕ → Type 0) (db : Database) → is_ticket s t ≡ false → DoesStep places version s asked (Err UnknownTicket) db
+  pub not_known : (places : Trees → Forest ℕ → Type 0) (db : Database) → is_ticket s t ≡ false → CarriesOutStep places version s asked (Err UnknownTicket) db
   not_known places db unknown =
       let why : refusal s asked ≡ Some UnknownTicket = rw unknown refl in
-      record { told = sym (ap (λ (p : State × Reply). p.1) (refused s asked UnknownTicket why)); shows = λ ok. absurd (cc) }
+      record { told = sym (ap (λ (p : State × Reply). p.1) (refused s asked UnknownTicket why)); represents = λ ok. absurd (cc) }
 
   pub renews : (places : Trees → Forest ℕ → Type 0) → ((old new : Trees) (f : Forest ℕ) → new schema.link.tree ≡ old schema.link.tree → places old f → places new f)
-      → (before now : Database) → is_ticket s t ≡ true → ShowsState places version before s → now.schema ≡ before.schema → OnlyTouches (schema.reader.tree ∷ []) before now
-      → ShowsDesk now.trees (with_last_day t until (tables version s).desk) → DoesStep places version s asked (Ok (done.Renew t)) now
+      → (before now : Database) → is_ticket s t ≡ true → RepresentsState places version before s → now.schema ≡ before.schema → OnlyTouches (schema.reader.tree ∷ []) before now
+      → RepresentsDesk now.trees (with_last_day t until (tables version s).desk) → CarriesOutStep places version s asked (Ok (done.Renew t)) now
   renews places same before now known it schema_is only shown =
       let why : refusal s asked ≡ None = rw known refl in
       let one = accepted s asked why in
       let texts = always_texts s (asked ∷ []) (tt, tt) it.texts in
       record {
         told = sym (ap (λ (p : State × Reply). p.1) one);
-        shows = λ ok. subst (ShowsState places version now) (sym (ap (λ (p : State × Reply). p.0) one))
+        represents = λ ok. subst (RepresentsState places version now) (sym (ap (λ (p : State × Reply). p.0) one))
             (desk_step places same version s next before now (schema.reader.tree ∷ []) refl schema_is only it (with_last_day t until (tables version s).desk) shown (desk_after known) refl refl
             (subst (λ (p : State × Reply). AreTexts p.0) one texts));
       }

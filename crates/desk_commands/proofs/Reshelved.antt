@@ -15,7 +15,7 @@ use Rattle.desk_core.specs.declared.reader.Place.{Place}
 use Rattle.desk_core.specs.declared.reader.Place.TheVariants.{Shelf, Desk, Out}
 use Rattle.desk_core.specs.declared.refusal.Refusal.TheVariants.{NothingToMove}
 use Rattle.desk_store.specs.Holdings.{at_desk_of, waits_for}
-use Rattle.desk_store.specs.Shows.{ShowsDesk}
+use Rattle.desk_store.specs.Represents.{RepresentsDesk}
 use Rattle.office_core.specs.Rules.{refusal, reshelved}
 use Rattle.office_core.specs.SoundDesk.{IsAscending}
 use Rattle.office_core.specs.SoundOffice.{IsSoundOffice}
@@ -26,17 +26,17 @@ use Rattle.office_core.specs.declared.done.Done.TheVariants as done
 use Rattle.office_core.proofs.Filed.{reshelved_out}
 use Rattle.office_core.proofs.OrderLaws.{goes_same}
 use Rattle.office_core.proofs.Words.{ascending-push}
-use Rattle.office_rows.specs.DeskShown.{holding_row, order_rows}
-use Rattle.office_rows.specs.Reading.{tables}
-use Rattle.office_rows.proofs.DeskLookups.{flipped}
-use Rattle.office_rows.proofs.Members.{all_of_in, any_same, in_filter, in_numbers}
-use Rattle.office_rows.proofs.TableLaws.{reads_back}
+use Rattle.state_encoding.specs.DeskShown.{holding_row, order_rows}
+use Rattle.state_encoding.specs.Reading.{tables}
+use Rattle.state_encoding.proofs.DeskLookups.{flipped}
+use Rattle.state_encoding.proofs.Members.{all_of_in, any_same, in_filter, in_numbers}
+use Rattle.state_encoding.proofs.TableLaws.{reads_back}
 use Rattle.office_tables.specs.Schema as schema
 use Rattle.office_tables.specs.Step.{OnlyTouches}
-use Rattle.shown_office.specs.Doing.{DoesStep}
-use Rattle.shown_office.specs.Shown.{ShowsState}
-use Rattle.shown_office.proofs.CommandSteps.{accepts, refuses}
-use Rattle.shown_office.proofs.HoldingRows.{rows_of}
+use Rattle.refinement.specs.CommandSteps.{CarriesOutStep}
+use Rattle.refinement.specs.Represents.{RepresentsState}
+use Rattle.refinement.proofs.CommandSteps.{accepts, refuses}
+use Rattle.refinement.proofs.HoldingRows.{rows_of}
 use Rattle.desk_commands.specs.Moving.{with_all_placed}
 use Rattle.desk_commands.proofs.MovedAll.{AreWithin, all_moved, rows_stay}
 
@@ -127,12 +127,12 @@ module _ (version : Version) (s : State) (sound : IsSoundOffice s) where
       all_of_in IsNumber (idle s) (λ c k. let within = (in_numbers (length s.catalogue.containers) c (in_filter (is_idle s) (containers s) c k).0).1 in omega (arith, within, few))
 
   module _ (places : Trees → Forest ℕ → Type 0) where
-    pub nothing_idle : (db : Database) → is_empty (idle s) ≡ true → DoesStep places version s command.Reshelve (Err NothingToMove) db
+    pub nothing_idle : (db : Database) → is_empty (idle s) ≡ true → CarriesOutStep places version s command.Reshelve (Err NothingToMove) db
     nothing_idle db none = let why : refusal s command.Reshelve ≡ Some NothingToMove = rw none refl in refuses places version s command.Reshelve db NothingToMove why
 
     pub reshelves : ((old new : Trees) (f : Forest ℕ) → new schema.link.tree ≡ old schema.link.tree → places old f → places new f)
-        → (before now : Database) → is_empty (idle s) ≡ false → ShowsState places version before s → now.schema ≡ before.schema → OnlyTouches (schema.holding.tree ∷ []) before now
-        → ShowsDesk now.trees (with_all_placed Shelf (idle s) (tables version s).desk) → DoesStep places version s command.Reshelve (Ok (done.Reshelve (idle s))) now
+        → (before now : Database) → is_empty (idle s) ≡ false → RepresentsState places version before s → now.schema ≡ before.schema → OnlyTouches (schema.holding.tree ∷ []) before now
+        → RepresentsDesk now.trees (with_all_placed Shelf (idle s) (tables version s).desk) → CarriesOutStep places version s command.Reshelve (Ok (done.Reshelve (idle s))) now
     reshelves same before now some it schema_is only shown =
         let why : refusal s command.Reshelve ≡ None = rw some refl in
         let t = reshelved s in

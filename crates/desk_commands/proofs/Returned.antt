@@ -10,7 +10,7 @@ use Rattle.desk_core.specs.DeskRows.{HoldingRow, OrderRow, with_state}
 use Rattle.desk_core.specs.declared.reader.Place.{Place}
 use Rattle.desk_core.specs.declared.reader.Place.TheVariants.{Shelf, Desk, Out}
 use Rattle.desk_core.specs.declared.refusal.Refusal.TheVariants.{NotIssued, UnknownContainer}
-use Rattle.desk_store.specs.Shows.{ShowsDesk}
+use Rattle.desk_store.specs.Represents.{RepresentsDesk}
 use Rattle.desk_store.specs.declared.orders.OrderState.TheVariants as states
 use Rattle.office_core.specs.Laws.{Standing}
 use Rattle.office_core.specs.Rules.{refusal, returned}
@@ -25,15 +25,15 @@ use Rattle.office_core.proofs.Filed.{is_returned, only_returns}
 use Rattle.office_core.proofs.OrderLaws.{stands_past}
 use Rattle.office_core.proofs.Places.{out_known, out_order}
 use Rattle.office_core.proofs.Words.{numbered_within}
-use Rattle.office_rows.specs.DeskShown.{order_rows, state_number}
-use Rattle.office_rows.specs.Reading.{tables}
-use Rattle.office_rows.proofs.TableLaws.{rows_moved}
+use Rattle.state_encoding.specs.DeskShown.{order_rows, state_number}
+use Rattle.state_encoding.specs.Reading.{tables}
+use Rattle.state_encoding.proofs.TableLaws.{rows_moved}
 use Rattle.office_tables.specs.Schema as schema
 use Rattle.office_tables.specs.Step.{OnlyTouches}
-use Rattle.shown_office.specs.Doing.{DoesStep}
-use Rattle.shown_office.specs.Shown.{ShowsState}
-use Rattle.shown_office.proofs.CommandSteps.{accepts, refuses}
-use Rattle.shown_office.proofs.HoldingRows.{place_after}
+use Rattle.refinement.specs.CommandSteps.{CarriesOutStep}
+use Rattle.refinement.specs.Represents.{RepresentsState}
+use Rattle.refinement.proofs.CommandSteps.{accepts, refuses}
+use Rattle.refinement.proofs.HoldingRows.{place_after}
 use Rattle.desk_commands.specs.Moving.{handed_over}
 
 -- the order that a container is out with is one of those that were placed
@@ -48,10 +48,10 @@ module _ (places : Trees → Forest ℕ → Type 0) (version : Version) (s : Sta
   abbrev asked : Command
   asked = command.Return c
 
-  pub unknown_container : (db : Database) → is_container s c ≡ false → DoesStep places version s asked (Err UnknownContainer) db
+  pub unknown_container : (db : Database) → is_container s c ≡ false → CarriesOutStep places version s asked (Err UnknownContainer) db
   unknown_container db unknown = let why : refusal s asked ≡ Some UnknownContainer = rw unknown refl in refuses places version s asked db UnknownContainer why
 
-  pub not_issued : (db : Database) → is_container s c ≡ true → is_out s c ≡ false → DoesStep places version s asked (Err NotIssued) db
+  pub not_issued : (db : Database) → is_container s c ≡ true → is_out s c ≡ false → CarriesOutStep places version s asked (Err NotIssued) db
   not_issued db known in_house = let why : refusal s asked ≡ Some NotIssued = rw (known, in_house) refl in refuses places version s asked db NotIssued why
 
   module _ (o : ℕ) (out : s.place c ≡ Out o) where
@@ -63,8 +63,8 @@ module _ (places : Trees → Forest ℕ → Type 0) (version : Version) (s : Sta
         (stands_past (container_of t o) (λ k. stands o (t.queue k)) (λ k. is_out_for o (t.place k)) (t.past o) c Done (is_returned s c o out sound.sound.desk.filed))
 
     pub returns_to_desk : IsSoundOffice s → ((old new : Trees) (f : Forest ℕ) → new schema.link.tree ≡ old schema.link.tree → places old f → places new f)
-        → (before now : Database) → ShowsState places version before s → now.schema ≡ before.schema → OnlyTouches (schema.orders.tree ∷ schema.holding.tree ∷ []) before now
-        → ShowsDesk now.trees (handed_over c Desk o states.Done (tables version s).desk) → DoesStep places version s asked (Ok (done.Return o)) now
+        → (before now : Database) → RepresentsState places version before s → now.schema ≡ before.schema → OnlyTouches (schema.orders.tree ∷ schema.holding.tree ∷ []) before now
+        → RepresentsDesk now.trees (handed_over c Desk o states.Done (tables version s).desk) → CarriesOutStep places version s asked (Ok (done.Return o)) now
     returns_to_desk sound same before now it schema_is only shown =
         let known : is_container s c ≡ true = out_known s c o sound.sound.desk.filed sound.sound.desk.orders (ap order_out out) in
         let is_away : is_out s c ≡ true = ap (λ p. is_some (order_out p)) out in

@@ -16,25 +16,25 @@ use Rattle.desk_core.specs.LegibleDesks.{IsLegible}
 use Rattle.desk_core.specs.Refusals.{first_that_holds}
 use Rattle.desk_core.specs.declared.refusal.Refusal.TheVariants.{NoPermit, UnknownTicket, UnknownUnit}
 use Rattle.desk_store.specs.Permits.{is_permit, revoked as without_it}
-use Rattle.desk_store.specs.Shows.{ShowsDesk}
+use Rattle.desk_store.specs.Represents.{RepresentsDesk}
 use Rattle.office_core.specs.Rules.{after, gate, refusal}
 use Rattle.office_core.specs.SoundOffice.{AreTexts, IsSoundOffice}
 use Rattle.office_core.specs.State.{Permit, State, has_permit, is_permitted, is_ticket, revoked}
 use Rattle.office_core.specs.Words.{put}
 use Rattle.office_core.specs.declared.command.Command.TheVariants as command
 use Rattle.office_core.proofs.Words.{put_here, put_there}
-use Rattle.office_rows.specs.DeskShown.{permit_rows}
-use Rattle.office_rows.specs.Reading.{tables}
+use Rattle.state_encoding.specs.DeskShown.{permit_rows}
+use Rattle.state_encoding.specs.Reading.{tables}
 use Rattle.office_tables.specs.Schema as schema
 use Rattle.office_tables.specs.Step.{OnlyTouches}
-use Rattle.shown_office.specs.Gate.{OthersAreOpen}
-use Rattle.shown_office.specs.Judging.{CanBeJudged}
-use Rattle.shown_office.specs.Shown.{ShowsState}
-use Rattle.shown_office.proofs.DeskSteps.{desk_step}
-use Rattle.shown_office.proofs.Judged.{judged_now}
-use Rattle.shown_office.proofs.OpenByPermits.{IsAlike, permitted_left}
-use Rattle.shown_office.proofs.OpenElsewhere.{none_left, stays_permitted, still_open}
-use Rattle.shown_office.proofs.PermitsShown.{revoked_rows}
+use Rattle.refinement.specs.Gate.{OthersAreOpen}
+use Rattle.refinement.specs.Judging.{CanBeJudged}
+use Rattle.refinement.specs.Represents.{RepresentsState}
+use Rattle.refinement.proofs.DeskSteps.{desk_step}
+use Rattle.refinement.proofs.Judged.{judged_now}
+use Rattle.refinement.proofs.OpenByPermits.{IsAlike, permitted_left}
+use Rattle.refinement.proofs.OpenElsewhere.{none_left, stays_permitted, still_open}
+use Rattle.refinement.proofs.PermitsShown.{revoked_rows}
 use Rattle.desk_commands.specs.Revoking.{HasPermit}
 
 all_kept : {X : Type 0} (P : X → Type 0) (p : X → Bool) (xs : List X) → AllByRecursion P xs → AllByRecursion P (filter p xs)
@@ -102,10 +102,10 @@ module _ (s : State) (sound : IsSoundOffice s) (t u : ℕ) where
   texts : AreTexts s → AreTexts next
   texts are = record { country = are.country; repo = are.repo; catalogue = are.catalogue; readers = are.readers }
 
-  pub shows : (places : Trees → Forest ℕ → Type 0) → ((old new : Trees) (f : Forest ℕ) → new schema.link.tree ≡ old schema.link.tree → places old f → places new f)
-      → (version : Version) (before now : Database) → ShowsState places version before s → now.schema ≡ before.schema → OnlyTouches (schema.permit.tree ∷ []) before now
-      → ShowsDesk now.trees (without_it t u (tables version s).desk) → ShowsState places version now next
-  shows places same version before now it schema_is only shown =
+  pub represents : (places : Trees → Forest ℕ → Type 0) → ((old new : Trees) (f : Forest ℕ) → new schema.link.tree ≡ old schema.link.tree → places old f → places new f)
+      → (version : Version) (before now : Database) → RepresentsState places version before s → now.schema ≡ before.schema → OnlyTouches (schema.permit.tree ∷ []) before now
+      → RepresentsDesk now.trees (without_it t u (tables version s).desk) → RepresentsState places version now next
+  represents places same version before now it schema_is only shown =
       desk_step places same version s next before now (schema.permit.tree ∷ []) refl schema_is only it (without_it t u (tables version s).desk) shown
       (ap (λ (rows : List PermitRow). record (tables version s).desk { permits = rows }) (revoked_rows t u s)) refl refl (texts it.texts)
 

@@ -20,7 +20,7 @@ use Rattle.desk_core.specs.declared.refusal.Refusal.TheVariants.{Full, NothingTo
 use Rattle.desk_core.specs.LegibleDesks.{IsLegible}
 use Rattle.desk_store.specs.Runs.{IsNumbered, with_run}
 use Rattle.desk_store.specs.Runs as stored
-use Rattle.desk_store.specs.Shows.{IsNumberOf, ShowsDesk}
+use Rattle.desk_store.specs.Represents.{IsNumberOf, RepresentsDesk}
 use Rattle.desk_store.specs.declared.holdings.FirstOrder.{FirstOrder}
 use Rattle.office_core.specs.Rules.{fetched, refusal}
 use Rattle.office_core.specs.SoundOffice.{IsSoundOffice}
@@ -30,14 +30,14 @@ use Rattle.office_core.specs.declared.command.Command.TheVariants as command
 use Rattle.office_core.specs.declared.done.Done.TheVariants as done
 use Rattle.office_core.proofs.Filed.{fetched_out}
 use Rattle.office_core.proofs.OrderLaws.{goes_same}
-use Rattle.office_rows.specs.DeskShown.{holding_rows, order_rows, run_line_rows, run_row}
-use Rattle.office_rows.specs.Reading.{tables}
+use Rattle.state_encoding.specs.DeskShown.{holding_rows, order_rows, run_line_rows, run_row}
+use Rattle.state_encoding.specs.Reading.{tables}
 use Rattle.office_tables.specs.Schema as schema
 use Rattle.office_tables.specs.Step.{OnlyTouches}
-use Rattle.shown_office.specs.Doing.{DoesStep}
-use Rattle.shown_office.specs.Shown.{ShowsState}
-use Rattle.shown_office.proofs.CommandSteps.{accepts, refuses}
-use Rattle.shown_office.proofs.HoldingRows.{rows_of}
+use Rattle.refinement.specs.CommandSteps.{CarriesOutStep}
+use Rattle.refinement.specs.Represents.{RepresentsState}
+use Rattle.refinement.proofs.CommandSteps.{accepts, refuses}
+use Rattle.refinement.proofs.HoldingRows.{rows_of}
 use Rattle.desk_commands.specs.Moving.{all_placed, with_all_placed}
 use Rattle.desk_commands.specs.Running.{taken_by}
 use Rattle.desk_commands.proofs.Fetched.{as_many, brought, none_left, none_taken, one_left, same_lines, taken_within}
@@ -45,7 +45,7 @@ use Rattle.desk_commands.proofs.MovedAll.{all_moved, rows_stay}
 use Rattle.desk_commands.proofs.Registered.{rows_end}
 
 -- lines in another order are shown as well
-pub lines_moved : (db : Trees) (d : Rows) (ls : List RunLineRow) → IsPermutation d.run_lines ls → ShowsDesk db d → ShowsDesk db (record d { run_lines = ls })
+pub lines_moved : (db : Trees) (d : Rows) (ls : List RunLineRow) → IsPermutation d.run_lines ls → RepresentsDesk db d → RepresentsDesk db (record d { run_lines = ls })
 lines_moved db d ls same it = record {
   readers = it.readers;
   tickets = it.tickets;
@@ -126,22 +126,22 @@ module _ (version : Version) (s : State) (sound : IsSoundOffice s) where
       ∙ ap (λ (rows : List RunRow). record desk { holdings = all_placed Desk containers_taken (holding_rows s); runs = rows; run_lines = run_line_rows (fetched s) }) (rows_end run_row s.runs (next_run s))
 
   module _ (places : Trees → Forest ℕ → Type 0) where
-    pub nothing_due : (db : Database) → is_empty taken ≡ true → DoesStep places version s command.Run (Err NothingToMove) db
+    pub nothing_due : (db : Database) → is_empty taken ≡ true → CarriesOutStep places version s command.Run (Err NothingToMove) db
     nothing_due db none =
         let nobody : is_empty (picked s) ≡ true = none_taken version s sound ∙ none in
         let why : refusal s command.Run ≡ Some NothingToMove = rw nobody refl in
         refuses places version s command.Run db NothingToMove why
 
-    no_number_left : (db : Database) → is_empty taken ≡ false → nat_le most_runs (length s.runs) ≡ true → DoesStep places version s command.Run (Err Full) db
+    no_number_left : (db : Database) → is_empty taken ≡ false → nat_le most_runs (length s.runs) ≡ true → CarriesOutStep places version s command.Run (Err Full) db
     no_number_left db some full =
         let due : is_empty (picked s) ≡ false = none_taken version s sound ∙ some in
         let why : refusal s command.Run ≡ Some Full = rw (due, full) refl in
         refuses places version s command.Run db Full why
 
     runs : ((old new : Trees) (f : Forest ℕ) → new schema.link.tree ≡ old schema.link.tree → places old f → places new f)
-        → (before now : Database) → is_empty taken ≡ false → nat_le most_runs (length s.runs) ≡ false → ShowsState places version before s → now.schema ≡ before.schema
-        → OnlyTouches (schema.run.tree ∷ schema.run_line.tree ∷ schema.holding.tree ∷ []) before now → ShowsDesk now.trees run_made
-        → DoesStep places version s command.Run (Ok (done.Run (suc (length s.runs)) (length taken))) now
+        → (before now : Database) → is_empty taken ≡ false → nat_le most_runs (length s.runs) ≡ false → RepresentsState places version before s → now.schema ≡ before.schema
+        → OnlyTouches (schema.run.tree ∷ schema.run_line.tree ∷ schema.holding.tree ∷ []) before now → RepresentsDesk now.trees run_made
+        → CarriesOutStep places version s command.Run (Ok (done.Run (suc (length s.runs)) (length taken))) now
     runs same before now some room it schema_is only shown =
         let due : is_empty (picked s) ≡ false = none_taken version s sound ∙ some in
         let why : refusal s command.Run ≡ None = rw (due, room) refl in
@@ -152,21 +152,21 @@ module _ (version : Version) (s : State) (sound : IsSoundOffice s) where
         (done.Run (suc (length s.runs)) (length taken)) (ap (λ n. done.Run (suc (length s.runs)) n) (as_many version s sound))
 
     -- no number is left
-    pub runs_out : (db : Database) (due : List FirstOrder) → due ≡ taken → is_empty due ≡ false → None ≡ stored.next_run desk → DoesStep places version s command.Run (Err Full) db
+    pub runs_out : (db : Database) (due : List FirstOrder) → due ≡ taken → is_empty due ≡ false → None ≡ stored.next_run desk → CarriesOutStep places version s command.Run (Err Full) db
     runs_out db due is some number = no_number_left db (ap is_empty (sym is) ∙ some) (none_left version s number)
 
     -- the tables show the desk with what was taken
     pub runs_with : ((old new : Trees) (f : Forest ℕ) → new schema.link.tree ≡ old schema.link.tree → places old f → places new f)
         → (before now : Database) (day : ℤ) (due : List FirstOrder) (run : ℕ) → day ≡ s.day → due ≡ taken → is_empty due ≡ false → Some run ≡ stored.next_run desk
-        → ShowsState places version before s → now.schema ≡ before.schema → OnlyTouches (schema.run.tree ∷ schema.run_line.tree ∷ schema.holding.tree ∷ []) before now
-        → ShowsDesk now.trees (with_all_placed Desk (map (λ (o : FirstOrder). o.container) due) (with_run (stored.next_run desk) day due desk))
-        → DoesStep places version s command.Run (Ok (done.Run run (length due))) now
+        → RepresentsState places version before s → now.schema ≡ before.schema → OnlyTouches (schema.run.tree ∷ schema.run_line.tree ∷ schema.holding.tree ∷ []) before now
+        → RepresentsDesk now.trees (with_all_placed Desk (map (λ (o : FirstOrder). o.container) due) (with_run (stored.next_run desk) day due desk))
+        → CarriesOutStep places version s command.Run (Ok (done.Run run (length due))) now
     runs_with same before now day due run today is some number it schema_is only shown =
         let left = one_left version s run number in
         let next : stored.next_run desk ≡ Some (suc (length s.runs)) = sym number ∙ ap Some left.1 in
-        let of_taken = subst (λ (os : List FirstOrder). ShowsDesk now.trees (with_all_placed Desk (map (λ (o : FirstOrder). o.container) os) (with_run (stored.next_run desk) day os desk))) is shown in
-        let of_today = subst (λ (x : ℤ). ShowsDesk now.trees (with_all_placed Desk containers_taken (with_run (stored.next_run desk) x taken desk))) today of_taken in
-        let with_next = subst (λ (k : Option ℕ). ShowsDesk now.trees (with_all_placed Desk containers_taken (with_run k s.day taken desk))) next of_today in
-        subst (λ (n : ℕ). DoesStep places version s command.Run (Ok (done.Run n (length due))) now) (sym left.1)
-        (subst (λ (os : List FirstOrder). DoesStep places version s command.Run (Ok (done.Run (suc (length s.runs)) (length os))) now) (sym is)
+        let of_taken = subst (λ (os : List FirstOrder). RepresentsDesk now.trees (with_all_placed Desk (map (λ (o : FirstOrder). o.container) os) (with_run (stored.next_run desk) day os desk))) is shown in
+        let of_today = subst (λ (x : ℤ). RepresentsDesk now.trees (with_all_placed Desk containers_taken (with_run (stored.next_run desk) x taken desk))) today of_taken in
+        let with_next = subst (λ (k : Option ℕ). RepresentsDesk now.trees (with_all_placed Desk containers_taken (with_run k s.day taken desk))) next of_today in
+        subst (λ (n : ℕ). CarriesOutStep places version s command.Run (Ok (done.Run n (length due))) now) (sym left.1)
+        (subst (λ (os : List FirstOrder). CarriesOutStep places version s command.Run (Ok (done.Run (suc (length s.runs)) (length os))) now) (sym is)
         (runs same before now (ap is_empty (sym is) ∙ some) left.0 it schema_is only with_next))

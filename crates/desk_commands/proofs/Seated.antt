@@ -18,8 +18,8 @@ use Rattle.desk_core.specs.declared.reader.Limits.{Limits}
 use Rattle.desk_core.specs.declared.reader.Reader.{Reader as Sitter}
 use Rattle.desk_core.specs.declared.refusal.Refusal.{Refusal}
 use Rattle.desk_store.specs.Seats.{MayTake, taken_seats, with_seat}
-use Rattle.desk_store.specs.Shows.{ShowsDesk}
-use Rattle.desk_store.specs.declared.seating.TakenSeat.{TakenSeat}
+use Rattle.desk_store.specs.Represents.{RepresentsDesk}
+use Rattle.desk_store.specs.declared.taken_seats.TakenSeat.{TakenSeat}
 use Rattle.office_core.specs.Rules.{after, checks, refusal}
 use Rattle.office_core.specs.SoundOffice.{IsSoundOffice}
 use Rattle.office_core.specs.State.{Reader, State, free_seat, held, is_seat_of, is_seated, seat_of}
@@ -27,16 +27,16 @@ use Rattle.office_core.specs.Words.{numbered, some_and}
 use Rattle.office_core.specs.declared.command.Command.TheVariants as command
 use Rattle.office_core.specs.declared.done.Done.TheVariants as done
 use Rattle.office_core.proofs.Steps.{held_not, passes}
-use Rattle.office_rows.specs.DeskShown.{seat_rows}
-use Rattle.office_rows.specs.Reading.{tables}
+use Rattle.state_encoding.specs.DeskShown.{seat_rows}
+use Rattle.state_encoding.specs.Reading.{tables}
 use Rattle.office_tables.specs.Schema as schema
 use Rattle.office_tables.specs.Step.{OnlyTouches}
-use Rattle.shown_office.specs.Allowed.{limits_of}
-use Rattle.shown_office.specs.Doing.{DoesStep}
-use Rattle.shown_office.specs.Shown.{ShowsState}
-use Rattle.shown_office.specs.Sitters.{sitter, sitter_of}
-use Rattle.shown_office.proofs.CommandSteps.{accepts}
-use Rattle.shown_office.proofs.SeatsShown.{free_is, is_free, risen, sat, sits_by_row, some_placed}
+use Rattle.refinement.specs.Allowed.{limits_of}
+use Rattle.refinement.specs.CommandSteps.{CarriesOutStep}
+use Rattle.refinement.specs.Represents.{RepresentsState}
+use Rattle.refinement.specs.Sitters.{sitter, sitter_of}
+use Rattle.refinement.proofs.CommandSteps.{accepts}
+use Rattle.refinement.proofs.SeatsShown.{free_is, is_free, risen, sat, sits_by_row, some_placed}
 use Rattle.desk_commands.specs.Seating.{MayLeave, MaySit}
 
 module _ (s : State) (sound : IsSoundOffice s) (t : ℕ) where
@@ -107,15 +107,15 @@ module _ (s : State) (sound : IsSoundOffice s) (t : ℕ) where
   -- ---- the rows
 
   module _ (version : Version) (places : Trees → Forest ℕ → Type 0) (same : (old new : Trees) (f : Forest ℕ) → new schema.link.tree ≡ old schema.link.tree → places old f → places new f)
-      (before now : Database) (it : ShowsState places version before s) (schema_is : now.schema ≡ before.schema) (only : OnlyTouches (schema.seat.tree ∷ []) before now) (k : ℕ) where
-    pub leaves : MayLeave s t k → ShowsDesk now.trees (with_seat k None (tables version s).desk) → DoesStep places version s (command.LeaveSeat t) (Ok (done.LeaveSeat k)) now
+      (before now : Database) (it : RepresentsState places version before s) (schema_is : now.schema ≡ before.schema) (only : OnlyTouches (schema.seat.tree ∷ []) before now) (k : ℕ) where
+    pub leaves : MayLeave s t k → RepresentsDesk now.trees (with_seat k None (tables version s).desk) → CarriesOutStep places version s (command.LeaveSeat t) (Ok (done.LeaveSeat k)) now
     leaves may shown =
         accepts places version s (command.LeaveSeat t) same before now (schema.seat.tree ∷ []) refl may.allowed tt it schema_is only
         (after s (command.LeaveSeat t)) refl refl refl (with_seat k None (tables version s).desk) shown
         (ap (λ (rows : List SeatRow). record (tables version s).desk { seats = rows }) (risen t k s.seats sound.sound.desk.seats.once may.seat))
         (done.LeaveSeat k) (ap (λ seat. done.LeaveSeat (unwrap_or seat 0)) may.seat)
 
-    pub sits : MaySit s t k → ShowsDesk now.trees (with_seat k (Some t) (tables version s).desk) → DoesStep places version s (command.TakeSeat t) (Ok (done.TakeSeat k)) now
+    pub sits : MaySit s t k → RepresentsDesk now.trees (with_seat k (Some t) (tables version s).desk) → CarriesOutStep places version s (command.TakeSeat t) (Ok (done.TakeSeat k)) now
     sits may shown =
         accepts places version s (command.TakeSeat t) same before now (schema.seat.tree ∷ []) refl may.allowed tt it schema_is only
         (after s (command.TakeSeat t)) refl refl refl (with_seat k (Some t) (tables version s).desk) shown

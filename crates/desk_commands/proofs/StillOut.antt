@@ -12,9 +12,9 @@ use Rattle.office_core.specs.SoundOffice.{IsSoundOffice}
 use Rattle.office_core.specs.State.{Order, State, containers, is_out}
 use Rattle.office_core.specs.Words.{is_empty, numbered}
 use Rattle.office_core.proofs.Words.{same_number}
-use Rattle.office_rows.specs.DeskShown.{holding_row, order_row, order_rows}
-use Rattle.office_rows.specs.Reading.{tables}
-use Rattle.shown_office.proofs.RowsOfLists.{found_row}
+use Rattle.state_encoding.specs.DeskShown.{holding_row, order_row, order_rows}
+use Rattle.state_encoding.specs.Reading.{tables}
+use Rattle.refinement.proofs.RowsOfLists.{found_row}
 use Rattle.tree_core.specs.Versions.{Version}
 
 some_mapped : {X Y : Type 0} (f : X → Y) (o : Option X) → is_some o ≡ true → is_some (option_map f o) ≡ true

@@ -1,6 +1,6 @@
 -- Permits that are granted and taken back.
 use Rattle.std.specs.Prelude.{◌≡◌, ℕ, ℤ, int_lt, cond, nat_eq, find, List, Option, Some, None, option_map}
-use Rattle.desk_store.specs.declared.granting.Permit.{Permit}
+use Rattle.desk_store.specs.declared.reader_permits.Permit.{Permit}
 use Rattle.office_core.specs.Rules.{refusal}
 use Rattle.office_core.specs.State.{State, granted_until}
 use Rattle.office_core.specs.declared.command.Command.TheVariants as command

@@ -3,12 +3,12 @@ use Rattle.std.specs.Prelude.{◌≡◌, ℕ, ℤ, Bool, suc, length, nat_eq, So
 use Rattle.std.specs.List.{list_any}
 use Rattle.desk_core.specs.declared.order.Ask.{Ask}
 use Rattle.desk_store.specs.Readers.{card_of}
-use Rattle.desk_store.specs.declared.cards.LiveOrder.{LiveOrder}
-use Rattle.desk_store.specs.declared.cards.ReaderCard.{ReaderCard}
+use Rattle.desk_store.specs.declared.reader_summary.LiveOrder.{LiveOrder}
+use Rattle.desk_store.specs.declared.reader_summary.ReaderCard.{ReaderCard}
 use Rattle.office_core.specs.Rules.{refusal}
 use Rattle.office_core.specs.State.{State}
 use Rattle.office_core.specs.declared.command.Command.TheVariants as command
-use Rattle.office_rows.specs.Reading.{tables}
+use Rattle.state_encoding.specs.Reading.{tables}
 use Rattle.tree_core.specs.Versions.{Version}
 
 -- the ticket's card today

@@ -3,7 +3,7 @@ use Rattle.std.specs.Prelude.{ℕ, ◌^◌, Bool, ◌&&◌, nat_lt, List, filter
 use Rattle.desk_store.specs.Holdings.{candidates_of}
 use Rattle.desk_store.specs.declared.holdings.FirstOrder.{FirstOrder}
 use Rattle.office_core.specs.State.{State, opens}
-use Rattle.office_rows.specs.Reading.{tables}
+use Rattle.state_encoding.specs.Reading.{tables}
 use Rattle.tree_core.specs.Versions.{Version}
 
 -- of these orders those whose containers are open to their readers, as many as a run takes

@@ -1,29 +1,29 @@
 //! The commands of the reading room over an office's tables, each within a transaction.
 #![tactic(auto)]
 
-mod cancelling;
-mod issuing;
-mod moving;
-mod opening;
-mod ordering;
-mod permitting;
-mod registering;
-mod renewing;
-mod reshelving;
-mod returning;
-mod revoking;
-mod running;
+mod cancellation;
+mod container_moves;
+mod container_return;
+mod issuance;
+mod new_day;
+mod order_placement;
+mod permits;
+mod registration;
+mod renewal;
+mod revocation;
+mod run_creation;
 mod seats;
+mod shelf_return;
 
-pub use cancelling::cancel;
-pub use issuing::issue;
-pub use opening::open;
-pub use ordering::order;
-pub use permitting::permit;
-pub use registering::register;
-pub use renewing::renew_ticket;
-pub use reshelving::reshelve;
-pub use returning::return_container;
-pub use revoking::revoke_permit;
-pub use running::fetch;
+pub use cancellation::cancel;
+pub use container_return::return_container;
+pub use issuance::issue;
+pub use new_day::open;
+pub use order_placement::order;
+pub use permits::permit;
+pub use registration::register;
+pub use renewal::renew_ticket;
+pub use revocation::revoke_permit;
+pub use run_creation::fetch;
 pub use seats::{leave_seat, take_seat};
+pub use shelf_return::reshelve;

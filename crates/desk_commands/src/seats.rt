@@ -4,13 +4,13 @@ ghost use Rattle.std.specs.Prelude.{◌≡◌, ⊤, IfOk, IfSome, IsPermutation,
 ghost use Rattle.std.specs.List.Sorted.{IsNonDecreasing};
 ghost use Rattle.sqlite.specs.Held.{state};
 ghost use Rattle.isad_core.specs.Limits.{IsNumber};
-ghost use Rattle.desk_store.specs.declared.cards.ReaderCard.{ReaderCard as Card};
-ghost use Rattle.desk_store.specs.declared.seating.TakenSeat.{TakenSeat as Taken};
+ghost use Rattle.desk_store.specs.declared.reader_summary.ReaderCard.{ReaderCard as Card};
+ghost use Rattle.desk_store.specs.declared.taken_seats.TakenSeat.{TakenSeat as Taken};
 ghost use Rattle.office_core.specs.declared.command.Command.TheVariants as command;
 ghost use Rattle.office_tables.specs.Step.{InTransaction};
-ghost use Rattle.shown_office.specs.Allowed.{limits_of};
-ghost use Rattle.shown_office.specs.Doing.{Does};
-ghost use Rattle.shown_office.specs.Sitters.{sitter};
+ghost use Rattle.refinement.specs.Allowed.{limits_of};
+ghost use Rattle.refinement.specs.CommandSteps.{CarriesOut};
+ghost use Rattle.refinement.specs.Sitters.{sitter};
 ghost use Rattle.desk_commands.specs.Seating.{MayLeave, MaySit};
 
 use catalogue_store::Places;
@@ -36,7 +36,7 @@ fn free_seat<P: Places, S: Alter>(
     seat: u32,
 ) -> Result<Result<Done, Refusal>, StoreFault>
     requires inside { InTransaction P.version (state S.Store conn.old) }
-    ensures { Does P.shows P.version (λ s. MayLeave s ticket seat) (command.LeaveSeat ticket)
+    ensures { CarriesOut P.represents P.version (λ s. MayLeave s ticket seat) (command.LeaveSeat ticket)
         (state S.Store conn.old) (state S.Store conn.new) result }
 {
     set_seat(conn, seat, None)?;
@@ -51,7 +51,7 @@ pub fn leave_seat<P: Places, S: Alter>(
     ticket: u64,
 ) -> Result<Result<Done, Refusal>, StoreFault>
     requires inside { InTransaction P.version (state S.Store conn.old) }
-    ensures { Does P.shows P.version (λ _. ⊤) (command.LeaveSeat ticket) (state S.Store conn.old)
+    ensures { CarriesOut P.represents P.version (λ _. ⊤) (command.LeaveSeat ticket) (state S.Store conn.old)
         (state S.Store conn.new) result }
 {
     let card = reader(alloc, conn, ticket, today)?;
@@ -82,7 +82,7 @@ fn take<P: Places, S: Alter>(
 ) -> Result<Result<Done, Refusal>, StoreFault>
     requires inside { InTransaction P.version (state S.Store conn.old) }
     requires small { IsNumber ticket }
-    ensures { Does P.shows P.version (λ s. MaySit s ticket seat) (command.TakeSeat ticket)
+    ensures { CarriesOut P.represents P.version (λ s. MaySit s ticket seat) (command.TakeSeat ticket)
         (state S.Store conn.old) (state S.Store conn.new) result }
 {
     set_seat(conn, seat, Some(ticket))?;
@@ -100,7 +100,7 @@ fn sit_down<P: Places, S: Alter>(
 ) -> Result<Result<Done, Refusal>, StoreFault>
     requires inside { InTransaction P.version (state S.Store conn.old) }
     requires small { IfSome who (λ _. IsNumber ticket) }
-    ensures { Does P.shows P.version
+    ensures { CarriesOut P.represents P.version
         (λ s. (today ≡ s.day) × (limits.now ≡ limits_of s) × (who ≡ sitter s ticket)) (command.TakeSeat ticket)
         (state S.Store conn.old) (state S.Store conn.new) result }
 {
@@ -121,7 +121,7 @@ pub fn take_seat<P: Places, S: Alter>(
     ticket: u64,
 ) -> Result<Result<Done, Refusal>, StoreFault>
     requires inside { InTransaction P.version (state S.Store conn.old) }
-    ensures { Does P.shows P.version (λ s. (today ≡ s.day) × (limits.now ≡ limits_of s))
+    ensures { CarriesOut P.represents P.version (λ s. (today ≡ s.day) × (limits.now ≡ limits_of s))
         (command.TakeSeat ticket) (state S.Store conn.old) (state S.Store conn.new) result }
 {
     let card = reader(alloc, conn, ticket, today)?;

@@ -3,3 +3,12 @@ pub mod OrderLemmas
 pub mod RunLemmas
 pub mod SeatLemmas
 pub mod SlipLemmas
+pub mod Tests
+pub mod Counts
+pub mod NumberedRows
+pub mod SortedKeys
+pub mod FitReaders
+pub mod FitOrders
+pub mod FitHoldings
+pub mod FitRuns
+pub mod Tallies

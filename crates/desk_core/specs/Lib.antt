@@ -9,3 +9,6 @@ pub mod Refusals
 pub mod Runs
 pub mod Slips
 pub mod Worked
+pub mod RowRecords
+pub mod KeyCounts
+pub mod Consistency

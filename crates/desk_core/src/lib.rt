@@ -1,6 +1,7 @@
 //! The reading room's decisions, from values that are handed in. No tables.
 #![tactic(auto)]
 
+pub mod consistency;
 mod issue;
 pub mod laws;
 mod order;

@@ -9,7 +9,7 @@ use Rattle.desk_core.specs.DeskRows.{RunRow, RunLineRow}
 use Rattle.desk_core.specs.declared.run.Candidate.{Candidate}
 use Rattle.desk_store.specs.Runs.{run_with, lines_of}
 use Rattle.desk_store.specs.Stacks.{Stacks, AreKnown, IsKnownLine, IsToldLine, IsToldRun}
-use Rattle.desk_store.specs.declared.brought.RunDay.{RunDay}
+use Rattle.desk_store.specs.declared.run_lines.RunDay.{RunDay}
 use Rattle.desk_store.specs.declared.runs.TakenLine.{TakenLine}
 use Rattle.desk_store.proofs.BroughtRows.{day_of, same_run}
 use Rattle.desk_store.proofs.RunRows.{taken_line}

@@ -35,7 +35,7 @@ use Rattle.office_tables.proofs.statements.SelectOf.{select_finds, select_faults
 use Rattle.office_tables.proofs.Tests.{only, same_number, by_one_int}
 use Rattle.desk_store.specs.Rows.{run_cells}
 use Rattle.desk_store.specs.Stacks.{Stacks, box_with, IsToldLine}
-use Rattle.desk_store.specs.declared.brought.RunDay.{RunDay}
+use Rattle.desk_store.specs.declared.run_lines.RunDay.{RunDay}
 use Rattle.desk_store.specs.declared.runs.TakenLine.{TakenLine}
 use Rattle.desk_store.proofs.BoxRows.{Numbered}
 use Rattle.desk_store.proofs.CardRows.{in_order}

@@ -9,10 +9,10 @@ use Rattle.isad_core.specs.Limits.{most_orders}
 use Rattle.desk_core.specs.DeskRows.{Desk, ReaderRow, SeatRow, OrderRow}
 use Rattle.desk_store.specs.Readers.{is_live, live_orders, held_with, seat_of, placed_on, card_of}
 use Rattle.office_tables.specs.Numbered.{AreCounted}
-use Rattle.desk_store.specs.declared.cards.LiveOrder.{LiveOrder}
-use Rattle.desk_store.specs.declared.cards.ReaderCard.{ReaderCard}
+use Rattle.desk_store.specs.declared.reader_summary.LiveOrder.{LiveOrder}
+use Rattle.desk_store.specs.declared.reader_summary.ReaderCard.{ReaderCard}
 use Rattle.desk_store.specs.declared.readers.NamedReader.{NamedReader}
-use Rattle.desk_store.specs.declared.seating.TakenSeat.{TakenSeat}
+use Rattle.desk_store.specs.declared.taken_seats.TakenSeat.{TakenSeat}
 use Rattle.office_tables.proofs.numbered.Counted.{counted_within}
 use Rattle.desk_store.proofs.ReaderRows.{named}
 use Rattle.desk_store.proofs.SeatRows.{taken}

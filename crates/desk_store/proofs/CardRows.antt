@@ -18,7 +18,7 @@ use Rattle.office_tables.proofs.Queries.{asking}
 use Rattle.office_tables.proofs.statements.SelectOf.{select_finds, select_faults}
 use Rattle.office_tables.proofs.Tests.{flag, by_one_int}
 use Rattle.desk_store.specs.Readers.{is_live}
-use Rattle.desk_store.specs.declared.cards.OrderLine.{OrderLine}
+use Rattle.desk_store.specs.declared.reader_summary.OrderLine.{OrderLine}
 use Rattle.std.proofs.Math.Nat.{le_refl}
 use Rattle.std.specs.List.{count_by}
 use Rattle.std.specs.Ordering.{int_eq}

@@ -32,9 +32,9 @@ use Rattle.sqlite_value.specs.Keys.{joined}
 use Rattle.tree_core.specs.Versions.{Version, Links, Spans}
 use Rattle.desk_core.specs.DeskRows.{Desk, HoldingRow}
 use Rattle.desk_core.specs.declared.reader.Place.TheVariants.{Shelf}
-use Rattle.office_tables.specs.Calls.{Makes}
+use Rattle.office_tables.specs.Calls.{Updates}
 use Rattle.office_tables.specs.Changing.{Leaves, Ran}
-use Rattle.office_tables.specs.Faults.{Excused, IsUnlimited, HasCause}
+use Rattle.office_tables.specs.Faults.{FaultsHaveCause, IsUnlimited, HasCause}
 use Rattle.office_tables.specs.Meaning.{Means}
 use Rattle.office_tables.specs.Schema.{schema, holding}
 use Rattle.office_tables.specs.Schema as tables
@@ -42,7 +42,7 @@ use Rattle.office_tables.specs.Step.{Goes, Holds, HasRows, OnlyTouches, PutsRow}
 use Rattle.office_tables.specs.declared.fault.StoreFault.{StoreFault}
 use Rattle.desk_store.specs.Holdings.{put_down, with_place}
 use Rattle.desk_store.specs.Rows.{holding_cells}
-use Rattle.desk_store.specs.Shows.{ShowsDesk, ShowsRoom, IsLegible}
+use Rattle.desk_store.specs.Represents.{RepresentsDesk, RepresentsDeskAlone, IsLegible}
 use Rattle.office_tables.specs.Numbered.{AreByNumber}
 use Rattle.office_tables.proofs.Calls.{early, goes_then, cut_then, on_ok_then, on_err_then}
 use Rattle.office_tables.proofs.Casts.{cast_int, cast_null, cast_maybe}
@@ -165,9 +165,9 @@ module _ {S : Type 0} (g : store.Ghosts S) (before mid : Held S) (n : ℕ) where
 
   module _ (goes : Goes a b) (rows : HasCleanDisk b → (xs : List HoldingRow) → Holds holding holding_cells a xs → AreByNumber (λ (x : HoldingRow). x.container) xs → HasRows tables.holding.tree (map holding_cells (without n xs)) a.now b.now)
       (only : HasCleanDisk b → OnlyTouches (tables.holding.tree ∷ []) a.now b.now) where
-    pub shelved : Makes g ShowsRoom IsLegible before mid (Ok (tt {0})) (λ _. ⊤) (with_place n Shelf) (tables.holding.tree ∷ [])
+    pub shelved : Updates g RepresentsDeskAlone IsLegible before mid (Ok (tt {0})) (λ _. ⊤) (with_place n Shelf) (tables.holding.tree ∷ [])
     shelved = record {
-      shows_made = λ clean beside d shown may.
+      represents_updated = λ clean beside d shown may.
           let has = rows clean d.holdings shown.holdings shown.holdings_rise in
           with_holdings a.now b.now d shown _ has.only has.are (ascending-filter _ (λ (x : HoldingRow). not (nat_eq n x.container)) d.holdings shown.holdings_rise);
       only = only;
@@ -184,11 +184,11 @@ module _ {S : Type 0} (g : store.Ghosts S) (before mid : Held S) (n : ℕ) where
       here = record { container = n; place = p; held_by = o }
 
       module _ (r : Result Unit StoreFault) (leaves : Leaves b z r) (puts : HasCleanDisk z → OnOk r (PutsRow tables.holding.tree (holding_cells here) b.now z.now))
-          (faults : (xs : List HoldingRow) → Holds holding holding_cells b xs → list_any (λ (x : HoldingRow). nat_eq n x.container) xs ≡ false → Excused b z r) where
+          (faults : (xs : List HoldingRow) → Holds holding holding_cells b xs → list_any (λ (x : HoldingRow). nat_eq n x.container) xs ≡ false → FaultsHaveCause b z r) where
         back : HasCleanDisk z → HasCleanDisk b
         back = early b z _ leaves.crash
 
-        moved : HasCleanDisk z → PutsRow tables.holding.tree (holding_cells here) b.now z.now → (d : Desk) → ShowsDesk a.now.trees d → ShowsDesk z.now.trees (record d { holdings = put_down here d.holdings })
+        moved : HasCleanDisk z → PutsRow tables.holding.tree (holding_cells here) b.now z.now → (d : Desk) → RepresentsDesk a.now.trees d → RepresentsDesk z.now.trees (record d { holdings = put_down here d.holdings })
         moved clean put d shown =
             let has = rows (back clean) d.holdings shown.holdings shown.holdings_rise in
             with_holdings a.now z.now d shown (put_down here d.holdings) (touched_again (tables.holding.tree ∷ []) a.now b.now z.now has.only put.only)
@@ -196,9 +196,9 @@ module _ {S : Type 0} (g : store.Ghosts S) (before mid : Held S) (n : ℕ) where
             ∙ ap (map holding_cells) (put_gone (λ (x : HoldingRow). x.container) here d.holdings shown.holdings_rise))
             (put_rises holding_cells (λ (x : HoldingRow). pos x.container) (λ _. refl) here d.holdings shown.holdings_rise)
 
-        pub placed : Makes g ShowsRoom IsLegible before after r (λ _. ⊤) (λ d. record d { holdings = put_down here d.holdings }) (tables.holding.tree ∷ [])
+        pub placed : Updates g RepresentsDeskAlone IsLegible before after r (λ _. ⊤) (λ d. record d { holdings = put_down here d.holdings }) (tables.holding.tree ∷ [])
         placed = record {
-          shows_made = λ clean beside d shown may. on_ok_then r _ _ (λ put. moved clean put d shown) (puts clean);
+          represents_updated = λ clean beside d shown may. on_ok_then r _ _ (λ put. moved clean put d shown) (puts clean);
           only = λ clean. on_ok_then r _ _ (λ put. touched_again (tables.holding.tree ∷ []) a.now b.now z.now (only (back clean)) put.only) (puts clean);
           goes = on_ok_then r _ _ (goes_then a b z goes) leaves.goes;
           cut = on_err_then r _ _ (cut_then a b z goes.on) leaves.cut;

@@ -8,7 +8,7 @@ use Rattle.desk_core.specs.DeskRows.{OrderRow, HoldingRow}
 use Rattle.desk_store.specs.Holdings.{ticket_of, loan_by, issued_by}
 use Rattle.office_tables.specs.Numbered.{AreCounted}
 use Rattle.desk_store.specs.declared.holdings.Loan.{Loan}
-use Rattle.desk_store.specs.declared.lending.HoldingLine.{HoldingLine}
+use Rattle.desk_store.specs.declared.loans.HoldingLine.{HoldingLine}
 use Rattle.desk_store.proofs.CardCalls.{first_told, unknown}
 use Rattle.desk_store.proofs.LoanRows.{line_of}
 

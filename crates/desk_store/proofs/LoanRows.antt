@@ -33,7 +33,7 @@ use Rattle.office_tables.proofs.Queries.{asking}
 use Rattle.office_tables.proofs.statements.SelectOf.{select_finds, select_faults}
 use Rattle.office_tables.proofs.Tests.{only, same_number, by_one_int}
 use Rattle.desk_store.specs.Rows.{holding_cells, order_cells}
-use Rattle.desk_store.specs.declared.lending.HoldingLine.{HoldingLine}
+use Rattle.desk_store.specs.declared.loans.HoldingLine.{HoldingLine}
 use Rattle.desk_store.proofs.CardRows.{by_order}
 
 abbrev in_order : List (Term × Key)

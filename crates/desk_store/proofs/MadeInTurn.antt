@@ -13,11 +13,11 @@ use Rattle.desk_core.specs.declared.reader.Place.{Place}
 use Rattle.desk_core.specs.declared.reader.Place.TheVariants.{Shelf, Desk as AtTheDesk, Out}
 use Rattle.desk_store.specs.Holdings.{placed_at, put_down, with_place}
 use Rattle.desk_store.specs.Orders.{state_number, with_order_state}
-use Rattle.desk_store.specs.Shows.{IsLegible, ShowsRoom}
+use Rattle.desk_store.specs.Represents.{IsLegible, RepresentsDeskAlone}
 use Rattle.desk_store.specs.declared.orders.OrderState.{OrderState}
 use Rattle.desk_store.specs.declared.orders.OrderState.TheVariants.{Waiting, «Out» as WithReader, Done, Cancelled}
-use Rattle.office_tables.specs.Calls.{Makes}
-use Rattle.office_tables.specs.Step.{Goes, IsCut}
+use Rattle.office_tables.specs.Calls.{Updates}
+use Rattle.office_tables.specs.Step.{Goes, IsAborted}
 use Rattle.office_tables.specs.declared.fault.StoreFault.{StoreFault}
 use Rattle.office_tables.proofs.CallEnds.{excused_then}
 use Rattle.office_tables.proofs.Calls.{cut_then, early, goes_then, on_err_then, on_ok_then}
@@ -25,7 +25,7 @@ use Rattle.office_tables.proofs.Touching.{touched_again, touched_wider}
 
 -- ---- one call, and then another
 
-went : {X E : Type 0} (r : Result X E) (a b : State) → OnOk r (Goes a b) → OnErr r (IsCut a b) → Survives a b (λ _. ⊥)
+went : {X E : Type 0} (r : Result X E) (a b : State) → OnOk r (Goes a b) → OnErr r (IsAborted a b) → Survives a b (λ _. ⊥)
 went (Ok x) a b goes cut = goes.on.crash
 went (Err e) a b goes cut = cut.crash
 
@@ -39,20 +39,20 @@ module _ {S X Y : Type 0} (g : store.Ghosts S) (before mid after : Held S) (done
   abbrev c : State
   c = state g after
 
-  pub makes_then : Makes g ShowsRoom IsLegible before mid (Ok done) may first one → Makes g ShowsRoom IsLegible mid after r later second two
+  pub makes_then : Updates g RepresentsDeskAlone IsLegible before mid (Ok done) may first one → Updates g RepresentsDeskAlone IsLegible mid after r later second two
       → ((d : Desk) → may d → later (first d)) → ((d : Desk) → IsLegible d → IsLegible (first d))
       → list_all (λ t. list_any (nat_eq t) touched) one ≡ true → list_all (λ t. list_any (nat_eq t) touched) two ≡ true
-      → Makes g ShowsRoom IsLegible before after r may (λ d. second (first d)) touched
+      → Updates g RepresentsDeskAlone IsLegible before after r may (λ d. second (first d)) touched
   makes_then begins goes_on may_then kept_then these those =
       let left = went r b c goes_on.goes goes_on.cut in
       record {
-        shows_made = λ clean s d shown may. goes_on.shows_made clean s (first d) (begins.shows_made (early b c _ left clean) s d shown may) (may_then d may);
+        represents_updated = λ clean s d shown may. goes_on.represents_updated clean s (first d) (begins.represents_updated (early b c _ left clean) s d shown may) (may_then d may);
         only = λ clean. on_ok_then r _ _
             (λ only. touched_again touched a.now b.now c.now (touched_wider one touched a.now b.now these (begins.only (early b c _ left clean))) (touched_wider two touched b.now c.now those only))
             (goes_on.only clean);
         goes = on_ok_then r _ _ (goes_then a b c begins.goes) goes_on.goes;
         cut = on_err_then r _ _ (cut_then a b c begins.goes.on) goes_on.cut;
-        faults = λ s d shown may kept. excused_then a b c begins.goes.on r goes_on.cut (λ clean. goes_on.faults s (first d) (begins.shows_made clean s d shown may) (may_then d may) (kept_then d kept));
+        faults = λ s d shown may kept. excused_then a b c begins.goes.on r goes_on.cut (λ clean. goes_on.faults s (first d) (begins.represents_updated clean s d shown may) (may_then d may) (kept_then d kept));
       }
 
 -- ---- what can be read back

@@ -6,9 +6,9 @@ use Rattle.sqlite.specs.Held.{Held, state}
 use Rattle.sqlite.specs.State.{State, HasCleanDisk}
 use Rattle.sqlite_trees.specs.declared.store.Store as store
 use Rattle.desk_core.specs.DeskRows.{Desk, SeatRow}
-use Rattle.office_tables.specs.Calls.{Makes}
+use Rattle.office_tables.specs.Calls.{Updates}
 use Rattle.office_tables.specs.Changing.{Leaves}
-use Rattle.office_tables.specs.Faults.{Excused}
+use Rattle.office_tables.specs.Faults.{FaultsHaveCause}
 use Rattle.office_tables.specs.Schema.{seat, office}
 use Rattle.office_tables.specs.Schema as tables
 use Rattle.office_tables.specs.Shared.{OfficeRow, office_cells}
@@ -19,15 +19,15 @@ use Rattle.office_tables.proofs.Causes.{still_unlimited}
 use Rattle.office_tables.proofs.LaterCauses.{last_cause}
 use Rattle.office_tables.proofs.Touching.{touched_again, touched_wider}
 use Rattle.office_tables.proofs.numbered.OwnNumbers.{still_numbered}
-use Rattle.desk_store.specs.Opening.{ShowsHouse, IsLegibleHouse, opened}
+use Rattle.desk_store.specs.Opening.{RepresentsBoth, IsLegibleHouse, opened}
 use Rattle.desk_store.specs.Rows.{seat_cells, run_line_cells}
 use Rattle.office_tables.specs.Permits.{permit_cells}
-use Rattle.desk_store.specs.Shows.{ShowsDesk}
+use Rattle.desk_store.specs.Represents.{RepresentsDesk}
 use Rattle.office_tables.specs.Numbered.{AreByNumber}
 use Rattle.desk_store.proofs.Frames.{with_seats}
 
 -- another row of the office is nothing to the desk
-same_desk : (old new : Database) (d : Desk) → OnlyTouches (tables.office.tree ∷ []) old new → ShowsDesk old.trees d → ShowsDesk new.trees d
+same_desk : (old new : Database) (d : Desk) → OnlyTouches (tables.office.tree ∷ []) old new → RepresentsDesk old.trees d → RepresentsDesk new.trees d
 same_desk old new d only shown = record {
   readers = only tables.reader.tree refl refl ∙ shown.readers;
   tickets = shown.tickets;
@@ -56,9 +56,9 @@ module _ {S : Type 0} (g : store.Ghosts S) (before mid : Held S) (day : ℤ) whe
   b = state g mid
 
   -- the seats could not be freed
-  pub not_freed : (e : StoreFault) → Leaves {X = Unit} a b (Err e) → Excused {X = Unit} a b (Err e) → Makes {X = Unit} g ShowsHouse IsLegibleHouse before mid (Err e) (λ _. ⊤) (opened day) (tables.seat.tree ∷ tables.office.tree ∷ [])
+  pub not_freed : (e : StoreFault) → Leaves {X = Unit} a b (Err e) → FaultsHaveCause {X = Unit} a b (Err e) → Updates {X = Unit} g RepresentsBoth IsLegibleHouse before mid (Err e) (λ _. ⊤) (opened day) (tables.seat.tree ∷ tables.office.tree ∷ [])
   not_freed e leaves faults = record {
-    shows_made = λ clean beside house shown may. tt;
+    represents_updated = λ clean beside house shown may. tt;
     only = λ clean. tt;
     goes = tt;
     cut = leaves.cut;
@@ -71,12 +71,12 @@ module _ {S : Type 0} (g : store.Ghosts S) (before mid : Held S) (day : ℤ) whe
     c = state g after
 
     pub opens : Leaves b c r → (HasCleanDisk c → (o : OfficeRow) → Holds office office_cells b (o ∷ []) → OnOk r (HasRows tables.office.tree (office_cells (record o { day = day }) ∷ []) b.now c.now))
-        → (HasCleanDisk c → OnOk r (OnlyTouches (tables.office.tree ∷ []) b.now c.now)) → ((o : OfficeRow) → Holds office office_cells b (o ∷ []) → Excused b c r)
-        → Makes g ShowsHouse IsLegibleHouse before after r (λ _. ⊤) (opened day) (tables.seat.tree ∷ tables.office.tree ∷ [])
+        → (HasCleanDisk c → OnOk r (OnlyTouches (tables.office.tree ∷ []) b.now c.now)) → ((o : OfficeRow) → Holds office office_cells b (o ∷ []) → FaultsHaveCause b c r)
+        → Updates g RepresentsBoth IsLegibleHouse before after r (λ _. ⊤) (opened day) (tables.seat.tree ∷ tables.office.tree ∷ [])
     opens leaves dated dates faults =
         let back = early b c _ leaves.crash in
         record {
-          shows_made = λ clean beside house shown may. on_ok_then r _ _ (λ has. record {
+          represents_updated = λ clean beside house shown may. on_ok_then r _ _ (λ has. record {
             office = has.are;
             desk = same_desk b.now c.now _ has.only (with_seats a.now b.now house.desk shown.desk [] (only (back clean)) (freed (back clean) house.desk.seats shown.desk.seats shown.desk.seats_rise).are tt);
           }) (dated clean house.office (only (back clean) tables.office.tree refl refl ∙ shown.office));

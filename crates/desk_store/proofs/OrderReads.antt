@@ -31,7 +31,7 @@ use Rattle.office_tables.proofs.statements.SelectOf.{select_finds, select_faults
 use Rattle.office_tables.proofs.Tests.{only, same_number, by_one_int}
 use Rattle.desk_store.specs.Orders.{state_number, IsThere}
 use Rattle.desk_store.specs.Rows.{order_cells}
-use Rattle.desk_store.specs.Shows.{IsLegibleOrder}
+use Rattle.desk_store.specs.Represents.{IsLegibleOrder}
 use Rattle.desk_store.specs.declared.orders.OrderEntry.{OrderEntry}
 use Rattle.desk_store.specs.declared.orders.PlacedOrder.{PlacedOrder}
 use Rattle.desk_store.proofs.CardRows.{by_order, in_order}

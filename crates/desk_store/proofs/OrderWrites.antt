@@ -30,9 +30,9 @@ use Rattle.tree_core.proofs.Lists.{eqb_comm}
 use Rattle.tree_core.specs.Versions.{Version, Links, Spans}
 use Rattle.isad_core.specs.Limits.{most_orders}
 use Rattle.desk_core.specs.DeskRows.{OrderRow, with_state}
-use Rattle.office_tables.specs.Calls.{Makes}
+use Rattle.office_tables.specs.Calls.{Updates}
 use Rattle.office_tables.specs.Changing.{Leaves, Ran}
-use Rattle.office_tables.specs.Faults.{Excused, IsUnlimited, HasCause}
+use Rattle.office_tables.specs.Faults.{FaultsHaveCause, IsUnlimited, HasCause}
 use Rattle.office_tables.specs.Meaning.{Means}
 use Rattle.office_tables.specs.Schema.{schema, orders}
 use Rattle.office_tables.specs.Schema as tables
@@ -40,7 +40,7 @@ use Rattle.office_tables.specs.Step.{Holds, HasRows, OnlyTouches, PutsRow}
 use Rattle.office_tables.specs.declared.fault.StoreFault.{StoreFault}
 use Rattle.desk_store.specs.Orders.{state_number, with_order, with_order_state, IsNextOrder}
 use Rattle.desk_store.specs.Rows.{order_cells}
-use Rattle.desk_store.specs.Shows.{ShowsRoom, IsLegible}
+use Rattle.desk_store.specs.Represents.{RepresentsDeskAlone, IsLegible}
 use Rattle.office_tables.specs.Numbered.{AreCounted}
 use Rattle.desk_store.specs.declared.orders.OrderState.{OrderState}
 use Rattle.office_tables.proofs.Calls.{on_ok_then}
@@ -168,10 +168,10 @@ module _ {S : Type 0} (g : store.Ghosts S) (before after : Held S) (r : Result U
 
   pub appended : (ticket container : ℕ) (day : ℤ) → Leaves old new r
       → (HasCleanDisk new → OnOk r (PutsRow tables.orders.tree (order_cells (record { id = id; ticket = ticket; container = container; day = day; state = 1 })) old.now new.now))
-      → ((xs : List OrderRow) → Holds orders order_cells old xs → list_any (λ (o : OrderRow). nat_eq id o.id) xs ≡ false → Excused old new r)
-      → Makes g ShowsRoom IsLegible before after r (IsNextOrder id) (with_order ticket container day) (tables.orders.tree ∷ [])
+      → ((xs : List OrderRow) → Holds orders order_cells old xs → list_any (λ (o : OrderRow). nat_eq id o.id) xs ≡ false → FaultsHaveCause old new r)
+      → Updates g RepresentsDeskAlone IsLegible before after r (IsNextOrder id) (with_order ticket container day) (tables.orders.tree ∷ [])
   appended ticket container day leaves puts faults = record {
-    shows_made = λ clean beside d shown may. on_ok_then r _ _ (λ put.
+    represents_updated = λ clean beside d shown may. on_ok_then r _ _ (λ put.
         let n = may.1 in
         let few = may.0 in
         let next : id ≡ 1 + length d.orders = n ∙ omega arith in
@@ -193,10 +193,10 @@ module _ {S : Type 0} (g : store.Ghosts S) (before after : Held S) (r : Result U
   pub brought : (next : OrderState) → Leaves old new r
       → (HasCleanDisk new → (xs : List OrderRow) → Holds orders order_cells old xs → AreCounted (λ (o : OrderRow). o.id) xs → OnOk r (HasRows tables.orders.tree (map order_cells (with_state id (state_number next) xs)) old.now new.now))
       → (HasCleanDisk new → OnOk r (OnlyTouches (tables.orders.tree ∷ []) old.now new.now))
-      → ((xs : List OrderRow) → Holds orders order_cells old xs → AreCounted (λ (o : OrderRow). o.id) xs → Excused old new r)
-      → Makes g ShowsRoom IsLegible before after r (λ _. ⊤) (with_order_state id next) (tables.orders.tree ∷ [])
+      → ((xs : List OrderRow) → Holds orders order_cells old xs → AreCounted (λ (o : OrderRow). o.id) xs → FaultsHaveCause old new r)
+      → Updates g RepresentsDeskAlone IsLegible before after r (λ _. ⊤) (with_order_state id next) (tables.orders.tree ∷ [])
   brought next leaves rows only faults = record {
-    shows_made = λ clean beside d shown may. on_ok_then r _ _ (λ has.
+    represents_updated = λ clean beside d shown may. on_ok_then r _ _ (λ has.
         with_orders old.now new.now d shown _ has.only has.are
         (counted_again (λ (o : OrderRow). o.id) 1 _ (same_orders id (state_number next)) d.orders shown.order_numbers)
         (subst (λ n. n ≤ most_orders) (sym (length-map d.orders _)) shown.few_orders)) (rows clean d.orders shown.orders shown.order_numbers);

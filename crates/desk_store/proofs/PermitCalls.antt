@@ -19,9 +19,9 @@ use Rattle.sqlite_rules.proofs.ListLemmas.{has_filtered}
 use Rattle.sqlite_trees.proofs.ListLemmas.{all-filter}
 use Rattle.sqlite_trees.specs.declared.store.Store as store
 use Rattle.desk_core.specs.DeskRows.{Desk, PermitRow}
-use Rattle.office_tables.specs.Calls.{Makes}
+use Rattle.office_tables.specs.Calls.{Updates}
 use Rattle.office_tables.specs.Changing.{Leaves}
-use Rattle.office_tables.specs.Faults.{Excused}
+use Rattle.office_tables.specs.Faults.{FaultsHaveCause}
 use Rattle.office_tables.specs.Order.{IsOrdered}
 use Rattle.office_tables.specs.Step.{Goes, PutsRow, OnlyTouches}
 use Rattle.office_tables.specs.declared.fault.StoreFault.{StoreFault}
@@ -32,10 +32,10 @@ use Rattle.office_tables.proofs.Puts.{has_at}
 use Rattle.office_tables.proofs.Rows.{had}
 use Rattle.desk_store.specs.Permits.{by_unit, is_permit, without_permit, with_permit, permits_of, revoked, HasUnitRow, MayHave}
 use Rattle.office_tables.specs.Permits.{permit_cells}
-use Rattle.desk_store.specs.Shows.{ShowsDesk, ShowsRoom, IsLegible, IsNumberOf}
+use Rattle.desk_store.specs.Represents.{RepresentsDesk, RepresentsDeskAlone, IsLegible, IsNumberOf}
 use Rattle.office_tables.specs.Numbered.{HasNumbered}
 use Rattle.office_tables.specs.Schema as tables
-use Rattle.desk_store.specs.declared.granting.Permit.{Permit}
+use Rattle.desk_store.specs.declared.reader_permits.Permit.{Permit}
 use Rattle.desk_store.proofs.NumbersOf.{none_after}
 use Rattle.desk_store.proofs.Frames.{with_permits}
 use Rattle.office_tables.proofs.numbered.OwnNumbers.{one_more, told_permuted}
@@ -70,7 +70,7 @@ module _ (t : ℕ) (there : List Row) (ps : List PermitRow) (at : HasNumbered pe
   told_ordered ys ordered = (told_permuted permit_cells permit_of there ps at of_ticket ys ordered.0, told_sorted ys ordered.0 ordered.1)
 
 -- a ticket that was not given has no permit
-pub none_given : (t : ℕ) (db : Trees) (d : Desk) → ShowsDesk db d → length d.readers < t → IsOrdered by_unit (permits_of t d) []
+pub none_given : (t : ℕ) (db : Trees) (d : Desk) → RepresentsDesk db d → length d.readers < t → IsOrdered by_unit (permits_of t d) []
 none_given t db d shown over =
     subst (λ ps. IsOrdered by_unit (map told ps) []) (sym (none_after (λ (p : PermitRow). p.ticket) d.readers t over d.permits shown.permit_tickets)) (IsPermutation-refl [], λ k e low high. absurd (omega (arith, high)))
   where
@@ -80,7 +80,7 @@ none_given t db d shown over =
 -- ---- the ticket has no permit any more
 
 -- those that are left are of tickets that were given
-tickets_left : (t u : ℕ) (d : Desk) (db : Trees) → ShowsDesk db d → AllByRecursion (λ (p : PermitRow). IsNumberOf d.readers p.ticket) (without_permit t u d.permits)
+tickets_left : (t u : ℕ) (d : Desk) (db : Trees) → RepresentsDesk db d → AllByRecursion (λ (p : PermitRow). IsNumberOf d.readers p.ticket) (without_permit t u d.permits)
 tickets_left t u d db shown = all-filter (λ (p : PermitRow). IsNumberOf d.readers p.ticket) (λ p. not (is_permit t u p)) d.permits shown.permit_tickets
 
 none_left : (t u : ℕ) (ps : List PermitRow) → list_any (is_permit t u) (without_permit t u ps) ≡ false
@@ -100,9 +100,9 @@ module _ {S : Type 0} (g : store.Ghosts S) (before after : Held S) (r : Result U
   new = state g after
 
   pub takes_back : (t u : ℕ) → Leaves old new r → (HasCleanDisk new → (ps : List PermitRow) → HasNumbered permit_cells (old.now.trees tables.permit.tree) ps → OnOk r (HasNumbered permit_cells (new.now.trees tables.permit.tree) (without_permit t u ps)))
-      → (HasCleanDisk new → OnOk r (OnlyTouches (tables.permit.tree ∷ []) old.now new.now)) → Excused old new r → Makes g ShowsRoom IsLegible before after r (λ _. ⊤) (revoked t u) (tables.permit.tree ∷ [])
+      → (HasCleanDisk new → OnOk r (OnlyTouches (tables.permit.tree ∷ []) old.now new.now)) → FaultsHaveCause old new r → Updates g RepresentsDeskAlone IsLegible before after r (λ _. ⊤) (revoked t u) (tables.permit.tree ∷ [])
   takes_back t u leaves rows only faults = record {
-    shows_made = λ clean beside d shown may. on_ok_both r _ _ _ (λ touches has. with_permits old.now new.now d shown _ touches has (tickets_left t u d old.now.trees shown)) (only clean) (rows clean d.permits shown.permits);
+    represents_updated = λ clean beside d shown may. on_ok_both r _ _ _ (λ touches has. with_permits old.now new.now d shown _ touches has (tickets_left t u d old.now.trees shown)) (only clean) (rows clean d.permits shown.permits);
     only = only;
     goes = leaves.goes;
     cut = leaves.cut;
@@ -124,10 +124,10 @@ module _ {S : Type 0} (g : store.Ghosts S) (before mid after : Held S) (t u : �
   abbrev row : PermitRow
   row = record { ticket = t; unit = u; until = until }
 
-  pub not_cleared : (e : StoreFault) → Leaves {X = Unit} a b (Err e) → Excused {X = Unit} a b (Err e)
-      → Makes {X = Unit} g ShowsRoom IsLegible before mid (Err e) (MayHave t u a.now.trees) (with_permit t u until) (tables.permit.tree ∷ [])
+  pub not_cleared : (e : StoreFault) → Leaves {X = Unit} a b (Err e) → FaultsHaveCause {X = Unit} a b (Err e)
+      → Updates {X = Unit} g RepresentsDeskAlone IsLegible before mid (Err e) (MayHave t u a.now.trees) (with_permit t u until) (tables.permit.tree ∷ [])
   not_cleared e leaves faults = record {
-    shows_made = λ clean beside d shown may. tt;
+    represents_updated = λ clean beside d shown may. tt;
     only = λ clean. tt;
     goes = tt;
     cut = leaves.cut;
@@ -139,18 +139,18 @@ module _ {S : Type 0} (g : store.Ghosts S) (before mid after : Held S) (t u : �
     still_there : HasCleanDisk b → HasUnitRow u a.now.trees → HasUnitRow u b.now.trees
     still_there clean known = subst (λ rows. (row : Row) × Has rows row × (rowid row ≡ Int (pos u))) (sym (only clean tables.unit.tree refl refl)) known
 
-    put : HasCleanDisk b → PutsRow tables.permit.tree (permit_cells (next_rowid (b.now.trees tables.permit.tree), row)) b.now c.now → (d : Desk) → ShowsDesk a.now.trees d → IsNumberOf d.readers t → ShowsDesk c.now.trees (with_permit t u until d)
+    put : HasCleanDisk b → PutsRow tables.permit.tree (permit_cells (next_rowid (b.now.trees tables.permit.tree), row)) b.now c.now → (d : Desk) → RepresentsDesk a.now.trees d → IsNumberOf d.readers t → RepresentsDesk c.now.trees (with_permit t u until d)
     put clean puts d shown given =
         with_permits a.now c.now d shown (row ∷ without_permit t u d.permits) (λ tree known other. puts.only tree known other ∙ only clean tree known other)
         (one_more permit_cells (λ _. refl) (b.now.trees tables.permit.tree) (c.now.trees tables.permit.tree) (without_permit t u d.permits) (next_rowid (b.now.trees tables.permit.tree)) row (left clean d.permits shown.permits) puts.rows puts.fresh) (given, tickets_left t u d a.now.trees shown)
 
     pub grants : Leaves b c r → (HasCleanDisk c → OnOk r (PutsRow tables.permit.tree (permit_cells (next_rowid (b.now.trees tables.permit.tree), row)) b.now c.now))
-        → ((ps : List PermitRow) → HasNumbered permit_cells (b.now.trees tables.permit.tree) ps → list_any (is_permit t u) ps ≡ false → HasUnitRow u b.now.trees → Excused b c r)
-        → Makes g ShowsRoom IsLegible before after r (MayHave t u a.now.trees) (with_permit t u until) (tables.permit.tree ∷ [])
+        → ((ps : List PermitRow) → HasNumbered permit_cells (b.now.trees tables.permit.tree) ps → list_any (is_permit t u) ps ≡ false → HasUnitRow u b.now.trees → FaultsHaveCause b c r)
+        → Updates g RepresentsDeskAlone IsLegible before after r (MayHave t u a.now.trees) (with_permit t u until) (tables.permit.tree ∷ [])
     grants leaves puts faults =
         let back = early b c _ leaves.crash in
         record {
-          shows_made = λ clean beside d shown may. on_ok_then r _ _ (λ at. put (back clean) at d shown may.0) (puts clean);
+          represents_updated = λ clean beside d shown may. on_ok_then r _ _ (λ at. put (back clean) at d shown may.0) (puts clean);
           only = λ clean. on_ok_then r _ _ (λ (at : PutsRow tables.permit.tree (permit_cells (next_rowid (b.now.trees tables.permit.tree), row)) b.now c.now) tree known other. at.only tree known other ∙ only (back clean) tree known other) (puts clean);
           goes = on_ok_then r _ _ (goes_then a b c goes) leaves.goes;
           cut = on_err_then r _ _ (cut_then a b c goes.on) leaves.cut;

@@ -41,7 +41,7 @@ use Rattle.office_tables.specs.declared.fault.StoreFault.{StoreFault}
 use Rattle.desk_store.specs.Permits.{is_permit, without_permit, HasUnitRow}
 use Rattle.office_tables.specs.Permits.{permit_cells}
 use Rattle.office_tables.specs.Numbered.{HasNumbered}
-use Rattle.desk_store.specs.declared.granting.Permit.{Permit}
+use Rattle.desk_store.specs.declared.reader_permits.Permit.{Permit}
 use Rattle.office_tables.proofs.Calls.{on_ok_then}
 use Rattle.office_tables.proofs.Casts.{cast_int, cast_null}
 use Rattle.office_tables.proofs.Queries.{asking, choosing}

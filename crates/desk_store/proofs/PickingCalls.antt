@@ -9,7 +9,7 @@ use Rattle.desk_store.specs.Holdings.{waits_for, is_on_shelf, is_first, candidat
 use Rattle.desk_store.specs.Picking.{is_earliest, is_new}
 use Rattle.office_tables.specs.Numbered.{AreByNumber, AreCounted}
 use Rattle.desk_store.specs.declared.holdings.FirstOrder.{FirstOrder}
-use Rattle.desk_store.specs.declared.lending.HoldingLine.{HoldingLine}
+use Rattle.desk_store.specs.declared.loans.HoldingLine.{HoldingLine}
 use Rattle.office_tables.proofs.numbered.Counted.{counted_rises}
 use Rattle.desk_store.proofs.LoanRows.{line_of}
 use Rattle.desk_store.proofs.PickingRows.{first_of}

@@ -33,7 +33,7 @@ use Rattle.office_tables.proofs.statements.SelectOf.{select_finds, select_faults
 use Rattle.office_tables.proofs.Tests.{only, same_number, by_one_int}
 use Rattle.desk_store.specs.Orders.{IsAt}
 use Rattle.desk_store.specs.Rows.{holding_cells}
-use Rattle.desk_store.specs.Shows.{IsKnownPlace, IsLegibleHolding}
+use Rattle.desk_store.specs.Represents.{IsKnownPlace, IsLegibleHolding}
 use Rattle.desk_store.specs.declared.queues.PlaceEntry.{PlaceEntry}
 use Rattle.desk_store.proofs.CardRows.{in_order}
 use Rattle.desk_store.proofs.LoanRows.{by_container}

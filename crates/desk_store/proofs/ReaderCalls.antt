@@ -12,11 +12,11 @@ use Rattle.sqlite.specs.Tree.{put_row}
 use Rattle.sqlite_trees.specs.declared.store.Store as store
 use Rattle.isad_core.specs.Limits.{most_tickets}
 use Rattle.desk_core.specs.DeskRows.{Desk, ReaderRow}
-use Rattle.office_tables.specs.Calls.{Makes}
+use Rattle.office_tables.specs.Calls.{Updates}
 use Rattle.office_tables.specs.Faults.{IsUnlimited, HasCause}
 use Rattle.office_tables.specs.Schema.{reader}
 use Rattle.office_tables.specs.Schema as tables
-use Rattle.office_tables.specs.Step.{Goes, Holds, IsCut, Looks, OnlyTouches, PutsRow}
+use Rattle.office_tables.specs.Step.{Goes, Holds, IsAborted, LeavesUnchanged, OnlyTouches, PutsRow}
 use Rattle.office_tables.specs.declared.fault.StoreFault.{StoreFault}
 use Rattle.office_tables.proofs.Calls.{early, goes_then, cut_then}
 use Rattle.office_tables.proofs.Causes.{still_unlimited}
@@ -24,7 +24,7 @@ use Rattle.office_tables.proofs.LaterCauses.{next_cause}
 use Rattle.office_tables.proofs.Puts.{put_rows}
 use Rattle.desk_store.specs.Readers.{next_ticket, with_reader}
 use Rattle.desk_store.specs.Rows.{reader_cells}
-use Rattle.desk_store.specs.Shows.{ShowsDesk, ShowsRoom, IsLegible}
+use Rattle.desk_store.specs.Represents.{RepresentsDesk, RepresentsDeskAlone, IsLegible}
 use Rattle.office_tables.proofs.numbered.Counted.{counted_more, counted_free, put_end}
 use Rattle.desk_store.proofs.Frames.{with_readers}
 
@@ -48,39 +48,39 @@ module _ {S : Type 0} (g : store.Ghosts S) (before mid after : Held S) (name : B
   abbrev row : ReaderRow
   row = record { ticket = ticket; name = name; until = until }
 
-  module _ (looked : Looks a b) (is : HasCleanDisk b → (d : Desk) → ShowsDesk a.now.trees d → Some ticket ≡ next_ticket d) where
-    still_shown : HasCleanDisk b → (d : Desk) → ShowsDesk a.now.trees d → ShowsDesk b.now.trees d
-    still_shown clean d shown = subst (λ (db : Database). ShowsDesk db.trees d) (sym (looked.same clean)) shown
+  module _ (looked : LeavesUnchanged a b) (is : HasCleanDisk b → (d : Desk) → RepresentsDesk a.now.trees d → Some ticket ≡ next_ticket d) where
+    still_shown : HasCleanDisk b → (d : Desk) → RepresentsDesk a.now.trees d → RepresentsDesk b.now.trees d
+    still_shown clean d shown = subst (λ (db : Database). RepresentsDesk db.trees d) (sym (looked.same clean)) shown
 
-    put : HasCleanDisk b → PutsRow tables.reader.tree (reader_cells row) b.now c.now → (d : Desk) → ShowsDesk a.now.trees d → ShowsDesk c.now.trees (with_reader (next_ticket d) name until d)
+    put : HasCleanDisk b → PutsRow tables.reader.tree (reader_cells row) b.now c.now → (d : Desk) → RepresentsDesk a.now.trees d → RepresentsDesk c.now.trees (with_reader (next_ticket d) name until d)
     put clean puts d shown =
         let at = is clean d shown in
         let n = next_is d ticket at in
         let few = n.1 in
         let there = still_shown clean d shown in
-        subst (λ o. ShowsDesk c.now.trees (with_reader o name until d)) at
+        subst (λ o. RepresentsDesk c.now.trees (with_reader o name until d)) at
         (with_readers b.now c.now d there (d.readers ++ row ∷ []) puts.only
         (puts.rows ∙ ap (put_row (reader_cells row)) there.readers ∙ put_rows reader_cells (λ (r : ReaderRow). pos r.ticket) (λ _. refl) row d.readers
         ∙ ap (map reader_cells) (put_end (λ (r : ReaderRow). r.ticket) 1 d.readers row shown.tickets n.0))
         (counted_more (λ (r : ReaderRow). r.ticket) 1 d.readers row shown.tickets n.0)
         (let size = length-append d.readers (row ∷ []) in omega (arith, size, few)) (let size = length-append d.readers (row ∷ []) in omega (arith, size)))
 
-    pub added : Goes b c → (HasCleanDisk c → PutsRow tables.reader.tree (reader_cells row) b.now c.now) → Makes g ShowsRoom IsLegible before after (Ok (Some ticket)) (λ _. ⊤) (λ d. with_reader (next_ticket d) name until d) (tables.reader.tree ∷ [])
+    pub added : Goes b c → (HasCleanDisk c → PutsRow tables.reader.tree (reader_cells row) b.now c.now) → Updates g RepresentsDeskAlone IsLegible before after (Ok (Some ticket)) (λ _. ⊤) (λ d. with_reader (next_ticket d) name until d) (tables.reader.tree ∷ [])
     added goes puts =
         let back = early b c _ goes.on.crash in
         record {
-          shows_made = λ clean beside d shown may. put (back clean) (puts clean) d shown;
+          represents_updated = λ clean beside d shown may. put (back clean) (puts clean) d shown;
           only = λ clean. subst (λ (db : Database). OnlyTouches (tables.reader.tree ∷ []) db c.now) (looked.same (back clean)) (puts clean).only;
           goes = goes_then a b c looked.goes goes;
           cut = tt;
           faults = λ beside d shown may kept clean free. tt;
         }
 
-    pub failed : (e : StoreFault) → IsCut b c
+    pub failed : (e : StoreFault) → IsAborted b c
         → ((xs : List ReaderRow) → Holds reader reader_cells b xs → list_any (λ (r : ReaderRow). nat_eq ticket r.ticket) xs ≡ false → HasCleanDisk c → IsUnlimited b → HasCause b c e)
-        → Makes {X = Option ℕ} g ShowsRoom IsLegible before after (Err e) (λ _. ⊤) (λ d. with_reader (next_ticket d) name until d) (tables.reader.tree ∷ [])
+        → Updates {X = Option ℕ} g RepresentsDeskAlone IsLegible before after (Err e) (λ _. ⊤) (λ d. with_reader (next_ticket d) name until d) (tables.reader.tree ∷ [])
     failed e cut why = record {
-      shows_made = λ clean beside d shown may. tt;
+      represents_updated = λ clean beside d shown may. tt;
       only = λ clean. tt;
       goes = tt;
       cut = cut_then a b c looked.goes.on cut;

@@ -44,7 +44,7 @@ use Rattle.office_tables.specs.Step.{Holds, HasRows, OnlyTouches, PutsRow}
 use Rattle.office_tables.specs.declared.fault.StoreFault.{StoreFault}
 use Rattle.desk_store.specs.Readers.{renewed}
 use Rattle.desk_store.specs.Rows.{reader_cells}
-use Rattle.desk_store.specs.Shows.{IsLegibleReader}
+use Rattle.desk_store.specs.Represents.{IsLegibleReader}
 use Rattle.office_tables.specs.Numbered.{AreCounted}
 use Rattle.desk_store.specs.declared.readers.NamedReader.{NamedReader}
 use Rattle.office_tables.proofs.Casts.{cast_int, cast_null}

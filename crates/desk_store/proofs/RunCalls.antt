@@ -14,9 +14,9 @@ use Rattle.sqlite_trees.specs.declared.store.Store as store
 use Rattle.tree_core.proofs.Lists.{eqb_comm}
 use Rattle.isad_core.specs.Limits.{most_runs}
 use Rattle.desk_core.specs.DeskRows.{Desk, RunRow, RunLineRow}
-use Rattle.office_tables.specs.Calls.{Makes}
+use Rattle.office_tables.specs.Calls.{Updates}
 use Rattle.office_tables.specs.Faults.{IsUnlimited, HasCause}
-use Rattle.office_tables.specs.Step.{Goes, IsCut, Looks, OnlyTouches, PutsRow}
+use Rattle.office_tables.specs.Step.{Goes, IsAborted, LeavesUnchanged, OnlyTouches, PutsRow}
 use Rattle.office_tables.specs.declared.fault.StoreFault.{StoreFault}
 use Rattle.office_tables.proofs.Calls.{early, goes_then, cut_then}
 use Rattle.office_tables.proofs.Causes.{still_unlimited}
@@ -25,7 +25,7 @@ use Rattle.office_tables.proofs.Puts.{put_rows}
 use Rattle.office_tables.proofs.Touching.{touched_again, touched_wider}
 use Rattle.desk_store.specs.Rows.{run_cells, run_line_cells}
 use Rattle.desk_store.specs.Runs.{next_run, line_of, with_run, TakesEachOnce}
-use Rattle.desk_store.specs.Shows.{ShowsDesk, ShowsRoom, IsLegible, IsNumberOf}
+use Rattle.desk_store.specs.Represents.{RepresentsDesk, RepresentsDeskAlone, IsLegible, IsNumberOf}
 use Rattle.office_tables.specs.Numbered.{HasNumbered}
 use Rattle.office_tables.specs.Schema as tables
 use Rattle.desk_store.specs.declared.holdings.FirstOrder.{FirstOrder}
@@ -87,18 +87,18 @@ module _ (a b c : State) (run : ℕ) (on : ℤ) (taken : List FirstOrder) where
       touched_again (tables.run.tree ∷ tables.run_line.tree ∷ []) a.now b.now c.now (touched_wider (tables.run.tree ∷ []) (tables.run.tree ∷ tables.run_line.tree ∷ []) a.now b.now refl first) (touched_wider (tables.run_line.tree ∷ []) (tables.run.tree ∷ tables.run_line.tree ∷ []) b.now c.now refl then)
 
   -- the lines are as they were
-  pub lines_still : OnlyTouches (tables.run.tree ∷ []) a.now b.now → (d : Desk) → ShowsDesk a.now.trees d → HasNumbered run_line_cells (b.now.trees tables.run_line.tree) d.run_lines
+  pub lines_still : OnlyTouches (tables.run.tree ∷ []) a.now b.now → (d : Desk) → RepresentsDesk a.now.trees d → HasNumbered run_line_cells (b.now.trees tables.run_line.tree) d.run_lines
   lines_still first d shown = still_numbered run_line_cells (a.now.trees tables.run_line.tree) (b.now.trees tables.run_line.tree) d.run_lines (first tables.run_line.tree refl refl) shown.run_lines
 
-  pub run_free : (d : Desk) → ShowsDesk a.now.trees d → Some run ≡ next_run d → list_any (λ (r : RunRow). nat_eq run r.id) d.runs ≡ false
+  pub run_free : (d : Desk) → RepresentsDesk a.now.trees d → Some run ≡ next_run d → list_any (λ (r : RunRow). nat_eq run r.id) d.runs ≡ false
   run_free d shown is = counted_free (λ (r : RunRow). r.id) 1 d.runs run shown.run_numbers ((next_is d run is).0 ∙ omega arith)
 
   -- no line has the run's number yet
-  pub no_line : (d : Desk) → ShowsDesk a.now.trees d → Some run ≡ next_run d → filter (λ (l : RunLineRow). nat_eq run l.run) d.run_lines ≡ []
+  pub no_line : (d : Desk) → RepresentsDesk a.now.trees d → Some run ≡ next_run d → filter (λ (l : RunLineRow). nat_eq run l.run) d.run_lines ≡ []
   no_line d shown is = none_after (λ (l : RunLineRow). l.run) d.runs run (let n = (next_is d run is).0 in omega (arith, n)) d.run_lines shown.line_runs
 
   -- the old lines are of the old runs, and the new ones of this
-  lines_known : (d : Desk) → ShowsDesk a.now.trees d → Some run ≡ next_run d → AllByRecursion (λ (l : RunLineRow). IsNumberOf (d.runs ++ row ∷ []) l.run) (d.run_lines ++ map (line_of run) taken)
+  lines_known : (d : Desk) → RepresentsDesk a.now.trees d → Some run ≡ next_run d → AllByRecursion (λ (l : RunLineRow). IsNumberOf (d.runs ++ row ∷ []) l.run) (d.run_lines ++ map (line_of run) taken)
   lines_known d shown is =
       let size = length-append d.runs (row ∷ []) in
       let n = (next_is d run is).0 in
@@ -106,8 +106,8 @@ module _ (a b c : State) (run : ℕ) (on : ℤ) (taken : List FirstOrder) where
       (widened (λ (l : RunLineRow). l.run) d.runs (d.runs ++ row ∷ []) (omega (arith, size)) d.run_lines shown.line_runs)
       (all-map (λ (l : RunLineRow). IsNumberOf (d.runs ++ row ∷ []) l.run) (line_of run) taken (all_of (λ _. IsNumberOf (d.runs ++ row ∷ []) run) (λ _. (omega (arith, n), omega (arith, n, size))) taken))
 
-  pub run_shown : PutsRow tables.run.tree (run_cells row) a.now b.now → OnlyTouches (tables.run_line.tree ∷ []) b.now c.now → (d : Desk) → ShowsDesk a.now.trees d → Some run ≡ next_run d
-      → HasNumbered run_line_cells (c.now.trees tables.run_line.tree) (d.run_lines ++ map (line_of run) taken) → ShowsDesk c.now.trees (with_run (Some run) on taken d)
+  pub run_shown : PutsRow tables.run.tree (run_cells row) a.now b.now → OnlyTouches (tables.run_line.tree ∷ []) b.now c.now → (d : Desk) → RepresentsDesk a.now.trees d → Some run ≡ next_run d
+      → HasNumbered run_line_cells (c.now.trees tables.run_line.tree) (d.run_lines ++ map (line_of run) taken) → RepresentsDesk c.now.trees (with_run (Some run) on taken d)
   run_shown put lines d shown is has =
       let n = next_is d run is in
       let few = n.1 in
@@ -119,7 +119,7 @@ module _ (a b c : State) (run : ℕ) (on : ℤ) (taken : List FirstOrder) where
       (let size = length-append d.runs (row ∷ []) in omega (arith, size, few)) has (lines_known d shown is)
 
 -- before the last step the disk was clean too
-pub clean_before : {X : Type 0} (b c : State) (r : Result X StoreFault) → OnOk r (Goes b c) → OnErr r (IsCut b c) → HasCleanDisk c → HasCleanDisk b
+pub clean_before : {X : Type 0} (b c : State) (r : Result X StoreFault) → OnOk r (Goes b c) → OnErr r (IsAborted b c) → HasCleanDisk c → HasCleanDisk b
 clean_before b c (Ok x) goes cut clean = early b c _ goes.on.crash clean
 clean_before b c (Err e) goes cut clean = early b c _ cut.crash clean
 
@@ -135,28 +135,28 @@ module _ {S : Type 0} (g : store.Ghosts S) (before mid after : Held S) (on : ℤ
   abbrev c : State
   c = state g after
 
-  module _ (looked : Looks a b) (is : HasCleanDisk b → (d : Desk) → ShowsDesk a.now.trees d → Some run ≡ next_run d) where
-    still_shown : HasCleanDisk b → (d : Desk) → ShowsDesk a.now.trees d → ShowsDesk b.now.trees d
-    still_shown clean d shown = subst (λ (db : Database). ShowsDesk db.trees d) (sym (looked.same clean)) shown
+  module _ (looked : LeavesUnchanged a b) (is : HasCleanDisk b → (d : Desk) → RepresentsDesk a.now.trees d → Some run ≡ next_run d) where
+    still_shown : HasCleanDisk b → (d : Desk) → RepresentsDesk a.now.trees d → RepresentsDesk b.now.trees d
+    still_shown clean d shown = subst (λ (db : Database). RepresentsDesk db.trees d) (sym (looked.same clean)) shown
 
-    pub recorded : Goes b c → (HasCleanDisk c → (d : Desk) → ShowsDesk b.now.trees d → Some run ≡ next_run d → ShowsDesk c.now.trees (with_run (Some run) on taken d)) → (HasCleanDisk c → OnlyTouches (tables.run.tree ∷ tables.run_line.tree ∷ []) b.now c.now)
-        → Makes g ShowsRoom IsLegible before after (Ok (Some run)) (λ _. TakesEachOnce taken) (λ d. with_run (next_run d) on taken d) (tables.run.tree ∷ tables.run_line.tree ∷ [])
-    recorded goes shows only =
+    pub recorded : Goes b c → (HasCleanDisk c → (d : Desk) → RepresentsDesk b.now.trees d → Some run ≡ next_run d → RepresentsDesk c.now.trees (with_run (Some run) on taken d)) → (HasCleanDisk c → OnlyTouches (tables.run.tree ∷ tables.run_line.tree ∷ []) b.now c.now)
+        → Updates g RepresentsDeskAlone IsLegible before after (Ok (Some run)) (λ _. TakesEachOnce taken) (λ d. with_run (next_run d) on taken d) (tables.run.tree ∷ tables.run_line.tree ∷ [])
+    recorded goes represents only =
         let back = early b c _ goes.on.crash in
         record {
-          shows_made = λ clean beside d shown may.
+          represents_updated = λ clean beside d shown may.
               let at = is (back clean) d shown in
-              subst (λ o. ShowsDesk c.now.trees (with_run o on taken d)) at (shows clean d (still_shown (back clean) d shown) at);
+              subst (λ o. RepresentsDesk c.now.trees (with_run o on taken d)) at (represents clean d (still_shown (back clean) d shown) at);
           only = λ clean. subst (λ (db : Database). OnlyTouches (tables.run.tree ∷ tables.run_line.tree ∷ []) db c.now) (looked.same (back clean)) (only clean);
           goes = goes_then a b c looked.goes goes;
           cut = tt;
           faults = λ beside d shown may kept clean free. tt;
         }
 
-    pub not_recorded : (e : StoreFault) → IsCut b c → ((d : Desk) → ShowsDesk b.now.trees d → Some run ≡ next_run d → TakesEachOnce taken → HasCleanDisk c → IsUnlimited b → HasCause b c e)
-        → Makes {X = Option ℕ} g ShowsRoom IsLegible before after (Err e) (λ _. TakesEachOnce taken) (λ d. with_run (next_run d) on taken d) (tables.run.tree ∷ tables.run_line.tree ∷ [])
+    pub not_recorded : (e : StoreFault) → IsAborted b c → ((d : Desk) → RepresentsDesk b.now.trees d → Some run ≡ next_run d → TakesEachOnce taken → HasCleanDisk c → IsUnlimited b → HasCause b c e)
+        → Updates {X = Option ℕ} g RepresentsDeskAlone IsLegible before after (Err e) (λ _. TakesEachOnce taken) (λ d. with_run (next_run d) on taken d) (tables.run.tree ∷ tables.run_line.tree ∷ [])
     not_recorded e cut why = record {
-      shows_made = λ clean beside d shown may. tt;
+      represents_updated = λ clean beside d shown may. tt;
       only = λ clean. tt;
       goes = tt;
       cut = cut_then a b c looked.goes.on cut;

@@ -7,9 +7,9 @@ use Rattle.sqlite.specs.Tree.{put_row}
 use Rattle.sqlite_trees.proofs.ListLemmas.{ascending-filter}
 use Rattle.sqlite_trees.specs.declared.store.Store as store
 use Rattle.desk_core.specs.DeskRows.{SeatRow}
-use Rattle.office_tables.specs.Calls.{Makes}
+use Rattle.office_tables.specs.Calls.{Updates}
 use Rattle.office_tables.specs.Changing.{Leaves}
-use Rattle.office_tables.specs.Faults.{Excused}
+use Rattle.office_tables.specs.Faults.{FaultsHaveCause}
 use Rattle.office_tables.specs.Schema.{seat}
 use Rattle.office_tables.specs.Schema as tables
 use Rattle.office_tables.specs.Step.{Holds, HasRows, PutsRow, OnlyTouches}
@@ -18,7 +18,7 @@ use Rattle.office_tables.proofs.Calls.{on_ok_then}
 use Rattle.office_tables.proofs.Puts.{put_rows, put_rises}
 use Rattle.desk_store.specs.Rows.{seat_cells}
 use Rattle.desk_store.specs.Seats.{MayTake, with_seat}
-use Rattle.desk_store.specs.Shows.{ShowsRoom, IsLegible}
+use Rattle.desk_store.specs.Represents.{RepresentsDeskAlone, IsLegible}
 use Rattle.office_tables.specs.Numbered.{AreByNumber}
 use Rattle.desk_store.proofs.Frames.{with_seats}
 
@@ -33,10 +33,10 @@ module _ {S : Type 0} (g : store.Ghosts S) (before after : Held S) (r : Result U
   new = state g after
 
   pub takes : (n t : ℕ) → Leaves old new r → (HasCleanDisk new → OnOk r (PutsRow tables.seat.tree (seat_cells (record { seat = n; ticket = t })) old.now new.now))
-      → ((xs : List SeatRow) → Holds seat seat_cells old xs → list_any (λ (s : SeatRow). nat_eq n s.seat) xs ≡ false → list_any (λ (s : SeatRow). nat_eq t s.ticket) xs ≡ false → Excused old new r)
-      → Makes g ShowsRoom IsLegible before after r (MayTake n (Some t)) (with_seat n (Some t)) (tables.seat.tree ∷ [])
+      → ((xs : List SeatRow) → Holds seat seat_cells old xs → list_any (λ (s : SeatRow). nat_eq n s.seat) xs ≡ false → list_any (λ (s : SeatRow). nat_eq t s.ticket) xs ≡ false → FaultsHaveCause old new r)
+      → Updates g RepresentsDeskAlone IsLegible before after r (MayTake n (Some t)) (with_seat n (Some t)) (tables.seat.tree ∷ [])
   takes n t leaves puts faults = record {
-    shows_made = λ clean beside d shown may. on_ok_then r _ _ (λ put.
+    represents_updated = λ clean beside d shown may. on_ok_then r _ _ (λ put.
         with_seats old.now new.now d shown _ put.only
         (put.rows ∙ ap (put_row (seat_cells (record { seat = n; ticket = t }))) shown.seats ∙ put_rows seat_cells seat_key (λ _. refl) (record { seat = n; ticket = t }) d.seats)
         (put_rises seat_cells seat_key (λ _. refl) (record { seat = n; ticket = t }) d.seats shown.seats_rise)) (puts clean);
@@ -47,9 +47,9 @@ module _ {S : Type 0} (g : store.Ghosts S) (before after : Held S) (r : Result U
   }
 
   pub frees : (n : ℕ) → Leaves old new r → (HasCleanDisk new → (xs : List SeatRow) → Holds seat seat_cells old xs → AreByNumber (λ (s : SeatRow). s.seat) xs → OnOk r (HasRows tables.seat.tree (map seat_cells (filter (λ (s : SeatRow). not (nat_eq n s.seat)) xs)) old.now new.now))
-      → Excused old new r → (HasCleanDisk new → OnOk r (OnlyTouches (tables.seat.tree ∷ []) old.now new.now)) → Makes g ShowsRoom IsLegible before after r (MayTake n None) (with_seat n None) (tables.seat.tree ∷ [])
+      → FaultsHaveCause old new r → (HasCleanDisk new → OnOk r (OnlyTouches (tables.seat.tree ∷ []) old.now new.now)) → Updates g RepresentsDeskAlone IsLegible before after r (MayTake n None) (with_seat n None) (tables.seat.tree ∷ [])
   frees n leaves rows faults only = record {
-    shows_made = λ clean beside d shown may. on_ok_then r _ _ (λ has.
+    represents_updated = λ clean beside d shown may. on_ok_then r _ _ (λ has.
         with_seats old.now new.now d shown _ has.only has.are (ascending-filter _ (λ (s : SeatRow). not (nat_eq n s.seat)) d.seats shown.seats_rise)) (rows clean d.seats shown.seats shown.seats_rise);
     only = only;
     goes = leaves.goes;

@@ -37,7 +37,7 @@ use Rattle.office_tables.specs.Step.{Holds, HasRows, OnlyTouches, PutsRow}
 use Rattle.office_tables.specs.declared.fault.StoreFault.{StoreFault}
 use Rattle.desk_store.specs.Rows.{seat_cells}
 use Rattle.office_tables.specs.Numbered.{AreByNumber}
-use Rattle.desk_store.specs.declared.seating.TakenSeat.{TakenSeat}
+use Rattle.desk_store.specs.declared.taken_seats.TakenSeat.{TakenSeat}
 use Rattle.office_tables.proofs.Casts.{cast_int, cast_null}
 use Rattle.office_tables.proofs.Queries.{asking, choosing}
 use Rattle.office_tables.proofs.statements.DeleteOf.{delete_leaves, delete_faults}

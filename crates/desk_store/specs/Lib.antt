@@ -1,6 +1,6 @@
 pub mod Making
 pub mod Rows
-pub mod Shows
+pub mod Represents
 pub mod Readers
 pub mod Seats
 pub mod Orders

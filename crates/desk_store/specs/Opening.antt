@@ -5,7 +5,7 @@ use Rattle.desk_core.specs.DeskRows.{Desk}
 use Rattle.office_tables.specs.Schema as tables
 use Rattle.office_tables.specs.Shared.{OfficeRow, office_cells}
 use Rattle.desk_store.specs.Seats.{all_free}
-use Rattle.desk_store.specs.Shows.{ShowsDesk, IsLegible}
+use Rattle.desk_store.specs.Represents.{RepresentsDesk, IsLegible}
 
 -- the desk, and what the office's row tells beside it
 pub record House : Type 0 where
@@ -13,9 +13,9 @@ pub record House : Type 0 where
   pub desk : Desk
 
 -- the tables show the desk, and the office's row is the only one of its table
-pub record ShowsHouse (db : Database) (beside : ⊤) (house : House) : Type 0 where
+pub record RepresentsBoth (db : Database) (beside : ⊤) (house : House) : Type 0 where
   pub office : db.trees tables.office.tree ≡ office_cells house.office ∷ []
-  pub desk : ShowsDesk db.trees house.desk
+  pub desk : RepresentsDesk db.trees house.desk
 
 abbrev pub IsLegibleHouse : House → Type 0
 IsLegibleHouse house = IsLegible house.desk

@@ -8,8 +8,8 @@ use Rattle.sqlite.specs.Tree.{Trees, rowid}
 use Rattle.sqlite_rules.specs.Lists.{Has}
 use Rattle.desk_core.specs.DeskRows.{Desk, PermitRow}
 use Rattle.office_tables.specs.Schema as tables
-use Rattle.desk_store.specs.Shows.{IsNumberOf}
-use Rattle.desk_store.specs.declared.granting.Permit.{Permit}
+use Rattle.desk_store.specs.Represents.{IsNumberOf}
+use Rattle.desk_store.specs.declared.reader_permits.Permit.{Permit}
 
 -- the units for which a ticket has a permit, each with its last day
 abbrev pub permits_of : ℕ → Desk → List Permit

@@ -4,8 +4,8 @@ use Rattle.std.specs.Ordering.{int_eq}
 use Rattle.isad_core.specs.Texts.{Bytes}
 use Rattle.isad_core.specs.Limits.{most_tickets}
 use Rattle.desk_core.specs.DeskRows.{Desk, ReaderRow, SeatRow, OrderRow}
-use Rattle.desk_store.specs.declared.cards.ReaderCard.{ReaderCard}
-use Rattle.desk_store.specs.declared.cards.LiveOrder.{LiveOrder}
+use Rattle.desk_store.specs.declared.reader_summary.ReaderCard.{ReaderCard}
+use Rattle.desk_store.specs.declared.reader_summary.LiveOrder.{LiveOrder}
 
 -- ---- tickets are given from 1 on, and never again
 

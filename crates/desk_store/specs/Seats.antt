@@ -3,7 +3,7 @@ use Rattle.std.specs.Prelude.{◌≡◌, ℕ, pos, not, false, nat_eq, List, [],
 use Rattle.std.specs.List.{list_any}
 use Rattle.desk_core.specs.DeskRows.{Desk, SeatRow}
 use Rattle.office_tables.specs.Put.{put_by}
-use Rattle.desk_store.specs.declared.seating.TakenSeat.{TakenSeat}
+use Rattle.desk_store.specs.declared.taken_seats.TakenSeat.{TakenSeat}
 
 -- the seats that are taken, by number, each with the ticket of who sits there
 abbrev pub taken_seats : Desk → List TakenSeat

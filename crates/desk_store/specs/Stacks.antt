@@ -10,7 +10,7 @@ use Rattle.office_tables.specs.Schema as tables
 use Rattle.office_tables.specs.Shared.{container_row}
 use Rattle.desk_store.specs.Orders.{IsQueue}
 use Rattle.desk_store.specs.Runs.{lines_of, IsCandidate}
-use Rattle.desk_store.specs.Shows.{ShowsDesk, IsLegible}
+use Rattle.desk_store.specs.Represents.{RepresentsDesk, IsLegible}
 use Rattle.office_tables.specs.Numbered.{AreCounted}
 use Rattle.desk_store.specs.declared.queues.ContainerQueue.{ContainerQueue}
 use Rattle.desk_core.specs.declared.run.Candidate.{Candidate}
@@ -23,11 +23,11 @@ pub record Stacks : Type 0 where
   pub desk : Desk
 
 -- containers are numbered from 1, up to the most that there may be
-pub record ShowsStacks (db : Database) (beside : ⊤) (stacks : Stacks) : Type 0 where
+pub record RepresentsQueues (db : Database) (beside : ⊤) (stacks : Stacks) : Type 0 where
   pub boxes : db.trees tables.container.tree ≡ map container_row stacks.boxes
   pub numbers : AreCounted (λ (b : ℕ × BoxKey). b.0) stacks.boxes
   pub few : length stacks.boxes ≤ most_containers
-  pub desk : ShowsDesk db.trees stacks.desk
+  pub desk : RepresentsDesk db.trees stacks.desk
 
 -- what is written on a container can be read back
 pub record IsLegibleStacks (stacks : Stacks) : Type 0 where

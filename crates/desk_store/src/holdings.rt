@@ -6,14 +6,14 @@ ghost use Rattle.sqlite.specs.Held.{state};
 ghost use Rattle.sqlite.specs.State.{HasCleanDisk};
 ghost use Rattle.isad_core.specs.Limits.{IsNumber};
 ghost use Rattle.desk_core.specs.DeskRows.{HoldingRow};
-ghost use Rattle.office_tables.specs.Calls.{Makes};
+ghost use Rattle.office_tables.specs.Calls.{Updates};
 ghost use Rattle.office_tables.specs.Changing.{Leaves};
-ghost use Rattle.office_tables.specs.Faults.{Excused};
+ghost use Rattle.office_tables.specs.Faults.{FaultsHaveCause};
 ghost use Rattle.office_tables.specs.Schema as tables;
 ghost use Rattle.office_tables.specs.Step.{InOffice, Holds, HasRows, OnlyTouches, PutsRow};
 ghost use Rattle.desk_store.specs.Holdings.{by_order, with_place};
 ghost use Rattle.desk_store.specs.Rows.{holding_cells};
-ghost use Rattle.desk_store.specs.Shows.{ShowsRoom, IsLegible};
+ghost use Rattle.desk_store.specs.Represents.{RepresentsDeskAlone, IsLegible};
 ghost use Rattle.office_tables.specs.Numbered.{AreByNumber};
 
 use desk_core::Place;
@@ -50,7 +50,7 @@ fn clear_holding<S: Alter>(conn: &mut Connection<S>, container: u64) -> Result<(
     ensures only { HasCleanDisk (state S.Store conn.new)
         → OnOk result (OnlyTouches (tables.holding.tree ∷ []) (state S.Store conn.old).now
         (state S.Store conn.new).now) }
-    ensures faults { Excused (state S.Store conn.old) (state S.Store conn.new) result }
+    ensures faults { FaultsHaveCause (state S.Store conn.old) (state S.Store conn.new) result }
 {
     change(
         conn,
@@ -77,7 +77,7 @@ fn insert_holding<S: Alter>(
         (state S.Store conn.old).now (state S.Store conn.new).now) }
     ensures faults { (xs : List HoldingRow) → Holds tables.holding holding_cells (state S.Store conn.old) xs
         → list_any (λ h. nat_eq container h.container) xs ≡ false
-        → Excused (state S.Store conn.old) (state S.Store conn.new) result }
+        → FaultsHaveCause (state S.Store conn.old) (state S.Store conn.new) result }
 {
     change(
         conn,
@@ -95,7 +95,7 @@ pub fn set_place<S: Alter>(
     requires inside { InOffice (state S.Store conn.old) }
     requires number { IsNumber container }
     requires known { IfSome (by_order place) IsNumber }
-    ensures makes { Makes S.Store ShowsRoom IsLegible conn.old conn.new result (λ _. ⊤) (with_place container place)
+    ensures makes { Updates S.Store RepresentsDeskAlone IsLegible conn.old conn.new result (λ _. ⊤) (with_place container place)
         (tables.holding.tree ∷ []) }
 {
     clear_holding(conn, container)?;

@@ -8,17 +8,17 @@ ghost use Rattle.sqlite.specs.State.{HasCleanDisk};
 ghost use Rattle.isad_core.specs.Limits.{IsNumber};
 ghost use Rattle.desk_core.specs.DeskRows.{OrderRow};
 ghost use Rattle.office_tables.specs.Asking.{Reads};
-ghost use Rattle.office_tables.specs.Calls.{Tells};
-ghost use Rattle.office_tables.specs.Faults.{Excused};
+ghost use Rattle.office_tables.specs.Calls.{Answers};
+ghost use Rattle.office_tables.specs.Faults.{FaultsHaveCause};
 ghost use Rattle.office_tables.specs.Schema as tables;
 ghost use Rattle.office_tables.specs.Step.{InOffice, Holds};
 ghost use Rattle.desk_store.specs.Orders.{state_number, order_with, IsThere};
 ghost use Rattle.desk_store.specs.Rows.{order_cells};
-ghost use Rattle.desk_store.specs.Shows.{IsLegibleOrder, ShowsRoom, IsLegible};
+ghost use Rattle.desk_store.specs.Represents.{IsLegibleOrder, RepresentsDeskAlone, IsLegible};
 ghost use Rattle.office_tables.specs.Numbered.{AreCounted};
 
 use isad_core::Day;
-use office_tables::answer::FromRow;
+use office_tables::from_row::FromRow;
 use office_tables::value::number;
 use office_tables::{StoreFault, find};
 use sqlite::{Alter, Connection, Row};
@@ -101,7 +101,7 @@ fn orders_with<S: Alter>(
         record { ticket = o.ticket; container = o.container; day = o.day; state = o.state })
         (filter (λ o. nat_eq order o.id) xs)) }
     ensures faults { (xs : Rows OrderRow) → Holds tables.orders order_cells (state S.Store conn.old) xs
-        → AllByRecursion IsLegibleOrder xs → Excused (state S.Store conn.old) (state S.Store conn.new) result }
+        → AllByRecursion IsLegibleOrder xs → FaultsHaveCause (state S.Store conn.old) (state S.Store conn.new) result }
 {
     find(
         alloc,
@@ -143,7 +143,7 @@ pub fn order<S: Alter>(
     order: u64,
 ) -> Result<Option<PlacedOrder>, StoreFault>
     requires inside { InOffice (state S.Store conn.old) }
-    ensures tells { Tells S.Store ShowsRoom IsLegible conn.old conn.new result (λ _. ⊤)
+    ensures tells { Answers S.Store RepresentsDeskAlone IsLegible conn.old conn.new result (λ _. ⊤)
         (λ _ d found. IsThere (order_with order d) found) }
     ensures small { IfOk result (λ found. IfSome found (λ _. IsNumber order)) }
 {

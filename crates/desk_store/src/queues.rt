@@ -6,22 +6,22 @@ ghost use Rattle.sqlite.specs.State.{HasCleanDisk};
 ghost use Rattle.isad_core.specs.Limits.{IsNumber};
 ghost use Rattle.desk_core.specs.DeskRows.{HoldingRow};
 ghost use Rattle.office_tables.specs.Asking.{Reads};
-ghost use Rattle.office_tables.specs.Calls.{Tells};
-ghost use Rattle.office_tables.specs.Faults.{Excused};
+ghost use Rattle.office_tables.specs.Calls.{Answers};
+ghost use Rattle.office_tables.specs.Faults.{FaultsHaveCause};
 ghost use Rattle.office_tables.specs.Schema as tables;
 ghost use Rattle.office_tables.specs.Step.{InOffice, Holds};
 ghost use Rattle.desk_store.specs.Orders.{holding_of, IsAt};
 ghost use Rattle.desk_store.specs.Rows.{holding_cells};
-ghost use Rattle.desk_store.specs.Shows.{IsKnownPlace, ShowsRoom, IsLegible};
+ghost use Rattle.desk_store.specs.Represents.{IsKnownPlace, RepresentsDeskAlone, IsLegible};
 ghost use Rattle.office_tables.specs.Numbered.{AreByNumber};
-ghost use Rattle.desk_store.specs.Stacks.{ShowsStacks, IsLegibleStacks, box_with, IsQueued};
+ghost use Rattle.desk_store.specs.Stacks.{RepresentsQueues, IsLegibleStacks, box_with, IsQueued};
 
-use crate::boxes::box_of;
+use crate::container_labels::box_of;
 use crate::orders::WaitingOrder;
-use crate::waiting::waiting_for;
+use crate::waiting_orders::waiting_for;
 use desk_core::Place;
 use isad_core::{List, Text};
-use office_tables::answer::FromRow;
+use office_tables::from_row::FromRow;
 use office_tables::value::number;
 use office_tables::{StoreFault, find};
 use sqlite::{Alter, Connection, Row};
@@ -93,7 +93,7 @@ fn places_with<S: Alter>(
         (λ (h : HoldingRow). record { place = h.place; held_by = h.held_by })
         (filter (λ (h : HoldingRow). nat_eq container h.container) xs)) }
     ensures faults { (xs : Rows HoldingRow) → Holds tables.holding holding_cells (state S.Store conn.old) xs
-        → Excused (state S.Store conn.old) (state S.Store conn.new) result }
+        → FaultsHaveCause (state S.Store conn.old) (state S.Store conn.new) result }
 {
     find(
         alloc,
@@ -111,7 +111,7 @@ fn place_of<S: Alter>(
 ) -> Result<Place, StoreFault>
     requires inside { InOffice (state S.Store conn.old) }
     requires small { IsNumber container }
-    ensures tells { Tells S.Store ShowsRoom IsLegible conn.old conn.new result (λ _. ⊤)
+    ensures tells { Answers S.Store RepresentsDeskAlone IsLegible conn.old conn.new result (λ _. ⊤)
         (λ _ d place. IsAt (holding_of container d) place) }
 {
     let found = places_with(alloc, conn, container)?;
@@ -128,7 +128,7 @@ pub fn queue<S: Alter>(
     container: u64,
 ) -> Result<Option<ContainerQueue>, StoreFault>
     requires inside { InOffice (state S.Store conn.old) }
-    ensures tells { Tells S.Store ShowsStacks IsLegibleStacks conn.old conn.new result (λ _. ⊤)
+    ensures tells { Answers S.Store RepresentsQueues IsLegibleStacks conn.old conn.new result (λ _. ⊤)
         (λ _ stacks found. IsQueued container stacks (box_with container stacks) found) }
     ensures small { IfOk result (λ found. IfSome found (λ _. IsNumber container)) }
 {

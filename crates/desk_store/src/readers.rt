@@ -1,25 +1,25 @@
 //! Tickets and their readers.
 
 ghost use Rattle.std.specs.Prelude.{◌≡◌, ◌<◌, ◌≤◌, nat_eq, false, List, [], ◌∷◌, map};
-ghost use Rattle.std.specs.Prelude.{filter, length, OnOk, IfOk, IfSome, ⊤};
+ghost use Rattle.std.specs.Prelude.{filter, length, OnOk, IfOk, IfSome, is_some, slice_get, ⊤};
 ghost use Rattle.std.specs.List.{AllByRecursion, list_any};
 ghost use Rattle.sqlite.specs.Held.{state};
 ghost use Rattle.sqlite.specs.State.{HasCleanDisk};
 ghost use Rattle.isad_core.specs.Limits.{IsNumber, most_tickets};
 ghost use Rattle.desk_core.specs.DeskRows.{Desk, ReaderRow};
 ghost use Rattle.office_tables.specs.Asking.{Reads};
-ghost use Rattle.office_tables.specs.Calls.{Makes};
+ghost use Rattle.office_tables.specs.Calls.{Updates};
 ghost use Rattle.office_tables.specs.Changing.{Leaves};
-ghost use Rattle.office_tables.specs.Faults.{Excused};
+ghost use Rattle.office_tables.specs.Faults.{FaultsHaveCause};
 ghost use Rattle.office_tables.specs.Schema as tables;
 ghost use Rattle.office_tables.specs.Step.{InOffice, Holds, HasRows, OnlyTouches, PutsRow};
-ghost use Rattle.desk_store.specs.Readers.{next_ticket, with_reader, renewed, with_last_day};
+ghost use Rattle.desk_store.specs.Readers.{next_ticket, reader_with, with_reader, renewed, with_last_day};
 ghost use Rattle.desk_store.specs.Rows.{reader_cells};
-ghost use Rattle.desk_store.specs.Shows.{IsLegibleReader, ShowsDesk, ShowsRoom, IsLegible};
+ghost use Rattle.desk_store.specs.Represents.{IsLegibleReader, RepresentsDesk, RepresentsDeskAlone, IsLegible};
 ghost use Rattle.office_tables.specs.Numbered.{AreCounted};
 
 use isad_core::{Day, Text};
-use office_tables::answer::FromRow;
+use office_tables::from_row::FromRow;
 use office_tables::value::{day, number, words};
 use office_tables::{StoreFault, change, find, find_number};
 use sqlite::{Alter, Connection, Row};
@@ -71,7 +71,7 @@ pub(crate) fn readers_with<S: Alter>(
         → IfOk result (λ found. found.items ≡ map (λ (r : ReaderRow). record { name = r.name; until = r.until })
         (filter (λ r. nat_eq ticket r.ticket) xs)) }
     ensures faults { (xs : List ReaderRow) → Holds tables.reader reader_cells (state S.Store conn.old) xs
-        → AllByRecursion IsLegibleReader xs → Excused (state S.Store conn.old) (state S.Store conn.new) result }
+        → AllByRecursion IsLegibleReader xs → FaultsHaveCause (state S.Store conn.old) (state S.Store conn.new) result }
 {
     find(
         alloc,
@@ -90,7 +90,7 @@ fn last_ticket<S: Alter>(conn: &mut Connection<S>) -> Result<u32, StoreFault>
         → IfOk result (λ n. n ≡ length xs) }
     ensures faults { (xs : List ReaderRow) → Holds tables.reader reader_cells (state S.Store conn.old) xs
         → AreCounted (λ r. r.ticket) xs → length xs ≤ most_tickets
-        → Excused (state S.Store conn.old) (state S.Store conn.new) result }
+        → FaultsHaveCause (state S.Store conn.old) (state S.Store conn.new) result }
 {
     find_number(
         conn,
@@ -115,7 +115,7 @@ fn insert_reader<S: Alter>(
         (state S.Store conn.new).now) }
     ensures faults { (xs : List ReaderRow) → Holds tables.reader reader_cells (state S.Store conn.old) xs
         → list_any (λ r. nat_eq ticket r.ticket) xs ≡ false
-        → Excused (state S.Store conn.old) (state S.Store conn.new) result }
+        → FaultsHaveCause (state S.Store conn.old) (state S.Store conn.new) result }
 {
     change(
         conn,
@@ -141,7 +141,7 @@ fn set_last_day<S: Alter>(
         → OnOk result (OnlyTouches (tables.reader.tree ∷ []) (state S.Store conn.old).now
         (state S.Store conn.new).now) }
     ensures faults { (xs : List ReaderRow) → Holds tables.reader reader_cells (state S.Store conn.old) xs
-        → AreCounted (λ r. r.ticket) xs → Excused (state S.Store conn.old) (state S.Store conn.new) result }
+        → AreCounted (λ r. r.ticket) xs → FaultsHaveCause (state S.Store conn.old) (state S.Store conn.new) result }
 {
     change(
         conn,
@@ -154,7 +154,7 @@ fn set_last_day<S: Alter>(
 pub fn renew<S: Alter>(conn: &mut Connection<S>, ticket: u64, until: Day) -> Result<(), StoreFault>
     requires inside { InOffice (state S.Store conn.old) }
     requires small { IsNumber ticket }
-    ensures makes { Makes S.Store ShowsRoom IsLegible conn.old conn.new result (λ _. ⊤) (with_last_day ticket until)
+    ensures makes { Updates S.Store RepresentsDeskAlone IsLegible conn.old conn.new result (λ _. ⊤) (with_last_day ticket until)
         (tables.reader.tree ∷ []) }
 {
     set_last_day(conn, ticket, until)
@@ -165,10 +165,10 @@ fn next_number<S: Alter>(conn: &mut Connection<S>) -> Result<Option<u64>, StoreF
     requires inside { InOffice (state S.Store conn.old) }
     ensures reads { Reads (state S.Store conn.old) (state S.Store conn.new) result }
     ensures number { HasCleanDisk (state S.Store conn.new) → (d : Desk)
-        → ShowsDesk (state S.Store conn.old).now.trees d → IfOk result (λ ticket. ticket ≡ next_ticket d) }
+        → RepresentsDesk (state S.Store conn.old).now.trees d → IfOk result (λ ticket. ticket ≡ next_ticket d) }
     ensures small { IfOk result (λ ticket. IfSome ticket IsNumber) }
-    ensures faults { (d : Desk) → ShowsDesk (state S.Store conn.old).now.trees d
-        → Excused (state S.Store conn.old) (state S.Store conn.new) result }
+    ensures faults { (d : Desk) → RepresentsDesk (state S.Store conn.old).now.trees d
+        → FaultsHaveCause (state S.Store conn.old) (state S.Store conn.new) result }
 {
     let last = last_ticket(conn)?;
     if last < MOST_TICKETS {
@@ -186,8 +186,8 @@ pub fn add_reader<S: Alter>(
 ) -> Result<Option<u64>, StoreFault>
     requires inside { InOffice (state S.Store conn.old) }
     ensures number { HasCleanDisk (state S.Store conn.new) → (d : Desk)
-        → ShowsDesk (state S.Store conn.old).now.trees d → IfOk result (λ ticket. ticket ≡ next_ticket d) }
-    ensures makes { Makes S.Store ShowsRoom IsLegible conn.old conn.new result (λ _. ⊤)
+        → RepresentsDesk (state S.Store conn.old).now.trees d → IfOk result (λ ticket. ticket ≡ next_ticket d) }
+    ensures makes { Updates S.Store RepresentsDeskAlone IsLegible conn.old conn.new result (λ _. ⊤)
         (λ d. with_reader (next_ticket d) name.now until d) (tables.reader.tree ∷ []) }
 {
     let Some(ticket) = next_number(conn)? else {
@@ -195,4 +195,28 @@ pub fn add_reader<S: Alter>(
     };
     insert_reader(conn, ticket, name, until)?;
     Ok(Some(ticket))
+}
+
+/// Whether there is such a row.
+fn is_there(rows: &[NamedReader]) -> bool
+    ensures { result ≡ is_some (slice_get rows.now 0) }
+{
+    rows.first().is_some()
+}
+
+/// Whether a ticket was given.
+pub fn is_registered<S: Alter>(
+    alloc: Global,
+    conn: &mut Connection<S>,
+    ticket: u64,
+) -> Result<bool, StoreFault>
+    requires inside { InOffice (state S.Store conn.old) }
+    ensures tells { Answers S.Store RepresentsDeskAlone IsLegible conn.old conn.new result (λ _. ⊤)
+        (λ _ d known. known ≡ is_some (reader_with ticket d)) }
+{
+    if ticket > u64::from(MOST_TICKETS) {
+        return Ok(false);
+    }
+    let rows = readers_with(alloc, conn, ticket)?;
+    Ok(is_there(&rows))
 }

@@ -11,17 +11,17 @@ use Rattle.isad_core.specs.Texts.{Bytes}
 use Rattle.atom_csv.specs.declared.file.Row.{Row}
 use Rattle.tree_core.specs.Forest.{Empty}
 use Rattle.catalogue_core.specs.Merging.{cause_at, faults_below, has_legacy}
-use Rattle.finding_aids.specs.declared.previews.places.Place.{Place}
+use Rattle.finding_aids.specs.declared.previews.places.RowPosition.{RowPosition}
 use Rattle.finding_aids.specs.Places.{AllPlaced, IsPlaced, IsPlacing, depth_below, faults, index_of, place_at, place_of}
 
 -- the place with this index, in a list that has the last place first
-abbrev pub from_last : List Place → ℕ → Option Place
+abbrev pub from_last : List RowPosition → ℕ → Option RowPosition
 from_last [] j = None
 from_last (place ∷ places) j = if nat_eq j (length places) then Some place else from_last places j
 
 -- ---- as many places as rows
 
-pub as_many : (rows : List Row) (places : List Place) → AllPlaced rows places → length places ≡ length rows
+pub as_many : (rows : List Row) (places : List RowPosition) → AllPlaced rows places → length places ≡ length rows
 as_many [] [] h = refl
 as_many [] (place ∷ places) h = absurd h
 as_many (row ∷ rows) [] h = absurd h
@@ -40,10 +40,10 @@ index_of_within legacy (row ∷ above) j h =
 -- ---- depths
 
 -- the depth below the row that is named, by its place
-abbrev pub depth_by : List Place → Option ℕ → Option ℕ
-depth_by places index = option_and_then (λ j. option_map (λ (place : Place). suc place.depth) (from_last places j)) index
+abbrev pub depth_by : List RowPosition → Option ℕ → Option ℕ
+depth_by places index = option_and_then (λ j. option_map (λ (place : RowPosition). suc place.depth) (from_last places j)) index
 
-pub depth_below-named : (legacy : Bytes) (above : List Row) (places : List Place) → AllPlaced above places
+pub depth_below-named : (legacy : Bytes) (above : List Row) (places : List RowPosition) → AllPlaced above places
     → depth_below above (Some legacy) ≡ depth_by places (index_of legacy above)
 depth_below-named legacy [] [] h = refl
 depth_below-named legacy [] (place ∷ places) h = absurd h
@@ -68,13 +68,13 @@ depth_below-named legacy (row ∷ above) (place ∷ places) h =
 pub reverse-push : {X : Type 0} → (xs : List X) (x : X) → reverse (xs ++ x ∷ []) ≡ x ∷ reverse xs
 reverse-push xs x = reverse-append xs (x ∷ [])
 
-from_last-first : (places : List Place) (place : Place) → from_last (places ++ place ∷ []) 0 ≡ Some place
+from_last-first : (places : List RowPosition) (place : RowPosition) → from_last (places ++ place ∷ []) 0 ≡ Some place
 from_last-first [] place = refl
 from_last-first (next ∷ places) place =
     let other : nat_eq 0 (length (places ++ place ∷ [])) ≡ false = ne_eqb 0 (length (places ++ place ∷ [])) (λ equal. absurd (omega (arith, length-append places (place ∷ [])))) in
     rw other (from_last-first places place)
 
-from_last-later : (places : List Place) (place : Place) (j : ℕ) → from_last (places ++ place ∷ []) (suc j) ≡ from_last places j
+from_last-later : (places : List RowPosition) (place : RowPosition) (j : ℕ) → from_last (places ++ place ∷ []) (suc j) ≡ from_last places j
 from_last-later [] place j = let other : nat_eq (suc j) 0 ≡ false = ne_eqb (suc j) 0 (λ equal. absurd (omega arith)) in rw other refl
 from_last-later (next ∷ places) place j =
     elim (cases_Bool (nat_eq j (length places))) [
@@ -88,41 +88,41 @@ from_last-later (next ∷ places) place j =
           rw (differs, other) (from_last-later places place j)
     ]
 
-pub from_last-reverse : (places : List Place) (j : ℕ) → from_last (reverse places) j ≡ slice_get places j
+pub from_last-reverse : (places : List RowPosition) (j : ℕ) → from_last (reverse places) j ≡ slice_get places j
 from_last-reverse [] j = refl
 from_last-reverse (place ∷ places) zero =
-    ap (λ (xs : List Place). from_last xs 0) (reverse-append (place ∷ []) places) ∙ from_last-first (reverse places) place
+    ap (λ (xs : List RowPosition). from_last xs 0) (reverse-append (place ∷ []) places) ∙ from_last-first (reverse places) place
 from_last-reverse (place ∷ places) (suc j) =
-    ap (λ (xs : List Place). from_last xs (suc j)) (reverse-append (place ∷ []) places) ∙ (from_last-later (reverse places) place j ∙ from_last-reverse places j)
+    ap (λ (xs : List RowPosition). from_last xs (suc j)) (reverse-append (place ∷ []) places) ∙ (from_last-later (reverse places) place j ∙ from_last-reverse places j)
 
 -- ---- what the code finds
 
-depth_found : (o : Option Place) (j : ℕ) → option_map (λ (p : Place). p.depth) (option_map (λ (above : Place). record { parent = Some j; depth = above.depth + 1 }) o) ≡ option_map (λ (p : Place). suc p.depth) o
+depth_found : (o : Option RowPosition) (j : ℕ) → option_map (λ (p : RowPosition). p.depth) (option_map (λ (above : RowPosition). record { parent = Some j; depth = above.depth + 1 }) o) ≡ option_map (λ (p : RowPosition). suc p.depth) o
 depth_found None j = refl
 depth_found (Some above) j = ap Some (add-one above.depth)
 
-pub place_of-depth : (known : Bytes → Option ℕ) (above : List Row) (places : List Place) (parent : Option Bytes)
+pub place_of-depth : (known : Bytes → Option ℕ) (above : List Row) (places : List RowPosition) (parent : Option Bytes)
     → ((legacy : Bytes) → known legacy ≡ index_of legacy above) → AllPlaced above (reverse places)
-    → option_map (λ (p : Place). p.depth) (place_of known places parent) ≡ depth_below above parent
+    → option_map (λ (p : RowPosition). p.depth) (place_of known places parent) ≡ depth_below above parent
 place_of-depth known above places None knows placed = refl
 place_of-depth known above places (Some legacy) knows placed =
-    ap (λ (o : Option ℕ). option_map (λ (p : Place). p.depth) (option_and_then (place_at places) o)) (knows legacy)
+    ap (λ (o : Option ℕ). option_map (λ (p : RowPosition). p.depth) (option_and_then (place_at places) o)) (knows legacy)
     ∙ (by_index (index_of legacy above) ∙ sym (depth_below-named legacy above (reverse places) placed))
   where
-    by_index : (o : Option ℕ) → option_map (λ (p : Place). p.depth) (option_and_then (place_at places) o) ≡ depth_by (reverse places) o
+    by_index : (o : Option ℕ) → option_map (λ (p : RowPosition). p.depth) (option_and_then (place_at places) o) ≡ depth_by (reverse places) o
     by_index None = refl
-    by_index (Some j) = depth_found (slice_get places j) j ∙ ap (option_map (λ (p : Place). suc p.depth)) (sym (from_last-reverse places j))
+    by_index (Some j) = depth_found (slice_get places j) j ∙ ap (option_map (λ (p : RowPosition). suc p.depth)) (sym (from_last-reverse places j))
 
-pub place_of-parent : (known : Bytes → Option ℕ) (above : List Row) (places : List Place) (parent : Option Bytes) (place : Place)
+pub place_of-parent : (known : Bytes → Option ℕ) (above : List Row) (places : List RowPosition) (parent : Option Bytes) (place : RowPosition)
     → ((legacy : Bytes) → known legacy ≡ index_of legacy above) → place_of known places parent ≡ Some place
     → place.parent ≡ option_and_then (λ legacy. index_of legacy above) parent
-place_of-parent known above places None place knows found = ap (λ (o : Option Place). option_and_then (λ (p : Place). p.parent) o) (sym found)
+place_of-parent known above places None place knows found = ap (λ (o : Option RowPosition). option_and_then (λ (p : RowPosition). p.parent) o) (sym found)
 place_of-parent known above places (Some legacy) place knows found =
     by_index (index_of legacy above) (ap (λ (o : Option ℕ). option_and_then (place_at places) o) (sym (knows legacy)) ∙ found)
   where
-    by_place : (j : ℕ) (o : Option Place) → option_map (λ (p : Place). record { parent = Some j; depth = p.depth + 1 }) o ≡ Some place → place.parent ≡ Some j
+    by_place : (j : ℕ) (o : Option RowPosition) → option_map (λ (p : RowPosition). record { parent = Some j; depth = p.depth + 1 }) o ≡ Some place → place.parent ≡ Some j
     by_place j None e = absurd (cc)
-    by_place j (Some p) e = ap (λ (o : Option Place). option_and_then (λ (p : Place). p.parent) o) (sym e)
+    by_place j (Some p) e = ap (λ (o : Option RowPosition). option_and_then (λ (p : RowPosition). p.parent) o) (sym e)
 
     by_index : (o : Option ℕ) → option_and_then (place_at places) o ≡ Some place → place.parent ≡ o
     by_index None e = absurd (cc)
@@ -151,13 +151,13 @@ faults-at xs x ys none =
 
 -- ---- one more row
 
-pub placing_more : (xs : List Row) (x : Row) (known more : Bytes → Option ℕ) (places : List Place) (place : Place)
+pub placing_more : (xs : List Row) (x : Row) (known more : Bytes → Option ℕ) (places : List RowPosition) (place : RowPosition)
     → IsPlacing xs known places → place_of known places x.parent ≡ Some place → place.depth ≤ most_deep
     → ((legacy : Bytes) → more legacy ≡ (if bytes_eq legacy x.legacy then Some (length xs) else known legacy))
     → IsPlacing (xs ++ x ∷ []) more (places ++ place ∷ [])
 placing_more xs x known more places place h found shallow grows =
     let depth : depth_below (reverse xs) x.parent ≡ Some place.depth =
-    sym (place_of-depth known (reverse xs) places x.parent h.knows h.placed) ∙ ap (option_map (λ (p : Place). p.depth)) found in
+    sym (place_of-depth known (reverse xs) places x.parent h.knows h.placed) ∙ ap (option_map (λ (p : RowPosition). p.depth)) found in
     let fits : nat_lt most_deep place.depth ≡ false = le-ltb most_deep place.depth shallow in
     let is : IsPlaced (reverse xs) x place = record {
       parent = place_of-parent known (reverse xs) places x.parent place h.knows found;
@@ -173,26 +173,26 @@ placing_more xs x known more places place h found shallow grows =
           ∙ (ap (λ (o : Option ℕ). if bytes_eq legacy x.legacy then Some (length (reverse xs)) else o) (h.knows legacy)
           ∙ ap (index_of legacy) (sym rows)));
       placed = subst (λ (r : List Row). AllPlaced r (reverse (places ++ place ∷ []))) (sym rows)
-          (subst (λ (p : List Place). AllPlaced (x ∷ reverse xs) p) (sym turned) (is, h.placed));
-      shallow = All-push (λ (p : Place). p.depth ≤ most_deep) places place h.shallow shallow;
+          (subst (λ (p : List RowPosition). AllPlaced (x ∷ reverse xs) p) (sym turned) (is, h.placed));
+      shallow = All-push (λ (p : RowPosition). p.depth ≤ most_deep) places place h.shallow shallow;
     }
 
 -- ---- a row that has no place
 
-pub fault_missing : (xs : List Row) (x : Row) (ys : List Row) (known : Bytes → Option ℕ) (places : List Place)
+pub fault_missing : (xs : List Row) (x : Row) (ys : List Row) (known : Bytes → Option ℕ) (places : List RowPosition)
     → IsPlacing xs known places → place_of known places x.parent ≡ None
     → (later : List (ℕ × ℕ)) × (faults (xs ++ x ∷ ys) ≡ (x.row, 11) ∷ later)
 fault_missing xs x ys known places h missing =
     let depth : depth_below (reverse xs) x.parent ≡ None =
-    sym (place_of-depth known (reverse xs) places x.parent h.knows h.placed) ∙ ap (option_map (λ (p : Place). p.depth)) missing in
+    sym (place_of-depth known (reverse xs) places x.parent h.knows h.placed) ∙ ap (option_map (λ (p : RowPosition). p.depth)) missing in
     (faults_below Empty [] (x ∷ reverse xs) ys, faults-at xs x ys h.none_bad ∙ rw depth refl)
 
-pub fault_deep : (xs : List Row) (x : Row) (ys : List Row) (known : Bytes → Option ℕ) (places : List Place) (place : Place)
+pub fault_deep : (xs : List Row) (x : Row) (ys : List Row) (known : Bytes → Option ℕ) (places : List RowPosition) (place : RowPosition)
     → IsPlacing xs known places → place_of known places x.parent ≡ Some place → 64 < place.depth
     → (later : List (ℕ × ℕ)) × (faults (xs ++ x ∷ ys) ≡ (x.row, 12) ∷ later)
 fault_deep xs x ys known places place h found deep =
     let depth : depth_below (reverse xs) x.parent ≡ Some place.depth =
-    sym (place_of-depth known (reverse xs) places x.parent h.knows h.placed) ∙ ap (option_map (λ (p : Place). p.depth)) found in
+    sym (place_of-depth known (reverse xs) places x.parent h.knows h.placed) ∙ ap (option_map (λ (p : RowPosition). p.depth)) found in
     let over : nat_lt most_deep place.depth ≡ true = lt-ltb most_deep place.depth deep in
     (faults_below Empty [] (x ∷ reverse xs) ys, faults-at xs x ys h.none_bad ∙ rw (depth, over) refl)
 

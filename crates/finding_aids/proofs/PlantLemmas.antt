@@ -13,7 +13,7 @@ use Rattle.atom_csv.specs.declared.file.Row.{Row}
 use Rattle.tree_core.specs.Forest.{Forest, Empty, Node, each, join}
 use Rattle.catalogue_core.specs.Merging.{New, branches, new_unit, has_legacy, number_of, numbered_from}
 use Rattle.catalogue_core.specs.Publishing.{PublicUnit, Told, public_of}
-use Rattle.finding_aids.specs.declared.previews.places.Place.{Place}
+use Rattle.finding_aids.specs.declared.previews.places.RowPosition.{RowPosition}
 use Rattle.finding_aids.specs.declared.previews.planting.Slot.{Slot}
 use Rattle.finding_aids.specs.declared.previews.planting.Tree.{Tree}
 use Rattle.finding_aids.specs.declared.previews.planting.Tree.TheViews.{out-Tree}
@@ -107,7 +107,7 @@ parent-index (Some legacy) above = number_of-index legacy above
 abbrev pub new_of : ℕ → Option ℕ → Row → New
 new_of k parent x = record { id = suc k; parent = option_map suc parent; row = x }
 
-pub rest_of-row : (rows : List Row) (k : ℕ) (x : Row) (place : Place) → k < length rows → x ≡ get_or rows k x → IsPlaced (reverse (take k rows)) x place
+pub rest_of-row : (rows : List Row) (k : ℕ) (x : Row) (place : RowPosition) → k < length rows → x ≡ get_or rows k x → IsPlaced (reverse (take k rows)) x place
     → rest_of rows k ≡ new_of k place.parent x ∷ rest_of rows (suc k)
 rest_of-row rows k x place within is placed =
     let above = reverse (take k rows) in
@@ -181,31 +181,31 @@ depth_at-last : (slots : List Slot) (slot : Slot) → depth_at (slots ++ slot �
 depth_at-last slots slot = ap (λ (o : Option Slot). option_map_or (λ (s : Slot). s.place.depth) o 0) (slice_get_last slots slot)
 
 -- the same by the places alone
-abbrev depth_in : List Place → Option ℕ → ℕ
+abbrev depth_in : List RowPosition → Option ℕ → ℕ
 depth_in places None = 0
-depth_in places (Some j) = option_map_or (λ (place : Place). place.depth) (slice_get places j) 0
+depth_in places (Some j) = option_map_or (λ (place : RowPosition). place.depth) (slice_get places j) 0
 
 depth_at-places : (slots : List Slot) (p : Option ℕ) → depth_at slots p ≡ depth_in (map (λ (s : Slot). s.place) slots) p
 depth_at-places slots None = refl
-depth_at-places slots (Some j) = by_slot (slice_get slots j) ∙ ap (λ (o : Option Place). option_map_or (λ (place : Place). place.depth) o 0) (sym (slice_get-map (λ (s : Slot). s.place) slots j))
+depth_at-places slots (Some j) = by_slot (slice_get slots j) ∙ ap (λ (o : Option RowPosition). option_map_or (λ (place : RowPosition). place.depth) o 0) (sym (slice_get-map (λ (s : Slot). s.place) slots j))
   where
-    by_slot : (o : Option Slot) → option_map_or (λ (s : Slot). s.place.depth) o 0 ≡ option_map_or (λ (place : Place). place.depth) (option_map (λ (s : Slot). s.place) o) 0
+    by_slot : (o : Option Slot) → option_map_or (λ (s : Slot). s.place.depth) o 0 ≡ option_map_or (λ (place : RowPosition). place.depth) (option_map (λ (s : Slot). s.place) o) 0
     by_slot None = refl
     by_slot (Some s) = refl
 
 -- a place is one deeper than its parent's
-deeper : (above : List Row) (places : List Place) (x : Row) (place : Place) → IsPlaced above x place → AllPlaced above (reverse places)
+deeper : (above : List Row) (places : List RowPosition) (x : Row) (place : RowPosition) → IsPlaced above x place → AllPlaced above (reverse places)
     → place.depth ≡ suc (depth_in places place.parent)
 deeper above places x place h placed = by_parent x.parent h.parent h.depth
   where
-    by_place : (j : ℕ) (o : Option Place) → option_map (λ (p : Place). suc p.depth) o ≡ Some place.depth → place.depth ≡ suc (option_map_or (λ (p : Place). p.depth) o 0)
+    by_place : (j : ℕ) (o : Option RowPosition) → option_map (λ (p : RowPosition). suc p.depth) o ≡ Some place.depth → place.depth ≡ suc (option_map_or (λ (p : RowPosition). p.depth) o 0)
     by_place j None e = absurd (cc)
     by_place j (Some p) e = cc
 
     by_index : (o : Option ℕ) → place.parent ≡ o → depth_by (reverse places) o ≡ Some place.depth → place.depth ≡ suc (depth_in places place.parent)
     by_index None p e = absurd (cc)
     by_index (Some j) p e =
-        by_place j (slice_get places j) (ap (option_map (λ (q : Place). suc q.depth)) (sym (from_last-reverse places j)) ∙ e)
+        by_place j (slice_get places j) (ap (option_map (λ (q : RowPosition). suc q.depth)) (sym (from_last-reverse places j)) ∙ e)
         ∙ ap (λ (o : Option ℕ). suc (depth_in places o)) (sym p)
 
     by_parent : (parent : Option Bytes) → place.parent ≡ option_and_then (λ legacy. index_of legacy above) parent → depth_below above parent ≡ Some place.depth
@@ -244,7 +244,7 @@ last_slot rows slots slot tops x h is =
     ap reverse (map-append (λ (s : Slot). s.place) slots (slot ∷ [])) ∙ reverse-push (map (λ (s : Slot). s.place) slots) slot.place in
     let parts : AllPlaced (x ∷ reverse (take k rows)) (slot.place ∷ reverse (map (λ (s : Slot). s.place) slots)) =
     subst (λ (r : List Row). AllPlaced r (slot.place ∷ reverse (map (λ (s : Slot). s.place) slots))) turned
-    (subst (λ (p : List Place). AllPlaced (reverse (take (length (slots ++ slot ∷ [])) rows)) p) places h.placed) in
+    (subst (λ (p : List RowPosition). AllPlaced (reverse (take (length (slots ++ slot ∷ [])) rows)) p) places h.placed) in
     let behind : rest_of rows (length (slots ++ slot ∷ [])) ≡ rest_of rows (suc k) = ap (rest_of rows) count in
     record {
       within = within;
@@ -315,7 +315,7 @@ grown_published rows slots more slot tops later x t h is published id row childr
     record {
       few = omega (arith, h.within);
       placed = subst (λ (n : ℕ). AllPlaced (reverse (take n rows)) (reverse (map (λ (s : Slot). s.place) more))) (sym count)
-          (subst (λ (p : List Place). AllPlaced (reverse (take k rows)) (reverse p)) (sym places) h.others);
+          (subst (λ (p : List RowPosition). AllPlaced (reverse (take k rows)) (reverse p)) (sym places) h.others);
       grown = λ p below. ap planted (puts p)
           ∙ (by_place p (option_eq nat_eq slot.place.parent p) (subst (λ (n : ℕ). IsBelow n p) count below)
           ∙ (sym (seen_below-published k slot.place.parent p x rest published) ∙ ap (seen_below (option_map suc p)) (sym behind)));
@@ -325,7 +325,7 @@ grown_published rows slots more slot tops later x t h is published id row childr
     }
   where
     same_depth : (p : Option ℕ) → depth_at more p ≡ depth_at slots p
-    same_depth p = depth_at-places more p ∙ (ap (λ (ps : List Place). depth_in ps p) places ∙ sym (depth_at-places slots p))
+    same_depth p = depth_at-places more p ∙ (ap (λ (ps : List RowPosition). depth_in ps p) places ∙ sym (depth_at-places slots p))
 
     low_at : (p : Option ℕ) (b : Bool) → option_eq nat_eq slot.place.parent p ≡ b → IsBelow (length slots) p
         → height_of_all (if b then grown_at slots tops p ++ t ∷ [] else grown_at slots tops p) + depth_at slots p ≤ most_deep
@@ -349,16 +349,16 @@ grown_published rows slots more slot tops later x t h is published id row childr
 
 -- ---- the beginning and the end
 
-pub grown_none : (rows : List Row) (slots : List Slot) (places : List Place) → ArePlaced rows places
-    → All (λ (place : Place). place.depth ≤ most_deep) places
+pub grown_none : (rows : List Row) (slots : List Slot) (places : List RowPosition) → ArePlaced rows places
+    → All (λ (place : RowPosition). place.depth ≤ most_deep) places
     → map (λ (s : Slot). s.place) slots ≡ places → All (λ (s : Slot). s.children.items ≡ []) slots → HasGrown rows slots []
 grown_none rows slots places placed shallow are bare = record {
   few = omega (arith, count);
   placed = subst (λ (r : List Row). AllPlaced (reverse r) (reverse (map (λ (s : Slot). s.place) slots))) (sym (take_all (length slots) rows (omega (arith, count))))
-      (subst (λ (p : List Place). AllPlaced (reverse rows) (reverse p)) (sym are) placed);
+      (subst (λ (p : List RowPosition). AllPlaced (reverse rows) (reverse p)) (sym are) placed);
   grown = λ p below. ap planted (empty p) ∙ ap (seen_below (option_map suc p)) (sym nothing);
   low = λ p below. subst (λ (trees : List Tree). height_of_all trees + depth_at slots p ≤ most_deep) (sym (empty p))
-      (subst (λ (n : ℕ). 0 + n ≤ most_deep) (sym (depth_at-places slots p ∙ ap (λ (ps : List Place). depth_in ps p) are)) (shallow_in p));
+      (subst (λ (n : ℕ). 0 + n ≤ most_deep) (sym (depth_at-places slots p ∙ ap (λ (ps : List RowPosition). depth_in ps p) are)) (shallow_in p));
 }
   where
     count : length slots ≡ length rows
@@ -368,9 +368,9 @@ grown_none rows slots places placed shallow are bare = record {
     nothing : rest_of rows (length slots) ≡ []
     nothing = ap (numbered_from Empty [] (suc (length slots)) (reverse (take (length slots) rows))) (drop_all (length slots) rows (omega (arith, count)))
 
-    shallow_at : (j : ℕ) (o : Option Place) → slice_get places j ≡ o → option_map_or (λ (place : Place). place.depth) o 0 ≤ most_deep
+    shallow_at : (j : ℕ) (o : Option RowPosition) → slice_get places j ≡ o → option_map_or (λ (place : RowPosition). place.depth) o 0 ≤ most_deep
     shallow_at j None e = omega arith
-    shallow_at j (Some place) e = subst (λ (p : Place). p.depth ≤ most_deep) (get_or_from_slice_get places j place place e) (shallow j place (slice_get_within places j place e))
+    shallow_at j (Some place) e = subst (λ (p : RowPosition). p.depth ≤ most_deep) (get_or_from_slice_get places j place place e) (shallow j place (slice_get_within places j place e))
 
     shallow_in : (p : Option ℕ) → 0 + depth_in places p ≤ most_deep
     shallow_in None = omega arith

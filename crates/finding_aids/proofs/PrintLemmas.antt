@@ -8,7 +8,7 @@ use Rattle.isad_core.specs.Texts.{Bytes}
 use Rattle.isad_core.specs.Printed.{aid, unit_lines}
 use Rattle.isad_core.specs.Values.{identifier}
 use Rattle.isad_core.specs.declared.values.BoxKey.{BoxKey}
-use Rattle.isad_core.specs.declared.shown.Shown.{Shown}
+use Rattle.isad_core.specs.declared.display.Shown.{Shown}
 use Rattle.tree_core.specs.Forest.{Forest, Empty, Node, join}
 use Rattle.catalogue_core.specs.Publishing.{PublicUnit}
 use Rattle.catalogue_core.specs.Aids.{Repository, identifier_of, shown_by, shown_told, shown_unit_by}

@@ -6,7 +6,7 @@ use Rattle.isad_core.specs.Texts.{Bytes}
 use Rattle.atom_csv.specs.declared.file.Row.{Row}
 use Rattle.tree_core.specs.Forest.{Empty}
 use Rattle.catalogue_core.specs.Merging.{depth_under, faults_below, has_legacy}
-use Rattle.finding_aids.specs.declared.previews.places.Place.{Place}
+use Rattle.finding_aids.specs.declared.previews.places.RowPosition.{RowPosition}
 
 -- the index of the nearest row above with this legacyId; `above` has the nearest first
 abbrev pub index_of : Bytes → List Row → Option ℕ
@@ -22,34 +22,34 @@ abbrev pub faults : List Row → List (ℕ × ℕ)
 faults = faults_below Empty [] []
 
 -- a row has this place below the rows above it
-pub record IsPlaced (above : List Row) (row : Row) (place : Place) : Type 0 where
+pub record IsPlaced (above : List Row) (row : Row) (place : RowPosition) : Type 0 where
   pub parent : place.parent ≡ option_and_then (λ legacy. index_of legacy above) row.parent
   pub depth : depth_below above row.parent ≡ Some place.depth
   pub shallow : place.depth ≤ most_deep
 
 -- rows have these places, the last row and its place first
-abbrev pub AllPlaced : List Row → List Place → Type 0
+abbrev pub AllPlaced : List Row → List RowPosition → Type 0
 AllPlaced [] [] = Unit {0}
 AllPlaced [] (place ∷ places) = ⊥
 AllPlaced (row ∷ above) [] = ⊥
 AllPlaced (row ∷ above) (place ∷ places) = IsPlaced above row place × AllPlaced above places
 
 -- each row has its place
-abbrev pub ArePlaced : List Row → List Place → Type 0
+abbrev pub ArePlaced : List Row → List RowPosition → Type 0
 ArePlaced rows places = AllPlaced (reverse rows) (reverse places)
 
 -- the place below a parent, where its index is known
-abbrev pub place_at : List Place → ℕ → Option Place
+abbrev pub place_at : List RowPosition → ℕ → Option RowPosition
 place_at places index = option_map (λ above. record { parent = Some index; depth = above.depth + 1 }) (slice_get places index)
 
-abbrev pub place_of : (Bytes → Option ℕ) → List Place → Option Bytes → Option Place
+abbrev pub place_of : (Bytes → Option ℕ) → List RowPosition → Option Bytes → Option RowPosition
 place_of known places None = Some (record { parent = None; depth = 1 })
 place_of known places (Some parent) = option_and_then (place_at places) (known parent)
 
 -- after these rows, of which none is faulty, the code knows the index of each legacyId, and has the
 -- places
-pub record IsPlacing (rows : List Row) (known : Bytes → Option ℕ) (places : List Place) : Type 0 where
+pub record IsPlacing (rows : List Row) (known : Bytes → Option ℕ) (places : List RowPosition) : Type 0 where
   pub none_bad : faults rows ≡ []
   pub knows : (legacy : Bytes) → known legacy ≡ index_of legacy (reverse rows)
   pub placed : ArePlaced rows places
-  pub shallow : All (λ (place : Place). place.depth ≤ most_deep) places
+  pub shallow : All (λ (place : RowPosition). place.depth ≤ most_deep) places

@@ -5,8 +5,8 @@ use Rattle.std.specs.Prelude.{nat_eq, ◌||◌}
 use Rattle.std.specs.List.{AllByRecursion}
 use Rattle.isad_core.specs.Texts.{Bytes}
 use Rattle.office_core.specs.State.{State}
-use Rattle.http_desk.specs.declared.ended.Ended.{Ended}
-use Rattle.http_desk.specs.declared.ended.Ended.TheVariants.{End, Closed, Cut, ReadFault, WriteFault, Bound}
+use Rattle.http_desk.specs.declared.session_end.Ended.{Ended}
+use Rattle.http_desk.specs.declared.session_end.Ended.TheVariants.{End, Closed, Cut, ReadFault, WriteFault, Bound}
 use Rattle.http_desk.specs.Messages.{Message, Begins, Cuts, Last, Nothing, HeadCut, BodyCut, NoHead, Refuses, Answers, Fails, Stands}
 use Rattle.http_desk.specs.Session.{most_answers, StaysOpen, EndsSo, IsStopped, IsClosing, Written, Session, text_after_all, state_after_all, last_text, state_after_last}
 use Rattle.http_desk.specs.Laws.{is_busy, HasEnded, was_busy, IsSame}

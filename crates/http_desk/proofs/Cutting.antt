@@ -2,10 +2,10 @@
 use Rattle.std.proofs.Common.{◌≡◌, ◌≢◌, ◌<◌, ◌≤◌, inl, inr, ℕ, [], ◌∷◌, ◌++◌, length, take, take_all, refl, sym, ap, ◌∙◌, subst, arith, false, Bool, length-append}
 use Rattle.httparse.proofs.GrammarLemmas.{request_unique}
 use Rattle.isad_core.specs.Texts.{Bytes}
-use Rattle.http_messages.specs.declared.ending.Place.{Place}
-use Rattle.http_messages.specs.declared.ending.Place.TheVariants.{Lead}
-use Rattle.http_messages.specs.declared.ending.Scan.{Scan}
-use Rattle.http_messages.specs.declared.ending.Scan.TheVariants.{Whole, Open}
+use Rattle.http_messages.specs.declared.head_scan.HeadScanState.{HeadScanState}
+use Rattle.http_messages.specs.declared.head_scan.HeadScanState.TheVariants.{Lead}
+use Rattle.http_messages.specs.declared.head_scan.Scan.{Scan}
+use Rattle.http_messages.specs.declared.head_scan.Scan.TheVariants.{Whole, Open}
 use Rattle.http_messages.specs.declared.status.Status.{Status}
 use Rattle.http_messages.specs.Ending.{scan}
 use Rattle.http_messages.specs.Heads.{Request, Verdict, Refused, Accepted, Judges, verdict_on, body_length}
@@ -60,10 +60,10 @@ begins_unique input m n rest rest2 x y =
 
 -- ---- what stands last
 
-open_not_whole : (p : Place) (n : ℕ) (s : Scan) → s ≡ Open p → s ≡ Whole n → ⊥
+open_not_whole : (p : HeadScanState) (n : ℕ) (s : Scan) → s ≡ Open p → s ≡ Whole n → ⊥
 open_not_whole p n s e f = cc
 
-open_same : (p q : Place) (s : Scan) → s ≡ Open p → s ≡ Open q → p ≡ q
+open_same : (p q : HeadScanState) (s : Scan) → s ≡ Open p → s ≡ Open q → p ≡ q
 open_same p q s e f = cc
 
 same_bare : (s t : Status) (b c : Bool) → Refused s b ≡ Refused t c → Refuses s b ≡ Refuses t c
@@ -85,7 +85,7 @@ cut_not_whole input block more rest r m h short b =
     omega (arith, length-append m.body rest)
 
 -- the same, with what is open at the front
-open_front : (input : Bytes) (p : Place) → length input < longest_head → scan input ≡ Open p → scan (take longest_head input) ≡ Open p
+open_front : (input : Bytes) (p : HeadScanState) → length input < longest_head → scan input ≡ Open p → scan (take longest_head input) ≡ Open p
 open_front input p short e =
     let all : length input ≤ longest_head = omega arith in
     ap scan (take_all longest_head input all) ∙ e
@@ -93,8 +93,8 @@ open_front input p short e =
 -- what stands last, by where the first head ends: not at all, or there
 Front : Bytes → Last → Type 0
 Front input Nothing = (length input < longest_head) × (scan (take longest_head input) ≡ Open Lead)
-Front input HeadCut = (length input < longest_head) × (p : Place) × (p ≢ Lead) × (scan (take longest_head input) ≡ Open p)
-Front input NoHead = (longest_head ≤ length input) × (p : Place) × (scan (take longest_head input) ≡ Open p)
+Front input HeadCut = (length input < longest_head) × (p : HeadScanState) × (p ≢ Lead) × (scan (take longest_head input) ≡ Open p)
+Front input NoHead = (longest_head ≤ length input) × (p : HeadScanState) × (scan (take longest_head input) ≡ Open p)
 Front input (BodyCut request) = (n : ℕ) × (scan (take longest_head input) ≡ Whole n)
 Front input (Refuses status bare) = (n : ℕ) × (scan (take longest_head input) ≡ Whole n)
 Front input (Answers message) = (n : ℕ) × (scan (take longest_head input) ≡ Whole n)

@@ -1,9 +1,9 @@
 -- Which faults are told after a sending.
 use Rattle.std.proofs.Common.{◌≡◌, refl, ap, ◌∙◌, sym, false}
 use Rattle.std.specs.Prelude.{◌||◌, Bool}
-use Rattle.http_desk.specs.declared.ended.Next.{Next}
-use Rattle.http_desk.specs.declared.sending.Sent.{Sent}
-use Rattle.http_desk.specs.declared.sending.Sent.TheVariants.{All, Failed, Bound}
+use Rattle.http_desk.specs.declared.session_end.Next.{Next}
+use Rattle.http_desk.specs.declared.output.Sent.{Sent}
+use Rattle.http_desk.specs.declared.output.Sent.TheVariants.{All, Failed, Bound}
 use Rattle.http_desk.specs.Quiet.{is_read_fault, is_write_fault, send_failed}
 use Rattle.http_desk.specs.Talking.{after_sending}
 

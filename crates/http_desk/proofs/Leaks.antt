@@ -5,7 +5,7 @@ use Rattle.isad_core.specs.Texts.{Bytes}
 use Rattle.office_core.specs.State.{State}
 use Rattle.office_core.specs.Secrecy.{SamePublic, AnswersAlike}
 use Rattle.office_core.proofs.NoLeak.{answers_alike}
-use Rattle.http_desk.specs.declared.ended.Ended.{Ended}
+use Rattle.http_desk.specs.declared.session_end.Ended.{Ended}
 use Rattle.http_desk.specs.Messages.{Message, Begins, Cuts, Last, Nothing, HeadCut, BodyCut, NoHead, Refuses, Answers, Fails, Stands}
 use Rattle.http_desk.specs.Session.{IsFront, EndsSo, Session, closes, message_text, state_after, text_after_all, state_after_all, last_text}
 use Rattle.http_desk.specs.Laws.{is_busy, was_busy, until_busy, HasEnded, IsPublicGet, AsksThePublic, AreAlike}

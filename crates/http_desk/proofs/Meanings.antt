@@ -19,7 +19,7 @@ use Rattle.http_messages.specs.Members.{command_in}
 use Rattle.http_messages.specs.Routes.{Route, Asks, Does, TakesFile, TakesForm, route_of, method_of, is_post}
 use Rattle.http_messages.specs.Answers.{Answer, error, not_allowed, done_if_read, by_route}
 use Rattle.http_messages.specs.Answers as answers
-use Rattle.http_desk.specs.declared.ended.Ended.{Ended}
+use Rattle.http_desk.specs.declared.session_end.Ended.{Ended}
 use Rattle.http_desk.specs.Messages.{Message, Last, Nothing, HeadCut, BodyCut, NoHead, Refuses, Answers, Fails}
 use Rattle.http_desk.specs.Session.{Session, state_after, state_after_all, state_after_last}
 use Rattle.http_desk.specs.Runs.{Meaning, Puts, Fixed, carried_out, AllMean, commands_among, message_in, all_messages, answers_of, machines_answers, HasCarriedOut}

@@ -16,8 +16,8 @@ use Rattle.office_core.specs.declared.command.Command.TheVariants as command
 use Rattle.office_core.specs.declared.query.Query.{Query}
 use Rattle.office_core.specs.SoundOffice.{NamesTexts}
 use Rattle.office_core.specs.Soundness.{NamesDays}
-use Rattle.http_messages.specs.declared.form.Form.{Form}
-use Rattle.http_messages.specs.declared.form.Form.TheVariants as form
+use Rattle.http_messages.specs.declared.body_form.Form.{Form}
+use Rattle.http_messages.specs.declared.body_form.Form.TheVariants as form
 use Rattle.http_messages.specs.Members.{as_day, or_null, day_at, day_or_null_at, number_at, number_or_null_at, text_at, draft_at, flag_at, command_of, command_in, value_of}
 use Rattle.http_messages.specs.Routes.{Route, Asks, Does, TakesFile, TakesForm, plain, ending, or_else, after, plain_route, ending_route, route_of, number_in}
 use Rattle.http_desk.proofs.Options.{each_then, each_map, known_then, known_map, if_some, if_then}

@@ -79,26 +79,26 @@ one_run s new visits happen named sound =
           always_sound_office s before days.0 texts.0 good;
     }
 
-module _ {M : Type 0} (shows : M → State → Type 0) (is_intact : M → Type 0) where
-  intact_before : (visits : List Visit) (old new : M) → AreVisits shows is_intact old new visits → is_intact new → is_intact old
+module _ {M : Type 0} (represents : M → State → Type 0) (is_intact : M → Type 0) where
+  intact_before : (visits : List Visit) (old new : M) → AreVisits represents is_intact old new visits → is_intact new → is_intact old
   intact_before [] old new same intact = subst (λ (m : M). is_intact m) (sym same) intact
   intact_before (visit ∷ later) old new it intact = it.1.intact (intact_before later it.0 new it.2 intact)
 
-  all_happen : (visits : List Visit) (old new : M) → AreVisits shows is_intact old new visits → is_intact new
-      → (s : State) → shows old s → (t : State) × shows new t × AllHappen s visits t
-  all_happen [] old new same intact s is = (s, subst (λ (m : M). shows m s) same is, refl)
+  all_happen : (visits : List Visit) (old new : M) → AreVisits represents is_intact old new visits → is_intact new
+      → (s : State) → represents old s → (t : State) × represents new t × AllHappen s visits t
+  all_happen [] old new same intact s is = (s, subst (λ (m : M). represents m s) same is, refl)
   all_happen (visit ∷ later) old new it intact s is =
       let (mid, shown, happens) = it.1.happens (intact_before later it.0 new it.2 intact) s is in
       let (t, shown_too, more) = all_happen later it.0 new it.2 intact mid shown in
       (t, shown_too, (mid, happens, more))
 
-  pub the_headline : (visits : List Visit) (old new : M) → AreVisits shows is_intact old new visits → AllByRecursion CallsNameDays visits → is_intact new
-      → (s : State) → shows old s → IsSound s → (t : State) × shows new t × IsOneRun s visits t
+  pub the_headline : (visits : List Visit) (old new : M) → AreVisits represents is_intact old new visits → AllByRecursion CallsNameDays visits → is_intact new
+      → (s : State) → represents old s → IsSound s → (t : State) × represents new t × IsOneRun s visits t
   the_headline visits old new are named intact s is sound =
       let (t, shown, happen) = all_happen visits old new are intact s is in
       (t, shown, one_run s t visits happen named sound)
 
-  pub make_visits : MakeVisits shows is_intact
+  pub make_visits : MakeVisits represents is_intact
   make_visits = record {
     talk = λ left left_after held held_after old new end (read, written, consumed, appended, through) intact.
         (read, written, consumed, appended, record { intact = intact; happens = through });

@@ -1,14 +1,14 @@
 -- Lemmas on what stands where a head is looked for.
 use Rattle.std.proofs.Common.{◌≡◌, ◌<◌, ◌≤◌, ◌⊎◌, inl, inr, ℕ, List, length, ◌++◌, take, take_all, ap, sym, ◌∙◌, arith}
 use Rattle.std.proofs.Math.Seq.{take-append_seam}
-use Rattle.http_messages.specs.declared.ending.Place.{Place}
-use Rattle.http_messages.specs.declared.ending.Place.TheVariants.{Lead, LeadReturn, Start, StartReturn, Middle}
-use Rattle.http_messages.specs.declared.ending.Scan.TheVariants.{Open}
+use Rattle.http_messages.specs.declared.head_scan.HeadScanState.{HeadScanState}
+use Rattle.http_messages.specs.declared.head_scan.HeadScanState.TheVariants.{Lead, LeadReturn, Start, StartReturn, Middle}
+use Rattle.http_messages.specs.declared.head_scan.Scan.TheVariants.{Open}
 use Rattle.http_messages.specs.Ending.{scan}
 use Rattle.http_desk.specs.Messages.{IsBlank, IsHeadCut}
 
 -- an open head is nothing but empty lines, or it has begun
-pub blank_or_cut : (input : List ℕ) (p : Place) → length input < 16384 → scan input ≡ Open p → IsBlank input ⊎ IsHeadCut input
+pub blank_or_cut : (input : List ℕ) (p : HeadScanState) → length input < 16384 → scan input ≡ Open p → IsBlank input ⊎ IsHeadCut input
 blank_or_cut input Lead h e = inl (h, e)
 blank_or_cut input LeadReturn h e = inr (h, LeadReturn, (λ q. absurd (cc)), e)
 blank_or_cut input Start h e = inr (h, Start, (λ q. absurd (cc)), e)
@@ -16,7 +16,7 @@ blank_or_cut input StartReturn h e = inr (h, StartReturn, (λ q. absurd (cc)), e
 blank_or_cut input Middle h e = inr (h, Middle, (λ q. absurd (cc)), e)
 
 -- what was seen of a buffer stays seen when more comes
-pub led_on : (n : ℕ) (items new got : List ℕ) (p : Place) → n ≡ length items → new ≡ items ++ got
+pub led_on : (n : ℕ) (items new got : List ℕ) (p : HeadScanState) → n ≡ length items → new ≡ items ++ got
     → length items < 16384 → scan (take 16384 items) ≡ Open p → scan (take n new) ≡ Open p
 led_on n items new got p e f short seen =
     let few : length items ≤ 16384 = omega arith in

@@ -5,7 +5,7 @@ use Rattle.isad_core.specs.Texts.{Bytes}
 use Rattle.http_messages.specs.Answers.{Answer, head_text, number_of, phrase_of, type_name, allow_field, close_field}
 use Rattle.http_desk.specs.Parts.{pieces_text}
 use Rattle.http_desk.specs.Sending.{Sends}
-use Rattle.http_desk.specs.declared.sending.Sent.{Sent}
+use Rattle.http_desk.specs.declared.output.Sent.{Sent}
 
 regroup : (s p k n a c b : Bytes)
     → (codes "HTTP/1.1 " ++ (s ++ (codes " " ++ (p ++ (codes "\r\n" ++ (codes "Content-Type: " ++ (k ++ (codes "\r\n" ++ (codes "Content-Length: " ++ (n ++ (codes "\r\n" ++ (a ++ (c ++ codes "\r\n"))))))))))))) ++ b

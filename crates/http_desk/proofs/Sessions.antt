@@ -7,9 +7,9 @@ use Rattle.std.proofs.KnownBytes.{Consumes-nil, Consumes-trans, Appends-nil, App
 use Rattle.std.proofs.lemmas.Bool.Decides.{nat_tests}
 use Rattle.isad_core.specs.Texts.{Bytes}
 use Rattle.office_core.specs.State.{State}
-use Rattle.http_desk.specs.declared.ended.Ended.{Ended}
-use Rattle.http_desk.specs.declared.ended.Next.{Next}
-use Rattle.http_desk.specs.declared.ended.Next.TheVariants.{Goes, Ends}
+use Rattle.http_desk.specs.declared.session_end.Ended.{Ended}
+use Rattle.http_desk.specs.declared.session_end.Next.{Next}
+use Rattle.http_desk.specs.declared.session_end.Next.TheVariants.{Goes, Ends}
 use Rattle.http_desk.specs.Messages.{Message, Cuts}
 use Rattle.http_desk.specs.Session.{most_answers, StaysOpen, Stops, Session, message_text, state_after, text_after_all, state_after_all}
 use Rattle.http_desk.specs.Talking.{GoesOn, Turn, Through, Exchange, Talks}
@@ -85,19 +85,19 @@ begun_ends number s t u read written buffer more out end b g = record {
 pub not_over : (s t : State) (read written buffer : Bytes) → Begun 10001 s read written t buffer → ⊥
 not_over s t read written buffer b = omega (arith, b.few, b.count)
 
-module _ {M : Type 0} (shows : M → State → Type 0) (is_intact : M → Type 0) where
+module _ {M : Type 0} (represents : M → State → Type 0) (is_intact : M → Type 0) where
   -- what was read and written so far
   abbrev pub Carried : Option Bytes → Option Bytes → Option Bytes → Option Bytes → M → M → ℕ → Bytes → Type 0
   Carried a b c d start now number buffer =
       (read : Bytes) × (written : Bytes) × Consumes a b read × Appends c d written
       × (is_intact now → is_intact start)
-      × Through shows is_intact start now (λ s t. Begun number s read written t buffer)
+      × Through represents is_intact start now (λ s t. Begun number s read written t buffer)
 
   pub carried_none : (a c : Option Bytes) (start : M) (buffer : Bytes) → buffer ≡ [] → Carried a a c c start start 1 buffer
   carried_none a c start buffer e = ([], [], Consumes-nil a, Appends-nil c, (λ i. i), λ i s h. (s, h, begun_none s buffer e))
 
   pub carried_on : (a b b2 c d d2 : Option Bytes) (start now new : M) (number : ℕ) (buffer rest : Bytes) (next : Next)
-      → next ≡ Goes → (is_intact new → is_intact now) → Carried a b c d start now number buffer → Exchange shows is_intact number b b2 d d2 now buffer next new rest
+      → next ≡ Goes → (is_intact new → is_intact now) → Carried a b c d start now number buffer → Exchange represents is_intact number b b2 d d2 now buffer next new rest
       → Carried a b2 c d2 start new (number + 1) rest
   carried_on a b b2 c d d2 start now new number buffer rest next e before (read, written, consumed, appended, intact, through) (read2, written2, consumed2, appended2, through2) = (
     read ++ read2,
@@ -113,8 +113,8 @@ module _ {M : Type 0} (shows : M → State → Type 0) (is_intact : M → Type 0
   )
 
   pub carried_to_end : (a b b2 c d d2 : Option Bytes) (start now new : M) (number : ℕ) (buffer rest : Bytes) (next : Next) (end : Ended)
-      → next ≡ Ends end → (is_intact new → is_intact now) → Carried a b c d start now number buffer → Exchange shows is_intact number b b2 d d2 now buffer next new rest
-      → Talks shows is_intact a b2 c d2 start end new
+      → next ≡ Ends end → (is_intact new → is_intact now) → Carried a b c d start now number buffer → Exchange represents is_intact number b b2 d d2 now buffer next new rest
+      → Talks represents is_intact a b2 c d2 start end new
   carried_to_end a b b2 c d d2 start now new number buffer rest next end e before (read, written, consumed, appended, intact, through) (read2, written2, consumed2, appended2, through2) = (
     read ++ read2,
     written ++ written2,
@@ -128,6 +128,6 @@ module _ {M : Type 0} (shows : M → State → Type 0) (is_intact : M → Type 0
   )
 
   -- no more than 10,000 messages are answered
-  pub carried_over : (a b c d : Option Bytes) (start now : M) (buffer : Bytes) (end : Ended) → Carried a b c d start now 10001 buffer → Talks shows is_intact a b c d start end now
+  pub carried_over : (a b c d : Option Bytes) (start now : M) (buffer : Bytes) (end : Ended) → Carried a b c d start now 10001 buffer → Talks represents is_intact a b c d start end now
   carried_over a b c d start now buffer end (read, written, consumed, appended, intact, through) =
       (read, written, consumed, appended, λ i s h. let (t, shown, begun) = through i s h in absurd (not_over s t read written buffer begun))

@@ -6,13 +6,13 @@ use Rattle.std.proofs.KnownBytes.{Consumes-nil}
 use Rattle.std.proofs.lemmas.List.{take-append-le, drop-append-le}
 use Rattle.isad_core.specs.Texts.{Bytes}
 use Rattle.office_core.specs.State.{State}
-use Rattle.http_desk.specs.declared.ended.Ended.{Ended}
-use Rattle.http_desk.specs.declared.ended.Ended.TheVariants.{Closed, Cut, ReadFault, Bound}
-use Rattle.http_desk.specs.declared.ended.Next.{Next}
-use Rattle.http_desk.specs.declared.ended.Next.TheVariants.{Goes, Ends}
-use Rattle.http_messages.specs.declared.ending.Scan.TheVariants.{Whole}
-use Rattle.http_desk.specs.declared.sending.Sent.{Sent}
-use Rattle.http_desk.specs.declared.sending.Sent.TheVariants.{All, Failed, Bound as OutOfTurns}
+use Rattle.http_desk.specs.declared.session_end.Ended.{Ended}
+use Rattle.http_desk.specs.declared.session_end.Ended.TheVariants.{Closed, Cut, ReadFault, Bound}
+use Rattle.http_desk.specs.declared.session_end.Next.{Next}
+use Rattle.http_desk.specs.declared.session_end.Next.TheVariants.{Goes, Ends}
+use Rattle.http_messages.specs.declared.head_scan.Scan.TheVariants.{Whole}
+use Rattle.http_desk.specs.declared.output.Sent.{Sent}
+use Rattle.http_desk.specs.declared.output.Sent.TheVariants.{All, Failed, Bound as OutOfTurns}
 use Rattle.http_messages.specs.declared.status.Status.{Status}
 use Rattle.http_messages.specs.declared.status.Status.TheVariants.{Busy}
 use Rattle.http_messages.specs.Ending.{scan}
@@ -102,7 +102,7 @@ may_fail input = record { leave_due = λ e. never e; to_head = λ e. never e }
 pub may_fail_after : (input block more : Bytes) (r : Request) → HasHead input block (Accepted r) more → MayFail input r.waits false
 may_fail_after input block more r h = record { leave_due = λ e. (block, more, Accepted r, h, e); to_head = λ e. never e }
 
-module _ {M : Type 0} (shows : M → State → Type 0) (is_intact : M → Type 0) where
+module _ {M : Type 0} (represents : M → State → Type 0) (is_intact : M → Type 0) where
   -- what stands last changes nothing in the office
   abbrev pub AloneAt : ℕ → Last → Bytes → Type 0
   AloneAt number last text = (s : State) → (text ≡ last_text number s last) × (s ≡ state_after_last s last)
@@ -110,8 +110,8 @@ module _ {M : Type 0} (shows : M → State → Type 0) (is_intact : M → Type 0
   -- a fixed answer was sent
   pub refused : (number : ℕ) (old new : M) (input before rest : Bytes) (last : Last) (bare : Bool) (status : Status) (a b : Option Bytes) (next : Next)
       → Refused a b bare status next → Stands input last → IsClosing number last → AloneAt number last (before ++ refusal bare (error status))
-      → (is_intact new → (s : State) → shows old s → shows new s)
-      → (written : Bytes) × Appends a b written × Through shows is_intact old new (λ s t. Turn number s input next (before ++ written) t rest)
+      → (is_intact new → (s : State) → represents old s → represents new s)
+      → (written : Bytes) × Appends a b written × Through represents is_intact old new (λ s t. Turn number s input next (before ++ written) t rest)
   refused number old new input before rest last bare status a b next (sent, sends, e) x c alone kept =
       let (written, appended, is) = written_of a b (refusal bare (error status)) sent sends in (
         written,
@@ -147,8 +147,8 @@ module _ {M : Type 0} (shows : M → State → Type 0) (is_intact : M → Type 0
       → HasHead items (take size items) (Accepted request) (drop size items) → size + n ≤ length items → n ≡ body_length request → rest ≡ drop (size + n) items
       → bare ≡ is_head request.method → (request.closes || nat_eq number 10000) ≡ true → next ≡ after_sending sent (Ends Closed)
       → Sends a b (answer_text bare true told) sent
-      → (is_intact new → (s : State) → shows old s → shows new (answered s request (body_at items size n)).1 × (told ≡ (answered s request (body_at items size n)).0))
-      → (written : Bytes) × Appends a b written × Through shows is_intact old new (λ s t. Turn number s items next (leave_if request.waits ++ written) t rest)
+      → (is_intact new → (s : State) → represents old s → represents new (answered s request (body_at items size n)).1 × (told ≡ (answered s request (body_at items size n)).0))
+      → (written : Bytes) × Appends a b written × Through represents is_intact old new (λ s t. Turn number s items next (leave_if request.waits ++ written) t rest)
   acted_closing number old new items size n request told bare rest a b sent next h within e r is_bare closing ends sends answers =
       let (written, appended, is) = written_of a b (answer_text bare true told) sent sends in
       let message : Message = record { request = request; body = body_at items size n } in
@@ -170,8 +170,8 @@ module _ {M : Type 0} (shows : M → State → Type 0) (is_intact : M → Type 0
       → HasHead items (take size items) (Accepted request) (drop size items) → size + n ≤ length items → n ≡ body_length request → rest ≡ drop (size + n) items
       → bare ≡ is_head request.method → (request.closes || nat_eq number 10000) ≡ false → next ≡ after_sending sent Goes
       → Sends a b (answer_text bare false told) sent
-      → (is_intact new → (s : State) → shows old s → shows new (answered s request (body_at items size n)).1 × (told ≡ (answered s request (body_at items size n)).0))
-      → (written : Bytes) × Appends a b written × Through shows is_intact old new (λ s t. Turn number s items next (leave_if request.waits ++ written) t rest)
+      → (is_intact new → (s : State) → represents old s → represents new (answered s request (body_at items size n)).1 × (told ≡ (answered s request (body_at items size n)).0))
+      → (written : Bytes) × Appends a b written × Through represents is_intact old new (λ s t. Turn number s items next (leave_if request.waits ++ written) t rest)
   acted_open number old new items size n request told bare rest a b sent next h within e r is_bare closing ends sends answers =
       let (written, appended, is) = written_of a b (answer_text bare false told) sent sends in
       let message : Message = record { request = request; body = body_at items size n } in
@@ -192,7 +192,7 @@ module _ {M : Type 0} (shows : M → State → Type 0) (is_intact : M → Type 0
   -- the leave to send a body was broken off
   pub leave_broken : (number : ℕ) (office : M) (items block more : Bytes) (request : Request) (a b c : Option Bytes) (sent : Sent) (next result : Next)
       → (sent ≡ All → ⊥) → result ≡ after_sending sent next → HasHead items block (Accepted request) more → Sends b c (leave_if request.waits) sent
-      → Exchange shows is_intact number a a b c office items result office items × AtEndIf a result
+      → Exchange represents is_intact number a a b c office items result office items × AtEndIf a result
   leave_broken number office items block more request a b c All next result n e h s = absurd (n refl)
   leave_broken number office items block more request a b c Failed next result n e h (front, (others, f), s) =
       let there : HasHead (items ++ []) block (Accepted request) (more ++ []) = head_more items block (Accepted request) more [] h in (

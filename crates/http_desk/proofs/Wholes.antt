@@ -3,9 +3,9 @@ use Rattle.std.proofs.Common.{◌≡◌, ℕ, suc, [], ◌++◌, length, length-
 use Rattle.std.proofs.lemmas.List.{take-append-le}
 use Rattle.isad_core.specs.Texts.{Bytes}
 use Rattle.office_core.specs.State.{State}
-use Rattle.http_desk.specs.declared.ended.Ended.{Ended}
-use Rattle.http_desk.specs.declared.ended.Ended.TheVariants.{End, Closed, Cut, ReadFault, WriteFault, Bound}
-use Rattle.http_desk.specs.declared.ended.Next.TheVariants.{Ends}
+use Rattle.http_desk.specs.declared.session_end.Ended.{Ended}
+use Rattle.http_desk.specs.declared.session_end.Ended.TheVariants.{End, Closed, Cut, ReadFault, WriteFault, Bound}
+use Rattle.http_desk.specs.declared.session_end.Next.TheVariants.{Ends}
 use Rattle.http_messages.specs.Ending.{scan}
 use Rattle.http_messages.specs.Heads.{Verdict}
 use Rattle.http_desk.specs.Messages.{longest_head, Last, Nothing, HeadCut, BodyCut, NoHead, Refuses, Answers, Fails, Stands, SomeHead, IsTooLong}
@@ -55,16 +55,16 @@ nothing_follows s input out more new a = record {
 all_read : (xs ys read : Bytes) → xs ≡ read ++ ys → ys ≡ [] → read ≡ xs
 all_read xs ys read e f = sym (e ∙ ap (λ l. read ++ l) f ∙ append-nil read)
 
-pub talks_whole : {M : Type 0} (shows : M → State → Type 0) (is_intact : M → Type 0) (a b c d : Option Bytes) (old new : M) (end : Ended)
-    → Talks shows is_intact a b c d old end new → AtEndIf b (Ends end) → TalksWhole shows is_intact a c d old end new
-talks_whole shows is_intact None b c d old new end t at_end = tt
-talks_whole shows is_intact (Some xs) None c d old new end (read, written, q, p, through) at_end = absurd q
-talks_whole shows is_intact (Some xs) (Some ys) c d old new End (read, written, q, p, through) at_end =
+pub talks_whole : {M : Type 0} (represents : M → State → Type 0) (is_intact : M → Type 0) (a b c d : Option Bytes) (old new : M) (end : Ended)
+    → Talks represents is_intact a b c d old end new → AtEndIf b (Ends end) → TalksWhole represents is_intact a c d old end new
+talks_whole represents is_intact None b c d old new end t at_end = tt
+talks_whole represents is_intact (Some xs) None c d old new end (read, written, q, p, through) at_end = absurd q
+talks_whole represents is_intact (Some xs) (Some ys) c d old new End (read, written, q, p, through) at_end =
     λ h. (written, p, λ i s x. let (t, y, session) = through i s x in (t, y, subst (λ l. Session s l written End t) (all_read xs ys read q at_end) session))
-talks_whole shows is_intact (Some xs) (Some ys) c d old new Cut (read, written, q, p, through) at_end =
+talks_whole represents is_intact (Some xs) (Some ys) c d old new Cut (read, written, q, p, through) at_end =
     λ h. (written, p, λ i s x. let (t, y, session) = through i s x in (t, y, subst (λ l. Session s l written Cut t) (all_read xs ys read q at_end) session))
-talks_whole shows is_intact (Some xs) (Some ys) c d old new Closed (read, written, q, p, through) at_end =
+talks_whole represents is_intact (Some xs) (Some ys) c d old new Closed (read, written, q, p, through) at_end =
     λ h. (written, p, λ i s x. let (t, y, session) = through i s x in (t, y, subst (λ l. Session s l written Closed t) (sym q) (nothing_follows s read written ys t session)))
-talks_whole shows is_intact (Some xs) (Some ys) c d old new ReadFault t at_end = λ h. absurd h
-talks_whole shows is_intact (Some xs) (Some ys) c d old new WriteFault t at_end = λ h. absurd h
-talks_whole shows is_intact (Some xs) (Some ys) c d old new Bound t at_end = λ h. absurd h
+talks_whole represents is_intact (Some xs) (Some ys) c d old new ReadFault t at_end = λ h. absurd h
+talks_whole represents is_intact (Some xs) (Some ys) c d old new WriteFault t at_end = λ h. absurd h
+talks_whole represents is_intact (Some xs) (Some ys) c d old new Bound t at_end = λ h. absurd h

@@ -9,11 +9,11 @@ use Rattle.std.proofs.lemmas.List.Sums.{AllPass-from_list_all}
 use Rattle.httparse.specs.Grammar.{Field, IsField, RequestHead, IsRequestHead, print_request, crlf, is_token_byte, is_uri_byte, is_value_byte, trim_ows, IsToken}
 use Rattle.isad_core.specs.Texts.{Bytes}
 use Rattle.office_core.specs.State.{State}
-use Rattle.http_messages.specs.declared.ending.Scan.TheVariants.{Whole}
+use Rattle.http_messages.specs.declared.head_scan.Scan.TheVariants.{Whole}
 use Rattle.http_messages.specs.Ending.{scan}
 use Rattle.http_messages.specs.Heads.{Request, Verdict, Accepted, verdict_on}
 use Rattle.http_messages.proofs.Scans.{scan_take_more}
-use Rattle.http_desk.specs.declared.ended.Ended.TheVariants.{End, Cut}
+use Rattle.http_desk.specs.declared.session_end.Ended.TheVariants.{End, Cut}
 use Rattle.http_desk.specs.Messages.{longest_head, IsBlank, HasHead, Message, Begins, Nothing, BodyCut, Stands}
 use Rattle.http_desk.specs.Session.{Session, StaysOpen, message_text, state_after, text_after_all, leave_if}
 use Rattle.http_desk.specs.WorkedSessions.{list_request, register_head, draft_head, page_request}

@@ -1,11 +1,11 @@
 -- What stands at the front of an input.
 use Rattle.std.specs.Prelude.{◌≡◌, ℕ, ◌<◌, ◌≤◌, ◌⊎◌, List, ◌++◌, take, length, Option}
 use Rattle.std.specs.Io.KnownBytes.{Consumes, IsAtEnd}
-use Rattle.http_messages.specs.declared.ending.Scan.TheVariants.{Whole as Ends}
-use Rattle.http_desk.specs.declared.gathering.FoundHead.{FoundHead}
-use Rattle.http_desk.specs.declared.gathering.FoundHead.TheVariants.{Whole, TooLong, Blank, Cut, Failed, Bound, NoMemory}
-use Rattle.http_desk.specs.declared.gathering.FoundBody.{FoundBody}
-use Rattle.http_desk.specs.declared.gathering.FoundBody.TheVariants.{Whole as BodyWhole, Cut as BodyCut, Failed as BodyFailed, Bound as BodyBound, NoMemory as BodyNoMemory}
+use Rattle.http_messages.specs.declared.head_scan.Scan.TheVariants.{Whole as Ends}
+use Rattle.http_desk.specs.declared.message_input.FoundHead.{FoundHead}
+use Rattle.http_desk.specs.declared.message_input.FoundHead.TheVariants.{Whole, TooLong, Blank, Cut, Failed, Bound, NoMemory}
+use Rattle.http_desk.specs.declared.message_input.FoundBody.{FoundBody}
+use Rattle.http_desk.specs.declared.message_input.FoundBody.TheVariants.{Whole as BodyWhole, Cut as BodyCut, Failed as BodyFailed, Bound as BodyBound, NoMemory as BodyNoMemory}
 use Rattle.http_messages.specs.Ending.{scan}
 use Rattle.http_desk.specs.Messages.{IsBlank, IsHeadCut, IsTooLong}
 

@@ -16,7 +16,7 @@ use Rattle.office_core.specs.Secrecy.{ShowsOnlyPublished}
 use Rattle.office_core.specs.SoundOffice.{IsSoundOffice, NamesTexts}
 use Rattle.office_core.specs.Soundness.{IsSound, NamesDays}
 use Rattle.office_core.specs.State.{State}
-use Rattle.http_desk.specs.declared.ended.Ended.{Ended}
+use Rattle.http_desk.specs.declared.session_end.Ended.{Ended}
 use Rattle.http_desk.specs.Runs.{HasCarriedOut, Visit, ByHttp, Directly, CallsNameDays, CallsNameTexts}
 use Rattle.http_desk.specs.Runs.{AllHappen, AllBring, IsVisited, AreVisits}
 use Rattle.http_desk.specs.Session.{Session}
@@ -33,21 +33,21 @@ SessionsRunTheMachine =
 -- ---- what makes a visit
 
 -- What `talk` promises of a peer, `apply` of a command and `ask` of a question, each with its outcome, makes a visit.
-pub record MakeVisits {M : Type 0} (shows : M → State → Type 0) (is_intact : M → Type 0) : Type 0 where
+pub record MakeVisits {M : Type 0} (represents : M → State → Type 0) (is_intact : M → Type 0) : Type 0 where
   pub talk : (left left_after held held_after : Option Bytes) (old new : M) (end : Ended)
-      → Talks shows is_intact left left_after held held_after old end new → (is_intact new → is_intact old)
+      → Talks represents is_intact left left_after held held_after old end new → (is_intact new → is_intact old)
       → (read written : Bytes) × Consumes left left_after read × Appends held held_after written
-      × IsVisited shows is_intact old new (ByHttp read written end)
+      × IsVisited represents is_intact old new (ByHttp read written end)
   pub apply : (old new : M) (command : Command) (reply : Reply) → (is_intact new → is_intact old)
-      → (is_intact new → (s : State) → shows old s → shows new (machine.step s command).0
+      → (is_intact new → (s : State) → represents old s → represents new (machine.step s command).0
       × (reply.done ≡ (machine.step s command).1) × (reply.json ≡ reply_text (machine.step s command).1))
-      → IsVisited shows is_intact old new (Directly (ToDo command) (Some (Replied reply.done)))
+      → IsVisited represents is_intact old new (Directly (ToDo command) (Some (Replied reply.done)))
   pub ask : (old new : M) (query : Query) (told : Answer) → (is_intact new → is_intact old)
-      → (is_intact new → (s : State) → shows old s → shows new s × (told ≡ answer s query))
-      → IsVisited shows is_intact old new (Directly (ToTell query) (Some (Answered told)))
+      → (is_intact new → (s : State) → represents old s → represents new s × (told ≡ answer s query))
+      → IsVisited represents is_intact old new (Directly (ToTell query) (Some (Answered told)))
   pub busy : (old new : M) (asked : Asked) → (is_intact new → is_intact old)
-      → (is_intact new → (s : State) → shows old s → shows new s)
-      → IsVisited shows is_intact old new (Directly asked None)
+      → (is_intact new → (s : State) → represents old s → represents new s)
+      → IsVisited represents is_intact old new (Directly asked None)
 
 -- ---- what holds of all of them
 
@@ -79,7 +79,7 @@ VisitsRunTheMachine =
 
 -- From a sound state on, whatever sessions and calls there were, what the office shows is what the machine has.
 abbrev pub TheHeadline : {M : Type 0} → (M → State → Type 0) → (M → Type 0) → Type 0
-TheHeadline {M} shows is_intact =
-    (visits : List Visit) (old new : M) → AreVisits shows is_intact old new visits → AllByRecursion CallsNameDays visits
-    → is_intact new → (s : State) → shows old s → IsSound s
-    → (t : State) × shows new t × IsOneRun s visits t
+TheHeadline {M} represents is_intact =
+    (visits : List Visit) (old new : M) → AreVisits represents is_intact old new visits → AllByRecursion CallsNameDays visits
+    → is_intact new → (s : State) → represents old s → IsSound s
+    → (t : State) × represents new t × IsOneRun s visits t

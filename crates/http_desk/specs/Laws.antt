@@ -4,8 +4,8 @@ use Rattle.std.specs.List.{AllByRecursion}
 use Rattle.isad_core.specs.Texts.{Bytes}
 use Rattle.office_core.specs.State.{State}
 use Rattle.office_core.specs.Secrecy.{SamePublic}
-use Rattle.http_desk.specs.declared.ended.Ended.{Ended}
-use Rattle.http_desk.specs.declared.ended.Ended.TheVariants.{End, Closed, Cut, ReadFault, WriteFault, Bound}
+use Rattle.http_desk.specs.declared.session_end.Ended.{Ended}
+use Rattle.http_desk.specs.declared.session_end.Ended.TheVariants.{End, Closed, Cut, ReadFault, WriteFault, Bound}
 use Rattle.http_messages.specs.Targets.{path_of}
 use Rattle.http_desk.specs.Messages.{Message, Cuts, Last, Nothing, HeadCut, BodyCut, NoHead, Refuses, Answers, Fails}
 use Rattle.http_desk.specs.Session.{IsFront, Session, text_after_all}

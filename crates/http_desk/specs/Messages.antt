@@ -1,9 +1,9 @@
 -- How an input is cut into messages (RFC 9112, sections 2.2, 6 and 8).
 use Rattle.std.specs.Prelude.{◌≡◌, ◌≢◌, ℕ, ◌<◌, ◌≤◌, ◌++◌, Bool, true, false, List, [], ◌∷◌, length, take}
 use Rattle.isad_core.specs.Texts.{Bytes}
-use Rattle.http_messages.specs.declared.ending.Place.{Place}
-use Rattle.http_messages.specs.declared.ending.Place.TheVariants.{Lead}
-use Rattle.http_messages.specs.declared.ending.Scan.TheVariants.{Whole, Open}
+use Rattle.http_messages.specs.declared.head_scan.HeadScanState.{HeadScanState}
+use Rattle.http_messages.specs.declared.head_scan.HeadScanState.TheVariants.{Lead}
+use Rattle.http_messages.specs.declared.head_scan.Scan.TheVariants.{Whole, Open}
 use Rattle.http_messages.specs.declared.status.Status.{Status}
 use Rattle.http_messages.specs.Ending.{scan}
 use Rattle.http_messages.specs.Heads.{Request, Verdict, Refused, Accepted, Judges, is_head, body_length}
@@ -19,11 +19,11 @@ IsBlank input = (length input < longest_head) × (scan input ≡ Open Lead)
 
 -- a head has begun and doesn't end, in fewer bytes than it may have
 abbrev pub IsHeadCut : Bytes → Type 0
-IsHeadCut input = (length input < longest_head) × (place : Place) × (place ≢ Lead) × (scan input ≡ Open place)
+IsHeadCut input = (length input < longest_head) × (place : HeadScanState) × (place ≢ Lead) × (scan input ≡ Open place)
 
 -- no head ends within the limit
 abbrev pub IsTooLong : Bytes → Type 0
-IsTooLong input = (longest_head ≤ length input) × (place : Place) × (scan (take longest_head input) ≡ Open place)
+IsTooLong input = (longest_head ≤ length input) × (place : HeadScanState) × (scan (take longest_head input) ≡ Open place)
 
 -- a block ends in its first empty line, within the limit, and that is its worth; the empty lines before it count
 pub record HasHead (input block : Bytes) (verdict : Verdict) (more : Bytes) : Type 0 where

@@ -10,7 +10,7 @@ use Rattle.office_core.specs.SoundOffice.{NamesTexts}
 use Rattle.office_core.specs.Soundness.{NamesDays}
 use Rattle.office_core.specs.State.{State}
 use Rattle.http_messages.specs.Answers.{Answer, of_reply, of_told, answered}
-use Rattle.http_desk.specs.declared.ended.Ended.{Ended}
+use Rattle.http_desk.specs.declared.session_end.Ended.{Ended}
 use Rattle.http_desk.specs.Messages.{Message, Last, Nothing, HeadCut, BodyCut, NoHead, Refuses, Answers, Fails}
 use Rattle.http_desk.specs.Session.{Session, message_answer, state_after}
 use Rattle.http_desk.specs.Talking.{Through}
@@ -117,10 +117,10 @@ CallsNameTexts (Directly (ToTell query) told) = Unit {0}
 
 -- ---- an office that is seen in a state, and whose store has returned what was written to it
 
-module _ {M : Type 0} (shows : M → State → Type 0) (is_intact : M → Type 0) where
+module _ {M : Type 0} (represents : M → State → Type 0) (is_intact : M → Type 0) where
   pub record IsVisited (old new : M) (visit : Visit) : Type 0 where
     pub intact : is_intact new → is_intact old
-    pub happens : Through shows is_intact old new (λ s t. Happens s visit t)
+    pub happens : Through represents is_intact old new (λ s t. Happens s visit t)
 
   abbrev pub AreVisits : M → M → List Visit → Type 0
   AreVisits old new [] = old ≡ new

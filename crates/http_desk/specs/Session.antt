@@ -3,8 +3,8 @@ use Rattle.std.specs.Prelude.{◌≡◌, ℕ, suc, ◌<◌, ◌⊎◌, ◌||◌,
 use Rattle.std.specs.List.{AllByRecursion}
 use Rattle.isad_core.specs.Texts.{Bytes}
 use Rattle.office_core.specs.State.{State}
-use Rattle.http_desk.specs.declared.ended.Ended.{Ended}
-use Rattle.http_desk.specs.declared.ended.Ended.TheVariants.{End, Closed, Cut, ReadFault, WriteFault, Bound}
+use Rattle.http_desk.specs.declared.session_end.Ended.{Ended}
+use Rattle.http_desk.specs.declared.session_end.Ended.TheVariants.{End, Closed, Cut, ReadFault, WriteFault, Bound}
 use Rattle.http_messages.specs.declared.status.Status.TheVariants.{BadRequest, Busy}
 use Rattle.http_messages.specs.Heads.{is_head}
 use Rattle.http_messages.specs.Answers.{Answer, error, answer_text, continue_text, answered}

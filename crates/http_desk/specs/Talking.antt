@@ -3,12 +3,12 @@ use Rattle.std.specs.Prelude.{◌≡◌, ℕ, ◌++◌, Bool, false, Option, IfS
 use Rattle.std.specs.Io.KnownBytes.{Consumes, Appends, IsAtEnd}
 use Rattle.isad_core.specs.Texts.{Bytes}
 use Rattle.office_core.specs.State.{State}
-use Rattle.http_desk.specs.declared.ended.Ended.{Ended}
-use Rattle.http_desk.specs.declared.ended.Ended.TheVariants.{End, Closed, Cut, WriteFault, Bound}
-use Rattle.http_desk.specs.declared.ended.Next.{Next}
-use Rattle.http_desk.specs.declared.ended.Next.TheVariants.{Goes, Ends}
-use Rattle.http_desk.specs.declared.sending.Sent.{Sent}
-use Rattle.http_desk.specs.declared.sending.Sent.TheVariants.{All, Failed, Bound as OutOfTurns}
+use Rattle.http_desk.specs.declared.session_end.Ended.{Ended}
+use Rattle.http_desk.specs.declared.session_end.Ended.TheVariants.{End, Closed, Cut, WriteFault, Bound}
+use Rattle.http_desk.specs.declared.session_end.Next.{Next}
+use Rattle.http_desk.specs.declared.session_end.Next.TheVariants.{Goes, Ends}
+use Rattle.http_desk.specs.declared.output.Sent.{Sent}
+use Rattle.http_desk.specs.declared.output.Sent.TheVariants.{All, Failed, Bound as OutOfTurns}
 use Rattle.http_messages.specs.declared.status.Status.{Status}
 use Rattle.http_messages.specs.Answers.{error}
 use Rattle.http_desk.specs.Sending.{Sends}
@@ -30,21 +30,21 @@ Turn number s input (Ends end) out new rest = Stops number s input out end new
 
 -- from one office to another, where the store has returned what was written
 abbrev pub Through : {M : Type 0} → (M → State → Type 0) → (M → Type 0) → M → M → (State → State → Type 0) → Type 0
-Through shows is_intact old new P = is_intact new → (s : State) → shows old s → (t : State) × shows new t × P s t
+Through represents is_intact old new P = is_intact new → (s : State) → represents old s → (t : State) × represents new t × P s t
 
 -- what stood in a buffer and what a reader gave then, answered on a writer, is one message's place
 abbrev pub Exchange : {M : Type 0} → (M → State → Type 0) → (M → Type 0) → ℕ → Option Bytes → Option Bytes
     → Option Bytes → Option Bytes → M → Bytes → Next → M → Bytes → Type 0
-Exchange shows is_intact number left left_after held held_after old buffer next new rest =
+Exchange represents is_intact number left left_after held held_after old buffer next new rest =
     (read : Bytes) × (written : Bytes) × Consumes left left_after read × Appends held held_after written
-    × Through shows is_intact old new (λ s t. Turn number s (buffer ++ read) next written t rest)
+    × Through represents is_intact old new (λ s t. Turn number s (buffer ++ read) next written t rest)
 
 -- what was read and written in a session
 abbrev pub Talks : {M : Type 0} → (M → State → Type 0) → (M → Type 0) → Option Bytes → Option Bytes → Option Bytes
     → Option Bytes → M → Ended → M → Type 0
-Talks shows is_intact left left_after held held_after old end new =
+Talks represents is_intact left left_after held held_after old end new =
     (read : Bytes) × (written : Bytes) × Consumes left left_after read × Appends held held_after written
-    × Through shows is_intact old new (λ s t. Session s read written end t)
+    × Through represents is_intact old new (λ s t. Session s read written end t)
 
 -- these say that the input has ended
 abbrev pub AtEndIf : Option Bytes → Next → Type 0
@@ -72,6 +72,6 @@ Refused held held_after bare status next = (sent : Sent) × Sends held held_afte
 -- the session of the whole input that a reader had
 abbrev pub TalksWhole : {M : Type 0} → (M → State → Type 0) → (M → Type 0) → Option Bytes → Option Bytes
     → Option Bytes → M → Ended → M → Type 0
-TalksWhole shows is_intact remaining held held_after old end new =
+TalksWhole represents is_intact remaining held held_after old end new =
     IfSome remaining (λ input. HasEnded end → (written : Bytes) × Appends held held_after written
-    × Through shows is_intact old new (λ s t. Session s input written end t))
+    × Through represents is_intact old new (λ s t. Session s input written end t))

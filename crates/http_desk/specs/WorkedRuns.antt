@@ -7,7 +7,7 @@ use Rattle.office_core.specs.MixedRuns.{ToDo, ToTell}
 use Rattle.office_core.specs.Worked.{draft}
 use Rattle.http_messages.specs.declared.status.Status.TheVariants.{BadRequest, NotFound, LengthRequired}
 use Rattle.http_messages.specs.Answers.{error}
-use Rattle.http_desk.specs.declared.ended.Ended.TheVariants.{End, Cut}
+use Rattle.http_desk.specs.declared.session_end.Ended.TheVariants.{End, Cut}
 use Rattle.http_desk.specs.Messages.{Message}
 use Rattle.http_desk.specs.Runs.{Puts, Fixed, Means, HasCarriedOut}
 use Rattle.http_desk.specs.Session.{Session}

@@ -1,7 +1,7 @@
 -- Whole sessions in a small office, to the byte. What comes in and what goes out was written by hand.
 use Rattle.std.specs.Prelude.{◌++◌, [], codes}
 use Rattle.isad_core.specs.Texts.{Bytes}
-use Rattle.http_desk.specs.declared.ended.Ended.TheVariants.{End, Cut}
+use Rattle.http_desk.specs.declared.session_end.Ended.TheVariants.{End, Cut}
 use Rattle.http_desk.specs.Session.{Session}
 use Rattle.http_desk.specs.Worked.{filled, with_draft, fonds_list, not_found, json_text}
 

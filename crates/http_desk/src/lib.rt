@@ -1,13 +1,13 @@
 //! Sessions of HTTP/1.1 (RFC 9110, RFC 9112) with an office, over any reader and writer.
 #![tactic(auto)]
 
-pub mod ended;
-pub mod filling;
-pub mod gathering;
+pub mod input_buffer;
 pub mod laws;
 pub mod means;
+pub mod message_input;
+pub mod output;
 pub mod reply;
-pub mod respond;
-pub mod sending;
+pub mod responses;
 pub mod session;
+pub mod session_end;
 pub mod worked;

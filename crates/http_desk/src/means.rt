@@ -1,6 +1,6 @@
 //! What a session answers with, beside its office.
 
-use http_messages::routing::Routes;
+use http_messages::routes::Routes;
 use std::alloc::{AllocError, Global};
 
 /// Memory, and the routes that its paths are looked up in.

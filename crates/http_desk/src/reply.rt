@@ -6,8 +6,8 @@ ghost use Rattle.http_desk.specs.Sending.{Sends};
 ghost use Rattle.http_desk.specs.Parts.{parts_text};
 ghost use Rattle.http_desk.specs.Quiet.{send_failed};
 
-use crate::sending::{Sent, send};
-use http_messages::answered::{Answered, close_line, code_of, phrase, type_of, written_body};
+use crate::output::{Sent, send};
+use http_messages::answers::{Answered, close_line, code_of, phrase, type_of, written_body};
 use itoa::Buffer;
 use std::io::Write;
 

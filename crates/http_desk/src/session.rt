@@ -11,14 +11,14 @@ ghost use Rattle.http_desk.specs.Session.{leave_if, most_answers};
 ghost use Rattle.http_desk.specs.Talking.{Turn, Through, Exchange, Talks, TalksWhole, AtEndIf, IsNoEnd, Refused, after_sending};
 ghost use Rattle.http_desk.specs.Quiet.{TellsReadFault, TellsWriteFault, NoBound, send_failed};
 
-use crate::ended::{Calls, Ended, Next};
-use crate::gathering::{FoundBody, FoundHead, gather_body, gather_head};
 use crate::means::Means;
+use crate::message_input::{FoundBody, FoundHead, gather_body, gather_head};
+use crate::output::Sent;
 use crate::reply::{send_answer, send_continue};
-use crate::respond::respond;
-use crate::sending::Sent;
-use http_messages::answered::Answered;
-use http_messages::judging::{Head, Judged, is_bare_method, judge};
+use crate::responses::respond;
+use crate::session_end::{Calls, Ended, Next};
+use http_messages::answers::Answered;
+use http_messages::head_verdict::{Head, Judged, is_bare_method, judge};
 use http_messages::status::Status;
 use office_core::Machine;
 use std::alloc::Global;
@@ -125,7 +125,7 @@ fn act<W: Write, M: Machine>(
     requires accepted { HasHead buffer.old.items (take size buffer.old.items)
         (Accepted (request_in (take size buffer.old.items) head)) (drop size buffer.old.items) }
     ensures turn { (written : Bytes) × Appends (W.contents writer.old) (W.contents writer.new) written
-        × Through M.shows M.is_intact office.old office.new (λ s t.
+        × Through M.represents M.is_intact office.old office.new (λ s t.
         Turn number s buffer.old.items result (leave_if head.waits ++ written) t buffer.new.items) }
     ensures intact { M.is_intact office.new → M.is_intact office.old }
     ensures no_end { IsNoEnd result }
@@ -177,7 +177,7 @@ fn receive<R: Read, W: Write, M: Machine>(
     requires target { IsWithin (length (take size buffer.old.items)) head.target }
     requires accepted { HasHead buffer.old.items (take size buffer.old.items)
         (Accepted (request_in (take size buffer.old.items) head)) (drop size buffer.old.items) }
-    ensures turn { Exchange M.shows M.is_intact number (R.remaining reader.old) (R.remaining reader.new)
+    ensures turn { Exchange M.represents M.is_intact number (R.remaining reader.old) (R.remaining reader.new)
         (W.contents writer.old) (W.contents writer.new) office.old buffer.old.items result office.new buffer.new.items }
     ensures intact { M.is_intact office.new → M.is_intact office.old }
     ensures at_end { AtEndIf (R.remaining reader.new) result }
@@ -216,7 +216,7 @@ fn exchange<R: Read, W: Write, M: Machine>(
     number: u32,
     calls: &mut Calls,
 ) -> Next
-    ensures turn { Exchange M.shows M.is_intact number (R.remaining reader.old) (R.remaining reader.new)
+    ensures turn { Exchange M.represents M.is_intact number (R.remaining reader.old) (R.remaining reader.new)
         (W.contents writer.old) (W.contents writer.new) office.old buffer.old.items result office.new buffer.new.items }
     ensures intact { M.is_intact office.new → M.is_intact office.old }
     ensures at_end { AtEndIf (R.remaining reader.new) result }
@@ -255,7 +255,7 @@ fn talk_with<R: Read, W: Write, M: Machine>(
     office: &mut M,
     calls: &mut Calls,
 ) -> Ended
-    ensures session { Talks M.shows M.is_intact (R.remaining reader.old) (R.remaining reader.new)
+    ensures session { Talks M.represents M.is_intact (R.remaining reader.old) (R.remaining reader.new)
         (W.contents writer.old) (W.contents writer.new) office.old result office.new }
     ensures intact { M.is_intact office.new → M.is_intact office.old }
     ensures at_end { AtEndIf (R.remaining reader.new) (Next.Ends result) }
@@ -283,7 +283,7 @@ pub fn talk_watched<R: Read, W: Write, M: Machine>(
     office: &mut M,
     calls: &mut Calls,
 ) -> Ended
-    ensures session { Talks M.shows M.is_intact (R.remaining reader.old) (R.remaining reader.new)
+    ensures session { Talks M.represents M.is_intact (R.remaining reader.old) (R.remaining reader.new)
         (W.contents writer.old) (W.contents writer.new) office.old result office.new }
     ensures intact { M.is_intact office.new → M.is_intact office.old }
     ensures at_end { AtEndIf (R.remaining reader.new) (Next.Ends result) }
@@ -308,10 +308,10 @@ pub fn talk<R: Read, W: Write, M: Machine>(
     writer: &mut W,
     office: &mut M,
 ) -> Ended
-    ensures session { Talks M.shows M.is_intact (R.remaining reader.old) (R.remaining reader.new)
+    ensures session { Talks M.represents M.is_intact (R.remaining reader.old) (R.remaining reader.new)
         (W.contents writer.old) (W.contents writer.new) office.old result office.new }
     // Where the reader tells its bytes, it is a session of all of them.
-    ensures whole { TalksWhole M.shows M.is_intact (R.remaining reader.old)
+    ensures whole { TalksWhole M.represents M.is_intact (R.remaining reader.old)
         (W.contents writer.old) (W.contents writer.new) office.old result office.new }
     ensures intact { M.is_intact office.new → M.is_intact office.old }
     ensures at_end { AtEndIf (R.remaining reader.new) (Next.Ends result) }

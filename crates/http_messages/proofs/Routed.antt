@@ -15,13 +15,13 @@ use Rattle.matchit.specs.Seek as seek
 use Rattle.matchit.specs.Router.{RouteOf}
 use Rattle.matchit.proofs.OnLiterals.{matchit_on_literals}
 use Rattle.isad_core.specs.Texts.{Bytes}
-use Rattle.http_messages.specs.declared.routing.Leads.{Leads}
-use Rattle.http_messages.specs.declared.routing.Leads.TheVariants as leads
-use Rattle.http_messages.specs.declared.routing.Plain.{Plain}
-use Rattle.http_messages.specs.declared.routing.Plain.TheVariants as plains
-use Rattle.http_messages.specs.declared.routing.Ending.{Ending}
-use Rattle.http_messages.specs.declared.routing.Ending.TheVariants as endings
-use Rattle.http_messages.specs.declared.form.Form.TheVariants as form
+use Rattle.http_messages.specs.declared.routes.Leads.{Leads}
+use Rattle.http_messages.specs.declared.routes.Leads.TheVariants as leads
+use Rattle.http_messages.specs.declared.routes.Plain.{Plain}
+use Rattle.http_messages.specs.declared.routes.Plain.TheVariants as plains
+use Rattle.http_messages.specs.declared.routes.Ending.{Ending}
+use Rattle.http_messages.specs.declared.routes.Ending.TheVariants as endings
+use Rattle.http_messages.specs.declared.body_form.Form.TheVariants as form
 use Rattle.http_messages.specs.Routes.{Route, plain, ending, plain_route, ending_route, route_of, or_else, after, is_number, is_name, is_segment, numbered, named}
 use Rattle.http_messages.specs.Routing.{plain_in, makes, beginning, table}
 use Rattle.http_messages.proofs.Bodies.{never_true}

@@ -2,10 +2,10 @@
 use Rattle.std.proofs.Common.{◌⊎◌, inl, inr, min, zero, take_all, ◌≡◌, ◌<◌, ◌≤◌, ℕ, suc, ◌+◌, ◌-◌, drop, List, [], ◌∷◌, ◌++◌, length, take, refl, sym, ap, ◌∙◌, arith, zero-add, Option, None, Some, length-take}
 use Rattle.std.proofs.Math.Seq.{take-add}
 use Rattle.std.proofs.lemmas.Bool.{cases_lt}
-use Rattle.http_messages.specs.declared.ending.Place.{Place}
-use Rattle.http_messages.specs.declared.ending.Place.TheVariants.{Lead}
-use Rattle.http_messages.specs.declared.ending.Scan.{Scan}
-use Rattle.http_messages.specs.declared.ending.Scan.TheVariants.{Whole, Open}
+use Rattle.http_messages.specs.declared.head_scan.HeadScanState.{HeadScanState}
+use Rattle.http_messages.specs.declared.head_scan.HeadScanState.TheVariants.{Lead}
+use Rattle.http_messages.specs.declared.head_scan.Scan.{Scan}
+use Rattle.http_messages.specs.declared.head_scan.Scan.TheVariants.{Whole, Open}
 use Rattle.http_messages.specs.Ending.{scan, scan_from, one_more, next_place, found_after}
 
 -- what is found after n bytes more
@@ -21,7 +21,7 @@ one_more_whole : (s : Scan) (n : ℕ) → one_more s ≡ Whole n → (k : ℕ) �
 one_more_whole (Whole k) n e = (k, refl, cc)
 one_more_whole (Open p) n e = absurd (cc)
 
-within_after : (o : Option Place) (more : Place → Scan) (len n : ℕ) → ((q : Place) (k : ℕ) → more q ≡ Whole k → k ≤ len)
+within_after : (o : Option HeadScanState) (more : HeadScanState → Scan) (len n : ℕ) → ((q : HeadScanState) (k : ℕ) → more q ≡ Whole k → k ≤ len)
     → found_after o more ≡ Whole n → n ≤ suc len
 within_after None more len n h e = let one : n ≡ 1 = cc in omega arith
 within_after (Some q) more len n h e =
@@ -29,7 +29,7 @@ within_after (Some q) more len n h e =
     let below : k ≤ len = h q k f in
     omega arith
 
-pub within_from : (p : Place) (bytes : List ℕ) (n : ℕ) → scan_from p bytes ≡ Whole n → n ≤ length bytes
+pub within_from : (p : HeadScanState) (bytes : List ℕ) (n : ℕ) → scan_from p bytes ≡ Whole n → n ≤ length bytes
 within_from p [] n e = absurd (cc)
 within_from p (b ∷ bytes) n e = within_after (next_place p b) (λ q. scan_from q bytes) (length bytes) n (λ q k f. within_from q bytes k f) e
 
@@ -38,14 +38,14 @@ pub scan_within : (bytes : List ℕ) (n : ℕ) → scan bytes ≡ Whole n → n 
 unfolding scan
 scan_within bytes n e = within_from Lead bytes n e
 
-more_after : (o : Option Place) (more longer : Place → Scan) (n : ℕ) → ((q : Place) (k : ℕ) → more q ≡ Whole k → longer q ≡ Whole k)
+more_after : (o : Option HeadScanState) (more longer : HeadScanState → Scan) (n : ℕ) → ((q : HeadScanState) (k : ℕ) → more q ≡ Whole k → longer q ≡ Whole k)
     → found_after o more ≡ Whole n → found_after o longer ≡ Whole n
 more_after None more longer n h e = e
 more_after (Some q) more longer n h e =
     let (k, f, s) = one_more_whole (more q) n e in
     ap one_more (h q k f) ∙ ap Whole (sym s)
 
-more_from : (p : Place) (bytes rest : List ℕ) (n : ℕ) → scan_from p bytes ≡ Whole n → scan_from p (bytes ++ rest) ≡ Whole n
+more_from : (p : HeadScanState) (bytes rest : List ℕ) (n : ℕ) → scan_from p bytes ≡ Whole n → scan_from p (bytes ++ rest) ≡ Whole n
 more_from p [] rest n e = absurd (cc)
 more_from p (b ∷ bytes) rest n e = more_after (next_place p b) (λ q. scan_from q bytes) (λ q. scan_from q (bytes ++ rest)) n (λ q k f. more_from q bytes rest k f) e
 
@@ -58,8 +58,8 @@ later_later : (n : ℕ) (s : Scan) → one_more (later n s) ≡ later (suc n) s
 later_later n (Whole k) = let e : (n + k) + 1 ≡ suc n + k = omega arith in ap Whole e
 later_later n (Open p) = refl
 
-on_after : (o : Option Place) (more : Place → Scan) (longer : Place → Scan) (q : Place) (n : ℕ) (s : Scan)
-    → ((r : Place) → more r ≡ Open q → longer r ≡ later n s)
+on_after : (o : Option HeadScanState) (more : HeadScanState → Scan) (longer : HeadScanState → Scan) (q : HeadScanState) (n : ℕ) (s : Scan)
+    → ((r : HeadScanState) → more r ≡ Open q → longer r ≡ later n s)
     → found_after o more ≡ Open q → found_after o longer ≡ later (suc n) s
 on_after None more longer q n s h e = absurd (cc)
 on_after (Some r) more longer q n s h e = ap one_more (h r (still_open (more r) e)) ∙ later_later n s
@@ -68,7 +68,7 @@ on_after (Some r) more longer q n s h e = ap one_more (h r (still_open (more r) 
     still_open (Whole k) f = absurd (cc)
     still_open (Open p) f = f
 
-on_from : (p q : Place) (bytes rest : List ℕ) → scan_from p bytes ≡ Open q
+on_from : (p q : HeadScanState) (bytes rest : List ℕ) → scan_from p bytes ≡ Open q
     → scan_from p (bytes ++ rest) ≡ later (length bytes) (scan_from q rest)
 on_from p q [] rest e =
     let same : p ≡ q = cc in
@@ -83,7 +83,7 @@ take_in_two a b bytes h =
     ap (λ n. take n bytes) whole ∙ take-add a (b - a) bytes
 
 -- where the bytes before a place end no head, the search goes on from there
-pub scan_from_there : (seen end : ℕ) (bytes : List ℕ) (place : Place) → seen ≤ end → end ≤ length bytes
+pub scan_from_there : (seen end : ℕ) (bytes : List ℕ) (place : HeadScanState) → seen ≤ end → end ≤ length bytes
     → scan (take seen bytes) ≡ Open place
     → scan (take end bytes) ≡ later seen (scan_from place (take (end - seen) (drop seen bytes)))
 unfolding scan
@@ -103,7 +103,7 @@ take_least limit bytes (inr h) =
     ap (λ n. take n bytes) e
 
 -- what is found further on, within a limit, counts from the start
-pub scan_go_on : (seen end limit : ℕ) (bytes : List ℕ) (place : Place) (found : Scan)
+pub scan_go_on : (seen end limit : ℕ) (bytes : List ℕ) (place : HeadScanState) (found : Scan)
     → seen ≤ end → end ≡ min (length bytes) limit → scan (take seen bytes) ≡ Open place
     → found ≡ scan_from place (take (end - seen) (drop seen bytes)) → later seen found ≡ scan (take limit bytes)
 scan_go_on seen end limit bytes place found low e led f =
@@ -129,7 +129,7 @@ scan_take_within limit bytes n e =
     omega (arith, length-take limit bytes)
 
 -- an open head that isn't longer than the limit
-pub scan_take_open : (items new : List ℕ) (p : Place) → new ≡ items → length items < 16384 → scan (take 16384 items) ≡ Open p → (length new < 16384) × (scan new ≡ Open p)
+pub scan_take_open : (items new : List ℕ) (p : HeadScanState) → new ≡ items → length items < 16384 → scan (take 16384 items) ≡ Open p → (length new < 16384) × (scan new ≡ Open p)
 scan_take_open items new p e h f =
     let short : length items ≤ 16384 = omega arith in
     (rw e h, ap scan (e ∙ sym (take_all 16384 items short)) ∙ f)

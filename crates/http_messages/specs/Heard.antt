@@ -2,9 +2,9 @@
 use Rattle.std.specs.Prelude.{◌≤◌, length}
 use Rattle.httparse.specs.Spans.{span_bytes, IsWithin}
 use Rattle.isad_core.specs.Texts.{Bytes}
-use Rattle.http_messages.specs.declared.judging.Head.{Head}
-use Rattle.http_messages.specs.declared.judging.Judged.{Judged}
-use Rattle.http_messages.specs.declared.judging.Judged.TheVariants as judged
+use Rattle.http_messages.specs.declared.head_verdict.Head.{Head}
+use Rattle.http_messages.specs.declared.head_verdict.Judged.{Judged}
+use Rattle.http_messages.specs.declared.head_verdict.Judged.TheVariants as judged
 use Rattle.http_messages.specs.Heads.{Request, Verdict, Refused, Accepted, longest_body, body_length}
 
 abbrev pub request_in : Bytes → Head → Request

@@ -8,8 +8,8 @@ use Rattle.isad_core.specs.Texts.{Bytes}
 use Rattle.isad_core.specs.Days.{day_of}
 use Rattle.office_core.specs.declared.command.Command.{Command}
 use Rattle.office_core.specs.declared.command.Command.TheVariants as command
-use Rattle.http_messages.specs.declared.form.Form.{Form}
-use Rattle.http_messages.specs.declared.form.Form.TheVariants as form
+use Rattle.http_messages.specs.declared.body_form.Form.{Form}
+use Rattle.http_messages.specs.declared.body_form.Form.TheVariants as form
 
 -- the value of a text in UTF-8. Of a member that stands twice the last one is kept.
 abbrev pub value_of : Bytes → Option Data

@@ -1,7 +1,7 @@
 -- The answers that the code holds.
 use Rattle.std.specs.Prelude.{true, false, None}
-use Rattle.http_messages.specs.declared.answered.Answered.{Answered}
-use Rattle.http_messages.specs.declared.answered.Answered.TheVariants as held
+use Rattle.http_messages.specs.declared.answers.Answered.{Answered}
+use Rattle.http_messages.specs.declared.answers.Answered.TheVariants as held
 use Rattle.http_messages.specs.declared.status.Status.TheVariants.{Fine, Conflict}
 use Rattle.http_messages.specs.Answers.{Answer, error, not_allowed}
 use Rattle.http_messages.specs.Routes.{method_name}

@@ -9,8 +9,8 @@ use Rattle.office_core.specs.declared.command.Command.{Command}
 use Rattle.office_core.specs.declared.command.Command.TheVariants as command
 use Rattle.office_core.specs.declared.query.Query.{Query}
 use Rattle.office_core.specs.declared.query.Query.TheVariants as query
-use Rattle.http_messages.specs.declared.form.Form.{Form}
-use Rattle.http_messages.specs.declared.form.Form.TheVariants as form
+use Rattle.http_messages.specs.declared.body_form.Form.{Form}
+use Rattle.http_messages.specs.declared.body_form.Form.TheVariants as form
 
 -- what a path leads to
 pub data Route : Type 0 where

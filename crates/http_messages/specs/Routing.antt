@@ -8,16 +8,16 @@ use Rattle.matchit.specs.declared.error.InsertError.{InsertError}
 use Rattle.isad_core.specs.Texts.{Bytes}
 use Rattle.office_core.specs.declared.command.Command.TheVariants as command
 use Rattle.office_core.specs.declared.query.Query.TheVariants as query
-use Rattle.http_messages.specs.declared.routing.Route.{Route}
-use Rattle.http_messages.specs.declared.routing.Route.TheVariants as held
-use Rattle.http_messages.specs.declared.routing.Plain.{Plain}
-use Rattle.http_messages.specs.declared.routing.Plain.TheVariants as plains
-use Rattle.http_messages.specs.declared.routing.Ending.{Ending}
-use Rattle.http_messages.specs.declared.routing.Ending.TheVariants as endings
-use Rattle.http_messages.specs.declared.routing.Leads.{Leads}
-use Rattle.http_messages.specs.declared.routing.Leads.TheVariants as leads
-use Rattle.http_messages.specs.declared.routing.Pattern.{Pattern}
-use Rattle.http_messages.specs.declared.form.Form.TheVariants as form
+use Rattle.http_messages.specs.declared.routes.Route.{Route}
+use Rattle.http_messages.specs.declared.routes.Route.TheVariants as held
+use Rattle.http_messages.specs.declared.routes.Plain.{Plain}
+use Rattle.http_messages.specs.declared.routes.Plain.TheVariants as plains
+use Rattle.http_messages.specs.declared.routes.Ending.{Ending}
+use Rattle.http_messages.specs.declared.routes.Ending.TheVariants as endings
+use Rattle.http_messages.specs.declared.routes.Leads.{Leads}
+use Rattle.http_messages.specs.declared.routes.Leads.TheVariants as leads
+use Rattle.http_messages.specs.declared.routes.Pattern.{Pattern}
+use Rattle.http_messages.specs.declared.body_form.Form.TheVariants as form
 use Rattle.http_messages.specs.Routes as routes
 
 abbrev pub route_in : Route → routes.Route

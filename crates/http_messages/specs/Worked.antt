@@ -3,7 +3,7 @@ use Rattle.std.specs.Prelude.{◌≡◌, ℕ, Bool, true, false, List, [], ◌�
 use Rattle.isad_core.specs.Texts.{Bytes}
 use Rattle.office_core.specs.declared.command.Command.TheVariants.{Order, Move, SetStatus}
 use Rattle.http_messages.specs.declared.status.Status.TheVariants.{BadRequest, TooLarge, NotImplemented}
-use Rattle.http_messages.specs.declared.form.Form.TheVariants as form
+use Rattle.http_messages.specs.declared.body_form.Form.TheVariants as form
 use Rattle.http_messages.specs.Heads.{Verdict, Refused, Accepted, Field, weigh}
 use Rattle.http_messages.specs.Targets.{path_of}
 use Rattle.http_messages.specs.Members.{command_in}

@@ -2,12 +2,12 @@
 //! what a path leads to, what a body says, and the bytes of an answer.
 #![tactic(auto)]
 
-pub mod answered;
-pub mod ending;
-pub mod form;
-pub mod judging;
+pub mod answers;
+pub mod body_form;
+pub mod head_scan;
+pub mod head_verdict;
 pub mod members;
-pub mod routing;
+pub mod routes;
 pub mod status;
 pub mod targets;
 pub mod worked;

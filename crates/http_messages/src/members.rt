@@ -2,9 +2,9 @@
 ghost use Rattle.std.specs.Prelude.{◌≡◌, IfOk, option_map, Some};
 ghost use Rattle.serde_json.specs.View.{view};
 ghost use Rattle.http_messages.specs.Members as spec;
-ghost use Rattle.http_messages.specs.declared.form.Form.TheVariants as form_cases;
+ghost use Rattle.http_messages.specs.declared.body_form.Form.TheVariants as form_cases;
 
-use crate::form::Form;
+use crate::body_form::Form;
 use isad_core::{Day, Text};
 use office_core::Command;
 use serde_json::Value;

@@ -6,10 +6,10 @@ use Rattle.isad_core.specs.Texts.{Bytes, is_blank_text, one_line}
 use Rattle.isad_core.specs.Days.{day_text}
 use Rattle.isad_core.specs.Elements.{name_of, number_of}
 use Rattle.isad_core.specs.declared.element.Element.{Element}
-use Rattle.isad_core.specs.declared.shown.Shown.{Shown}
-use Rattle.isad_core.specs.declared.shown.Body.{Body}
-use Rattle.isad_core.specs.declared.shown.Body.TheVariants.{Full, Closed}
-use Rattle.isad_core.specs.declared.shown.Page.{Page}
+use Rattle.isad_core.specs.declared.display.Shown.{Shown}
+use Rattle.isad_core.specs.declared.display.Body.{Body}
+use Rattle.isad_core.specs.declared.display.Body.TheVariants.{Full, Closed}
+use Rattle.isad_core.specs.declared.display.Page.{Page}
 
 abbrev pub line : Bytes → Bytes
 line text = text ++ 10 ∷ []

@@ -1,7 +1,7 @@
 -- A fonds and its series, worked by hand.
 use Rattle.std.specs.Prelude.{[], codes, pos}
-use Rattle.isad_core.specs.declared.shown.Shown.{Shown}
-use Rattle.isad_core.specs.declared.shown.Body.TheVariants.{Full, Closed}
+use Rattle.isad_core.specs.declared.display.Shown.{Shown}
+use Rattle.isad_core.specs.declared.display.Body.TheVariants.{Full, Closed}
 
 abbrev pub fonds : Shown
 fonds = record { depth = 0; code = codes "GB 0999 HUL"; level = codes "Fonds"; title = codes "Hull Dock Company"; body = Full [] [] }

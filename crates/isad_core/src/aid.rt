@@ -4,9 +4,9 @@ ghost use Rattle.std.specs.List.{flat_map};
 ghost use Rattle.isad_core.specs.Printed.{aid, body_lines, full_lines, unit_lines};
 ghost use Rattle.isad_core.specs.Printed.{container_text, element_text, indent, line};
 
+use crate::display::{Body, Shown};
 use crate::element::Element;
 use crate::print::{end_line, push_container, push_element, push_head_line, push_indent};
-use crate::shown::{Body, Shown};
 use crate::text::Text;
 use std::alloc::{AllocError, Global};
 

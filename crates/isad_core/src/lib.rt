@@ -4,24 +4,24 @@
 mod aid;
 mod code;
 mod day;
+mod display;
 mod element;
 pub mod laws;
 mod level;
 mod list;
 mod page;
 mod print;
-mod shown;
 mod text;
 mod values;
 
 pub use aid::aid_text;
 pub use code::join_code;
 pub use day::Day;
+pub use display::{Body, Page, Shown};
 pub use element::Element;
 pub use level::rank;
 pub use list::List;
 pub use page::{list_text, page_text};
 pub use print::one_line;
-pub use shown::{Body, Page, Shown};
 pub use text::{Text, is_blank};
 pub use values::{BoxKey, LINE_ELEMENTS, Values};

@@ -4,12 +4,12 @@ ghost use Rattle.std.specs.List.{flat_map};
 ghost use Rattle.isad_core.specs.Printed.{container_text, head_line, indent, line, origin, page};
 ghost use Rattle.isad_core.specs.Printed.{found_container, found_element, numbered_line, unit_below};
 
+use crate::display::{Page, Shown};
 use crate::element::Element;
 use crate::print::{
     end_line, push, push_container, push_element, push_head_line, push_indent, push_number,
     push_origin,
 };
-use crate::shown::{Page, Shown};
 use crate::text::Text;
 use std::alloc::{AllocError, Global};
 

@@ -6,8 +6,8 @@ ghost use Rattle.isad_core.specs.Texts.{spaced};
 ghost use Rattle.isad_core.specs.Texts as spec;
 
 use crate::day::Day;
+use crate::display::{Body, Shown};
 use crate::element::Element;
-use crate::shown::{Body, Shown};
 use crate::text::{Text, is_blank};
 use itoa::Buffer;
 use std::alloc::{AllocError, Global};

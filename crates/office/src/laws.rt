@@ -1,8 +1,12 @@
-//! Laws of the machine, and of what rows say.
+//! What holds of an office over its tables, call after call. The function does nothing: its contract is the law.
+
+ghost use Rattle.std.specs.Prelude.{List};
+ghost use Rattle.office.specs.Runs.{AreCalls, Call, IsMachinesRun};
 
 pub use catalogue_core::laws::{
     numbers_are_places, open_by_marks, pages_tell_the_housing, told_where_not_withheld,
 };
+use office_core::Machine;
 pub use office_core::laws::{
     all_that_is_published_is_shown, answered_from_the_published, days_stay_days, desk_stays_sound,
     given_in_order, imports_again, imports_bring_the_new, imports_keep_the_catalogue,
@@ -16,13 +20,19 @@ pub use office_core::laws_of_runs::{
 pub use office_core::laws_of_texts::{
     new_offices_are_sound, offices_stay_sound, sound_offices_are_kept, texts_stay_texts,
 };
-pub use office_rows::laws::{
+pub use state_encoding::laws::{
     catalogue_has_no_cause, cells_have_no_cause, cells_without_a_cause, links_say_the_forest,
     one_row_changes, rows_read_back, rows_say_the_catalogue, rows_without_a_cause,
     spans_say_the_forest, tables_have_no_cause, tables_say_the_state, texts_are_utf8,
 };
-pub use office_rows::laws_of_offices::{
+pub use state_encoding::laws_of_offices::{
     sound_desks_are_legible, sound_offices_are_read, sound_offices_are_told, states_are_shown,
     versions_differ_in_places,
 };
-pub use running_office::laws::calls_are_the_machines_run;
+
+/// Over any list of calls, whatever was busy among them, the office runs as the machine does: it tells what the machine
+/// tells over what was asked while it was not busy, and is then in the machine's state.
+pub fn calls_are_the_machines_run<M: Machine>()
+    ensures { (calls : List Call) (old new : M) → AreCalls M.represents M.is_intact old new calls
+        → IsMachinesRun M.represents M.is_intact old new calls }
+{}

@@ -1,12 +1,25 @@
-//! One command, one transaction, one step; and what a file would show.
+//! An office over its tables: one command, one transaction, one step; and what a file would show.
 #![tactic(auto)]
 
+mod commands;
+mod faults;
+mod inspection;
 pub mod laws;
+mod machine;
+mod migration;
+mod names;
+mod new_office;
+mod office_row;
+mod offices;
+mod queries;
+mod settings;
+mod transactions;
 pub mod worked;
 
+pub use faults::OpenFault;
 pub use finding_aids::preview;
+pub use migration::migrate;
 pub use office_core::{Answer, Busy, Command, Done, Machine, Query, Refusal, Remark, Reply};
-pub use office_rows::desk_judged;
-pub use running_office::{
-    Office, OpenFault, Settings, SettingsFault, is_country, is_repository, migrate,
-};
+pub use offices::Office;
+pub use settings::{Settings, SettingsFault, is_country, is_repository};
+pub use state_encoding::desk_consistency;

@@ -3,7 +3,7 @@ use Rattle.std.proofs.Common.{◌≡◌, ℕ, cond, List, [], ◌∷◌, ◌++�
 use Rattle.std.specs.Prelude.{decimal}
 use Rattle.std.specs.List.{flat_map}
 use Rattle.isad_core.specs.Printed.{aid, head_line, line}
-use Rattle.isad_core.specs.declared.shown.Shown.{Shown}
+use Rattle.isad_core.specs.declared.display.Shown.{Shown}
 use Rattle.isad_core.specs.declared.values.BoxKey.{BoxKey}
 use Rattle.tree_core.specs.Forest.{Forest, nodes, has, path, tree}
 use Rattle.catalogue_core.specs.Publishing.{PublicUnit}

@@ -104,7 +104,6 @@ same_z d e h = grind (arith, Decides-int_eq d e)
 -- Order
 
 module _ (s : State) (t c : ℕ) (f : AreFiled s) (g : AreGoodOrders s) where
-
   n : ℕ
   n = suc (length s.orders)
 

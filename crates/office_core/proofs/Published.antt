@@ -6,8 +6,8 @@ use Rattle.std.proofs.lemmas.Bool.{cases_Bool, eqb-true}
 use Rattle.std.proofs.lemmas.List.{map-append}
 use Rattle.isad_core.specs.Texts.{Bytes}
 use Rattle.isad_core.specs.Printed.{aid as aid_text, page as page_text}
-use Rattle.isad_core.specs.declared.shown.Page.{Page}
-use Rattle.isad_core.specs.declared.shown.Shown.{Shown}
+use Rattle.isad_core.specs.declared.display.Page.{Page}
+use Rattle.isad_core.specs.declared.display.Shown.{Shown}
 use Rattle.desk_core.specs.declared.refusal.Refusal.TheVariants.{UnknownUnit}
 use Rattle.tree_core.specs.Forest.{Forest, Empty, Node, has, path, tree}
 use Rattle.catalogue_core.specs.Aids.{identifier_of, shown_unit, shown_below}

@@ -5,7 +5,7 @@ use Rattle.serde_json.specs.Written.{compact_text}
 use Rattle.isad_core.specs.Texts.{Bytes}
 use Rattle.isad_core.specs.Printed.{page}
 use Rattle.isad_core.specs.declared.values.BoxKey.{BoxKey}
-use Rattle.isad_core.specs.declared.shown.Page.{Page}
+use Rattle.isad_core.specs.declared.display.Page.{Page}
 use Rattle.tree_core.specs.Forest.{Forest, has}
 use Rattle.desk_core.specs.Slips.{slip}
 use Rattle.desk_core.specs.declared.run.Candidate.{Candidate}

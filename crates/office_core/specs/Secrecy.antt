@@ -5,8 +5,8 @@ use Rattle.isad_core.specs.Texts.{Bytes}
 use Rattle.isad_core.specs.Printed.{aid as aid_text, page as page_text}
 use Rattle.isad_core.specs.Values.{text_of}
 use Rattle.isad_core.specs.declared.element.Element.TheVariants.{ReferenceCode}
-use Rattle.isad_core.specs.declared.shown.Page.{Page}
-use Rattle.isad_core.specs.declared.shown.Shown.{Shown}
+use Rattle.isad_core.specs.declared.display.Page.{Page}
+use Rattle.isad_core.specs.declared.display.Shown.{Shown}
 use Rattle.isad_core.specs.declared.values.Values.{Values}
 use Rattle.tree_core.specs.Forest.{Forest, nodes, each, has, path}
 use Rattle.tree_core.specs.Withheld.{public}

@@ -30,7 +30,7 @@ pub enum Busy {
 /// An office.
 pub trait Machine {
     /// What is kept shows that state, which is sound.
-    ghost shows: { Self → State → Type 0 };
+    ghost represents: { Self → State → Type 0 };
 
     /// The store has returned what was written to it so far.
     ghost is_intact: { Self → Type 0 };
@@ -38,15 +38,15 @@ pub trait Machine {
     /// Carries out one command.
     fn apply(&mut self, alloc: Global, command: Command) -> Result<Reply, Busy>
         ensures intact { is_intact self.new → is_intact self.old }
-        ensures step { IfOk result (λ reply. is_intact self.new → (s : State) → shows self.old s →
-            shows self.new (step s command).0 × (reply.done ≡ (step s command).1)
+        ensures step { IfOk result (λ reply. is_intact self.new → (s : State) → represents self.old s →
+            represents self.new (step s command).0 × (reply.done ≡ (step s command).1)
             × (reply.json ≡ reply_text (step s command).1)) }
-        ensures busy { OnErr result (is_intact self.new → (s : State) → shows self.old s → shows self.new s) };
+        ensures busy { OnErr result (is_intact self.new → (s : State) → represents self.old s → represents self.new s) };
 
     /// Answers one question.
     fn ask(&mut self, alloc: Global, query: Query) -> Result<Answer, Busy>
         ensures intact { is_intact self.new → is_intact self.old }
-        ensures answer { IfOk result (λ told. is_intact self.new → (s : State) → shows self.old s →
-            shows self.new s × (told ≡ answer s query)) }
-        ensures busy { OnErr result (is_intact self.new → (s : State) → shows self.old s → shows self.new s) };
+        ensures answer { IfOk result (λ told. is_intact self.new → (s : State) → represents self.old s →
+            represents self.new s × (told ≡ answer s query)) }
+        ensures busy { OnErr result (is_intact self.new → (s : State) → represents self.old s → represents self.new s) };
 }

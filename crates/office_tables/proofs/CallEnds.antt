@@ -5,9 +5,9 @@ use Rattle.sqlite_trees.specs.declared.store.Store as store
 use Rattle.sqlite.specs.Effect.{Database}
 use Rattle.sqlite.specs.Held.{Held, state}
 use Rattle.sqlite.specs.State.{State, HasCleanDisk}
-use Rattle.office_tables.specs.Calls.{Makes, Tells}
-use Rattle.office_tables.specs.Faults.{IsUnlimited, HasCause, Excused, BlamesDisk}
-use Rattle.office_tables.specs.Step.{Continues, IsCut, Goes, Looks}
+use Rattle.office_tables.specs.Calls.{Updates, Answers}
+use Rattle.office_tables.specs.Faults.{IsUnlimited, HasCause, FaultsHaveCause, BlamesDisk}
+use Rattle.office_tables.specs.Step.{Continues, IsAborted, Goes, LeavesUnchanged}
 use Rattle.office_tables.specs.declared.fault.StoreFault.{StoreFault}
 use Rattle.office_tables.specs.declared.fault.StoreFault.TheVariants as fault
 use Rattle.office_tables.proofs.Causes.{still_unlimited}
@@ -31,10 +31,10 @@ by_memory a b (Ok x) h = tt
 by_memory a b (Err e) h = subst (HasCause a b) (sym h) tt
 
 -- its last step fails, after others that succeeded
-pub excused_then : {X : Type 0} (a b c : State) → Continues a b → (r : Result X StoreFault) → OnErr r (IsCut b c) → (HasCleanDisk b → Excused b c r) → Excused a c r
+pub excused_then : {X : Type 0} (a b c : State) → Continues a b → (r : Result X StoreFault) → OnErr r (IsAborted b c) → (HasCleanDisk b → FaultsHaveCause b c r) → FaultsHaveCause a c r
 excused_then a b c on r cut why clean free = last_cause a b c on r cut clean (λ before. why before clean (still_unlimited a b on free))
 
-module _ {S X Stays Model : Type 0} (g : store.Ghosts S) (shows : Database → Stays → Model → Type 0) (kept : Model → Type 0) (may : Model → Type 0) (before after : Held S) (r : Result X StoreFault) where
+module _ {S X Stays Model : Type 0} (g : store.Ghosts S) (represents : Database → Stays → Model → Type 0) (kept : Model → Type 0) (may : Model → Type 0) (before after : Held S) (r : Result X StoreFault) where
   abbrev old : State
   old = state g before
 
@@ -42,17 +42,17 @@ module _ {S X Stays Model : Type 0} (g : store.Ghosts S) (shows : Database → S
   new = state g after
 
   -- it ends with a fault
-  pub tells_not : (answer : Stays → Model → X → Type 0) (e : StoreFault) → r ≡ Err e → IsCut old new
-      → ((s : Stays) (m : Model) → shows old.now s m → may m → kept m → HasCleanDisk new → IsUnlimited old → HasCause old new e) → Tells g shows kept before after r may answer
+  pub tells_not : (answer : Stays → Model → X → Type 0) (e : StoreFault) → r ≡ Err e → IsAborted old new
+      → ((s : Stays) (m : Model) → represents old.now s m → may m → kept m → HasCleanDisk new → IsUnlimited old → HasCause old new e) → Answers g represents kept before after r may answer
   tells_not answer e is cut why =
-      subst (λ (r : Result X StoreFault). Tells g shows kept before after r may answer) (sym is)
+      subst (λ (r : Result X StoreFault). Answers g represents kept before after r may answer) (sym is)
       (record { answers = λ clean s m shown. tt; looks = tt; cut = cut; faults = λ s m shown may kept clean free. why s m shown may kept clean free })
 
-  pub makes_not : (made : Model → Model) (touched : List ℕ) (e : StoreFault) → r ≡ Err e → IsCut old new
-      → ((s : Stays) (m : Model) → shows old.now s m → may m → kept m → HasCleanDisk new → IsUnlimited old → HasCause old new e) → Makes g shows kept before after r may made touched
+  pub makes_not : (made : Model → Model) (touched : List ℕ) (e : StoreFault) → r ≡ Err e → IsAborted old new
+      → ((s : Stays) (m : Model) → represents old.now s m → may m → kept m → HasCleanDisk new → IsUnlimited old → HasCause old new e) → Updates g represents kept before after r may made touched
   makes_not made touched e is cut why =
-      subst (λ (r : Result X StoreFault). Makes g shows kept before after r may made touched) (sym is)
-      (record { shows_made = λ clean s m shown may. tt; only = λ clean. tt; goes = tt; cut = cut; faults = λ s m shown may kept clean free. why s m shown may kept clean free })
+      subst (λ (r : Result X StoreFault). Updates g represents kept before after r may made touched) (sym is)
+      (record { represents_updated = λ clean s m shown may. tt; only = λ clean. tt; goes = tt; cut = cut; faults = λ s m shown may kept clean free. why s m shown may kept clean free })
 
 -- ---- a call of several steps that writes
 
@@ -73,20 +73,20 @@ left_fault {X} a b c went r e is last =
 -- ---- a call that makes tables
 
 -- it ends with a fault
-pub making_not : {X : Type 0} (a b : State) (r : Result X StoreFault) (e : StoreFault) → r ≡ Err e → IsCut a b → (HasCleanDisk b → BlamesDisk a b e) → (HasCleanDisk b → IsUnlimited a → HasCause a b e) → LeavesMaking a b r
+pub making_not : {X : Type 0} (a b : State) (r : Result X StoreFault) (e : StoreFault) → r ≡ Err e → IsAborted a b → (HasCleanDisk b → BlamesDisk a b e) → (HasCleanDisk b → IsUnlimited a → HasCause a b e) → LeavesMaking a b r
 making_not {X} a b r e is cut blames why = subst (LeavesMaking {X = X} a b) (sym is) (record { goes = tt; cut = cut; disk = blames; faults = why })
 
 -- after steps that succeeded
-pub making_then : {X : Type 0} (a b c : State) → Continues a b → (r : Result X StoreFault) (e : StoreFault) → r ≡ Err e → IsCut b c → (HasCleanDisk c → BlamesDisk b c e) → (HasCleanDisk c → IsUnlimited b → HasCause b c e) → LeavesMaking a c r
+pub making_then : {X : Type 0} (a b c : State) → Continues a b → (r : Result X StoreFault) (e : StoreFault) → r ≡ Err e → IsAborted b c → (HasCleanDisk c → BlamesDisk b c e) → (HasCleanDisk c → IsUnlimited b → HasCause b c e) → LeavesMaking a c r
 making_then a b c on r e is cut blames why =
     making_not a c r e is (cut_then a b c on cut) (λ clean. disk_then a b c on (early b c _ cut.crash clean) e (blames clean))
     (λ clean free. next_cause a b c on cut clean e (λ _. why clean (still_unlimited a b on free)))
 
 -- its last step, whose result is the call's
-pub making_last : {X : Type 0} (a b c : State) → Continues a b → (r : Result X StoreFault) → OnOk r (Continues b c) → OnErr r (IsCut b c) → (HasCleanDisk c → IfErr r (BlamesDisk b c)) → (HasCleanDisk b → Excused b c r) → LeavesMaking a c r
+pub making_last : {X : Type 0} (a b c : State) → Continues a b → (r : Result X StoreFault) → OnOk r (Continues b c) → OnErr r (IsAborted b c) → (HasCleanDisk c → IfErr r (BlamesDisk b c)) → (HasCleanDisk b → FaultsHaveCause b c r) → LeavesMaking a c r
 making_last a b c on r goes cut blames why = record {
   goes = on_ok_then r (Continues b c) (Continues a c) (continues_then a b c on) goes;
-  cut = on_err_then r (IsCut b c) (IsCut a c) (cut_then a b c on) cut;
+  cut = on_err_then r (IsAborted b c) (IsAborted a c) (cut_then a b c on) cut;
   disk = λ clean. last_disk a b c on r cut clean (blames clean);
   faults = excused_then a b c on r cut why;
 }
@@ -94,12 +94,12 @@ making_last a b c on r goes cut blames why = record {
 -- ---- a call that reads
 
 -- all its steps read, whatever it makes of what they told
-pub read_only : {X : Type 0} (a b : State) (r : Result X StoreFault) → Looks a b → Reads a b r
+pub read_only : {X : Type 0} (a b : State) (r : Result X StoreFault) → LeavesUnchanged a b → Reads a b r
 read_only a b (Ok x) looked = record { crash = looked.goes.on.crash; looks = looked; cut = tt }
 read_only a b (Err e) looked = record { crash = looked.goes.on.crash; looks = tt; cut = cut_after a b looked.goes.on }
 
 -- it ends with a fault
-pub read_not : {X : Type 0} (a b : State) (r : Result X StoreFault) (e : StoreFault) → r ≡ Err e → IsCut a b → Reads a b r
+pub read_not : {X : Type 0} (a b : State) (r : Result X StoreFault) (e : StoreFault) → r ≡ Err e → IsAborted a b → Reads a b r
 read_not a b r e is cut = subst (Reads a b) (sym is) (record { crash = cut.crash; looks = tt; cut = cut })
 
 -- ---- a call that writes
@@ -111,7 +111,7 @@ leaves_last a b c (Err e) went last = left_fault a b c went (Err e) e refl last
 
 -- ---- a call on tables that show a model, of which a later step fails
 
-module _ {S X Stays Model : Type 0} (g : store.Ghosts S) (shows : Database → Stays → Model → Type 0) (kept may : Model → Type 0) (before mid after : Held S) (r : Result X StoreFault) where
+module _ {S X Stays Model : Type 0} (g : store.Ghosts S) (represents : Database → Stays → Model → Type 0) (kept may : Model → Type 0) (before mid after : Held S) (r : Result X StoreFault) where
   abbrev a : State
   a = state g before
 
@@ -123,13 +123,13 @@ module _ {S X Stays Model : Type 0} (g : store.Ghosts S) (shows : Database → S
 
   -- why it fails
   abbrev Why : StoreFault → Type 0
-  Why e = (s : Stays) (m : Model) → shows a.now s m → may m → kept m → HasCleanDisk b → HasCleanDisk c → IsUnlimited b → HasCause b c e
+  Why e = (s : Stays) (m : Model) → represents a.now s m → may m → kept m → HasCleanDisk b → HasCleanDisk c → IsUnlimited b → HasCause b c e
 
-  then_caused : (e : StoreFault) → Continues a b → IsCut b c → Why e → (s : Stays) (m : Model) → shows a.now s m → may m → kept m → HasCleanDisk c → IsUnlimited a → HasCause a c e
+  then_caused : (e : StoreFault) → Continues a b → IsAborted b c → Why e → (s : Stays) (m : Model) → represents a.now s m → may m → kept m → HasCleanDisk c → IsUnlimited a → HasCause a c e
   then_caused e on cut why s m shown allowed within clean free = next_cause a b c on cut clean e (λ cleaner. why s m shown allowed within cleaner clean (still_unlimited a b on free))
 
-  pub tells_cut : (answer : Stays → Model → X → Type 0) (e : StoreFault) → r ≡ Err e → Looks a b → IsCut b c → Why e → Tells g shows kept before after r may answer
-  tells_cut answer e is looked cut why = tells_not g shows kept may before after r answer e is (cut_then a b c looked.goes.on cut) (then_caused e looked.goes.on cut why)
+  pub tells_cut : (answer : Stays → Model → X → Type 0) (e : StoreFault) → r ≡ Err e → LeavesUnchanged a b → IsAborted b c → Why e → Answers g represents kept before after r may answer
+  tells_cut answer e is looked cut why = tells_not g represents kept may before after r answer e is (cut_then a b c looked.goes.on cut) (then_caused e looked.goes.on cut why)
 
-  pub makes_cut : (made : Model → Model) (touched : List ℕ) (e : StoreFault) → r ≡ Err e → Continues a b → IsCut b c → Why e → Makes g shows kept before after r may made touched
-  makes_cut made touched e is on cut why = makes_not g shows kept may before after r made touched e is (cut_then a b c on cut) (then_caused e on cut why)
+  pub makes_cut : (made : Model → Model) (touched : List ℕ) (e : StoreFault) → r ≡ Err e → Continues a b → IsAborted b c → Why e → Updates g represents kept before after r may made touched
+  makes_cut made touched e is on cut why = makes_not g represents kept may before after r made touched e is (cut_then a b c on cut) (then_caused e on cut why)

@@ -12,7 +12,7 @@ use Rattle.sqlite.proofs.Callers.{IsPlain, command_of, statement_of, never_commi
 use Rattle.sqlite.proofs.StateLemmas.{survives_weaker, survives_then}
 use Rattle.tree_core.specs.Versions.{Version}
 use Rattle.office_tables.specs.Schema.{schema}
-use Rattle.office_tables.specs.Step.{InTransaction, InOffice, GoesOn, IsBack, Continues, Goes, IsCut, Looks}
+use Rattle.office_tables.specs.Step.{InTransaction, InOffice, GoesOn, IsBack, Continues, Goes, IsAborted, LeavesUnchanged}
 use Rattle.office_tables.specs.Transactions.{IsStopped}
 use Rattle.office_tables.proofs.Errors.{stops, fails, keeps}
 
@@ -49,20 +49,20 @@ goes_then a b c p q = record {
   schema = λ clean. q.schema clean ∙ p.schema (early b c _ q.on.crash clean);
 }
 
-pub cut_then : (a b c : State) → Continues a b → IsCut b c → IsCut a c
+pub cut_then : (a b c : State) → Continues a b → IsAborted b c → IsAborted a c
 cut_then a b c p q = record {
   crash = crash_then a b c p.crash q.crash;
   cut = λ clean. cut_on a b c (p.within (early b c _ q.crash clean)) (q.cut clean);
 }
 
 -- a step that succeeded, of a call that then fails
-pub cut_after : (a b : State) → Continues a b → IsCut a b
+pub cut_after : (a b : State) → Continues a b → IsAborted a b
 cut_after a b p = record { crash = p.crash; cut = λ clean. inl (p.within clean) }
 
 pub still : (version : Version) (a b : State) → InTransaction version a → Goes a b → InTransaction version b
 still version a b inside p clean = (p.schema clean ∙ (inside (early a b _ p.on.crash clean)).0, (p.on.within clean).is_inside)
 
-pub looks_then : (a b c : State) → Looks a b → Looks b c → Looks a c
+pub looks_then : (a b c : State) → LeavesUnchanged a b → LeavesUnchanged b c → LeavesUnchanged a c
 looks_then a b c p q = record { goes = goes_then a b c p.goes q.goes; same = λ clean. q.same clean ∙ p.same (early b c _ q.goes.on.crash clean) }
 
 -- no step at all
@@ -143,7 +143,7 @@ module _ (sql : List ℕ) (params : Row) (old new : State) (command : Command) (
   write_crash s = survives_weaker old new (CommitsBy sql params old) (λ _. ⊥)
       (λ clean db h. let it = known (early old new _ s clean) in never it.inside (alone command _ db writes (commits_as it db h))) s
 
-  pub write_cut : (e : Error) → (HasCleanDisk new → Executes sql params old new (Err e)) → Survives old new (CommitsBy sql params old) → IsCut old new
+  pub write_cut : (e : Error) → (HasCleanDisk new → Executes sql params old new (Err e)) → Survives old new (CommitsBy sql params old) → IsAborted old new
   write_cut e runs s = record { crash = write_crash s; cut = λ clean. stopped old new (known (early old new _ s clean)).inside (stops sql params old new e (runs clean)) }
 
   pub write_continues : (HasCleanDisk new → Shows old new new.now (if old.in_transaction then old.committed else new.now) old.in_transaction) → Survives old new (CommitsBy sql params old) → Continues old new
@@ -155,10 +155,10 @@ module _ (sql : List ℕ) (params : Row) (old new : State) (command : Command) (
   read_crash : Survives old new (CommitsShowing sql params old) → Survives old new (λ _. ⊥)
   read_crash s = survives_weaker old new _ _ (λ clean db h. never_commits sql params old db (known (early old new _ s clean)).plain h) s
 
-  pub read_cut : (e : Error) → (HasCleanDisk new → FailsToQuery sql params old new e) → Survives old new (CommitsShowing sql params old) → IsCut old new
+  pub read_cut : (e : Error) → (HasCleanDisk new → FailsToQuery sql params old new e) → Survives old new (CommitsShowing sql params old) → IsAborted old new
   read_cut e runs s = record { crash = read_crash s; cut = λ clean. stopped old new (known (early old new _ s clean)).inside (fails sql params old new e (runs clean)) }
 
-  pub read_looks : (rows : List Row) → (HasCleanDisk new → Shown sql params old new rows) → Survives old new (CommitsShowing sql params old) → Looks old new
+  pub read_looks : (rows : List Row) → (HasCleanDisk new → Shown sql params old new rows) → Survives old new (CommitsShowing sql params old) → LeavesUnchanged old new
   read_looks rows shown s =
       let same = λ (clean : HasCleanDisk new). keeps sql params old new rows (known (early old new _ s clean)).plain (shown clean) in
       record {
@@ -197,7 +197,7 @@ on_ok_from (Ok x) P p = p
 on_ok_from (Err e) P p = tt
 
 -- what was read cannot be taken over
-pub cut_looks : {X E : Type 0} (r : Result X E) (a b : State) → Looks a b → OnErr r (IsCut a b)
+pub cut_looks : {X E : Type 0} (r : Result X E) (a b : State) → LeavesUnchanged a b → OnErr r (IsAborted a b)
 cut_looks (Ok x) a b p = tt
 cut_looks (Err e) a b p = cut_after a b p.goes.on
 
@@ -205,5 +205,5 @@ pub on_ok_both : {X E : Type 0} (r : Result X E) (P Q R : Type 0) → (P → Q �
 on_ok_both (Ok x) P Q R f p q = f p q
 on_ok_both (Err e) P Q R f p q = tt
 
-pub looks_nowhere : (a : State) → InOffice a → Looks a a
+pub looks_nowhere : (a : State) → InOffice a → LeavesUnchanged a a
 looks_nowhere a inside = record { goes = goes_nowhere a inside; same = λ clean. refl }

@@ -20,7 +20,7 @@ unfolding ExecutesIn IsNotRun
 stops sql params old new e (inl (inl refused)) = inl refused.1
 stops sql params old new e (inl (inr failed)) = inr failed.3
 stops sql params old new e (inr it) = elim (cases_Bool (shows_rows false it.0)) [
-  | inl shows ↦ inl (rw shows at it.2).1
+  | inl represents ↦ inl (rw represents at it.2).1
   | inr runs ↦ ran sql (timed params it.0.formats it.1.now) old new e it.0 (rw runs at it.2)
 ]
 

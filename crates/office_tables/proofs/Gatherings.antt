@@ -12,7 +12,7 @@ use Rattle.office_tables.specs.declared.fault.StoreFault.{StoreFault}
 use Rattle.office_tables.specs.Faults.{fault_of}
 use Rattle.office_tables.specs.Faults as cause
 use Rattle.office_tables.specs.Asking.{IsOurQuery, Reads, Gathers, StopsShort}
-use Rattle.office_tables.specs.Step.{GoesOn, IsBack, Looks, IsCut}
+use Rattle.office_tables.specs.Step.{GoesOn, IsBack, LeavesUnchanged, IsAborted}
 use Rattle.office_tables.proofs.Errors.{fails, keeps}
 use Rattle.office_tables.proofs.Calls.{early, unchanged_on, stopped}
 use Rattle.sqlite.specs.State.{State, HasCleanDisk, Survives, IsUnchanged, IsRolledBack, IsStatement, IsNoStatement, IsNotRun, Shown, ShowsRows, FailsToQuery, FailsToShow, Fails, HasCause}
@@ -81,7 +81,7 @@ module _ (sql : List ℕ) (old new : State) (ours : IsOurQuery sql old) (crash :
   inside : HasCleanDisk new → IsTrue old.in_transaction
   inside clean = (ours.here (early old new _ crash clean)).2
 
-  looked : (HasCleanDisk new → IsUnchanged old new) → Looks old new
+  looked : (HasCleanDisk new → IsUnchanged old new) → LeavesUnchanged old new
   looked same = record {
     goes = record {
       on = record { crash = crash; within = λ clean. unchanged_on old new (inside clean) (same clean) };
@@ -90,7 +90,7 @@ module _ (sql : List ℕ) (old new : State) (ours : IsOurQuery sql old) (crash :
     same = λ clean. (same clean).0.now_is;
   }
 
-  short : (e : StoreFault) → (HasCleanDisk new → StopsShort sql [] old new e) → IsCut old new
+  short : (e : StoreFault) → (HasCleanDisk new → StopsShort sql [] old new e) → IsAborted old new
   short e stops = record { crash = crash; cut = λ clean. at clean (stops clean) }
     where
       at : HasCleanDisk new → StopsShort sql [] old new e → GoesOn old new ⊎ IsBack old new

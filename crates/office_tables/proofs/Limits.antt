@@ -19,7 +19,7 @@ limited_query from filter project order count = record (plain_query from filter 
 module _ (t : ℕ) (where_terms project : List Term) (order : List (Term × Key)) (db : Trees) (params : Row) {A : Type 0} (row : A → Row) (xs : List A) (keep : A → Bool) (show key : A → Row) (cmp : A → A → Ordering)
     (stored : db t ≡ map row xs)
     (keeps : (x : A) → list_all (holds (params ∷ row x ∷ [])) where_terms ≡ keep x)
-    (shows : (x : A) → eval_all project (params ∷ row x ∷ []) ≡ show x)
+    (represents : (x : A) → eval_all project (params ∷ row x ∷ []) ≡ show x)
     (keyed : (x : A) → eval_all (map (λ k. k.0) order) (params ∷ row x ∷ []) ≡ key x)
     (compares : (x y : A) → key_cmp 0 (map (λ k. k.1) order) (key x) (key y) ≡ cmp x y) where
   -- the first records of an order that ORDER BY allows
@@ -28,5 +28,5 @@ module _ (t : ℕ) (where_terms project : List Term) (order : List (Term × Key)
   first_answers count rows a =
       let all : IsAnswer (plain_query (inner t end) where_terms project order) (overlay db []) params (map (λ (o : Output). o.1) a.ordered) =
       record { staged = a.staged; grouped = a.grouped; kept = a.kept; distinct = a.distinct; ordered = a.ordered; same = a.same; sorted = a.sorted; shown = refl } in
-      let got = answers t where_terms project order db params row xs keep show key cmp stored keeps shows keyed compares (map (λ (o : Output). o.1) a.ordered) all in
+      let got = answers t where_terms project order db params row xs keep show key cmp stored keeps represents keyed compares (map (λ (o : Output). o.1) a.ordered) all in
       (got.0, got.1, got.2, a.shown ∙ ap (take count) got.3 ∙ take-map show count got.0)

@@ -45,7 +45,7 @@ module _ (t : ℕ) (where_terms project : List Term) (order : List (Term × Key)
   module _ {A : Type 0} (row : A → Row) (xs : List A) (keep : A → Bool) (show key : A → Row) (cmp : A → A → Ordering)
       (stored : db t ≡ map row xs)
       (keeps : (x : A) → list_all (holds (params ∷ row x ∷ [])) where_terms ≡ keep x)
-      (shows : (x : A) → eval_all project (params ∷ row x ∷ []) ≡ show x)
+      (represents : (x : A) → eval_all project (params ∷ row x ∷ []) ≡ show x)
       (keyed : (x : A) → eval_all (map (λ k. k.0) order) (params ∷ row x ∷ []) ≡ key x)
       (compares : (x y : A) → key_cmp 0 (map (λ k. k.1) order) (key x) (key y) ≡ cmp x y) where
     out : A → Output
@@ -68,7 +68,7 @@ module _ (t : ℕ) (where_terms project : List Term) (order : List (Term × Key)
     answers rows a =
         let staged : a.staged ≡ map (λ x. params ∷ row x ∷ []) (filter keep xs) = a.grouped ∙ found in
         let kept : a.kept ≡ map out (filter keep xs) =
-        a.distinct ∙ ap (map (output q)) staged ∙ map-map (output q) (λ x. params ∷ row x ∷ []) (filter keep xs) ∙ (λ i. map (λ x. (let o : Output = (keyed x i, shows x i) in o)) (filter keep xs)) in
+        a.distinct ∙ ap (map (output q)) staged ∙ map-map (output q) (λ x. params ∷ row x ∷ []) (filter keep xs) ∙ (λ i. map (λ x. (let o : Output = (keyed x i, represents x i) in o)) (filter keep xs)) in
         let back = pull_back out a.kept a.ordered a.same (filter keep xs) kept in
         let ys = back.0 in
         let sorted : IsSorted cmp ys = λ k d low high.
@@ -82,6 +82,6 @@ module _ (t : ℕ) (where_terms project : List Term) (order : List (Term × Key)
 pub chosen : {A : Type 0} (t : ℕ) (where_terms project : List Term) (db : Trees) (params : Row) (row source : A → Row) (xs : List A) (keep : A → Bool) → db t ≡ map row xs
     → ((x : A) → list_all (holds (params ∷ row x ∷ [])) where_terms ≡ keep x) → ((x : A) → eval_all project (params ∷ row x ∷ []) ≡ source x)
     → (rows : List Row) → IsAnswer (plain_query (inner t end) where_terms project []) (overlay db []) params rows → (ys : List A) × IsPermutation (filter keep xs) ys × (rows ≡ map source ys)
-chosen t where_terms project db params row source xs keep stored keeps shows rows answer =
-    let got = answers t where_terms project [] db params row xs keep source (λ _. []) (λ _ _. Equal) stored keeps shows (λ _. refl) (λ _ _. refl) rows answer in
+chosen t where_terms project db params row source xs keep stored keeps represents rows answer =
+    let got = answers t where_terms project [] db params row xs keep source (λ _. []) (λ _ _. Equal) stored keeps represents (λ _. refl) (λ _ _. refl) rows answer in
     (got.0, got.1, got.3)

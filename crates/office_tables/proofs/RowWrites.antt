@@ -15,7 +15,7 @@ use Rattle.office_tables.specs.Changing.{IsOurs, changes_rows, Ran}
 use Rattle.office_tables.specs.Meaning.{Means}
 use Rattle.office_tables.specs.Faults.{fault_of, HasCause, BlamesDisk}
 use Rattle.office_tables.specs.Schema.{Version, schema}
-use Rattle.office_tables.specs.Step.{Goes, IsCut, InOffice, InTransaction}
+use Rattle.office_tables.specs.Step.{Goes, IsAborted, InOffice, InTransaction}
 use Rattle.office_tables.specs.declared.fault.StoreFault.{StoreFault}
 use Rattle.office_tables.proofs.Calls.{early, Knows, known_in, is_write, write_cut, write_continues}
 use Rattle.office_tables.proofs.Steps.{went, same_value}
@@ -61,7 +61,7 @@ module _ (sql : List ℕ) (params : Row) (old new : State) (ours : IsOurs sql ol
         schema = λ clean. let done = wrote clean in keeps_schema old.step_limit (mode_of old) params old.now new.now _ done.tally ours.command ours.changes done.changed;
       }
 
-  pub was_cut : (e : Error) → (HasCleanDisk new → Executes sql params old new (Err e)) → IsCut old new
+  pub was_cut : (e : Error) → (HasCleanDisk new → Executes sql params old new (Err e)) → IsAborted old new
   was_cut e runs = write_cut sql params old new ours.command (is_one ours.command ours.changes) known e runs survives
 
   pub blames : (e : Error) → (HasCleanDisk new → Executes sql params old new (Err e)) → HasCleanDisk new → BlamesDisk old new (fault_of e)

@@ -36,7 +36,7 @@ use Rattle.sqlite.specs.State.{State, HasCleanDisk, shows_rows, ExecutesIn, Exec
 use Rattle.sqlite.specs.State as state
 use Rattle.sqlite.proofs.Callers.{IsPlain, command_of}
 use Rattle.office_tables.specs.Faults.{fault_of, BlamesDisk}
-use Rattle.office_tables.specs.Step.{Continues, IsCut}
+use Rattle.office_tables.specs.Step.{Continues, IsAborted}
 use Rattle.office_tables.specs.declared.fault.StoreFault.{StoreFault}
 use Rattle.office_tables.specs.declared.fault.StoreFault.TheVariants as fault
 use Rattle.office_tables.proofs.Calls.{early, Knows, is_write}
@@ -247,7 +247,7 @@ module _ (sql : List ℕ) (params : Row) (old new : State) (command : Command) (
   write_disk e (inr it) =
       let plain = subst IsPlain it.1.is known.plain in
       elim (cases_Bool (shows_rows false it.0)) [
-        | inl shows ↦ fair old new (fault_of e) (by e ExecuteReturnedResults (let same = (rw shows at it.2).0 in cc) refl)
+        | inl represents ↦ fair old new (fault_of e) (by e ExecuteReturnedResults (let same = (rw represents at it.2).0 in cc) refl)
         | inr runs ↦ ran it.0 (timed params it.0.formats it.1.now) (sym (ap command_of it.1.is) ∙ known.is) plain.0 e (rw runs at it.2)
       ]
 
@@ -258,6 +258,6 @@ disk_then a b c p clean fault.Disk h = cause_then a b c p clean fault.Disk h
 disk_then a b c p clean fault.Schema h = tt
 
 -- the fault of the last step, whose result is the call's
-pub last_disk : {X : Type 0} (a b c : State) → Continues a b → (r : Result X StoreFault) → OnErr r (IsCut b c) → HasCleanDisk c → IfErr r (BlamesDisk b c) → IfErr r (BlamesDisk a c)
+pub last_disk : {X : Type 0} (a b c : State) → Continues a b → (r : Result X StoreFault) → OnErr r (IsAborted b c) → HasCleanDisk c → IfErr r (BlamesDisk b c) → IfErr r (BlamesDisk a c)
 last_disk a b c p (Ok x) cut clean h = tt
 last_disk a b c p (Err e) cut clean h = disk_then a b c p (early b c _ cut.crash clean) e h

@@ -9,7 +9,7 @@ use Rattle.sqlite.specs.declared.types.Value.TheVariants.{Int}
 use Rattle.office_tables.specs.Faults.{fault_of}
 use Rattle.office_tables.specs.Meaning.{Means}
 use Rattle.office_tables.specs.Schema.{Version, schema}
-use Rattle.office_tables.specs.Step.{Looks, IsCut}
+use Rattle.office_tables.specs.Step.{LeavesUnchanged, IsAborted}
 use Rattle.office_tables.specs.declared.fault.StoreFault.{StoreFault}
 use Rattle.office_tables.specs.declared.fault.StoreFault.TheVariants as fault
 
@@ -22,8 +22,8 @@ pub record IsOurQuery (sql : List ℕ) (s : State) : Type 0 where
 -- what a call leaves that reads: nothing is changed, or the transaction is cut
 pub record Reads {X : Type 0} (old new : State) (r : Result X StoreFault) : Type 0 where
   pub crash : Survives old new (λ _. ⊥)
-  pub looks : OnOk r (Looks old new)
-  pub cut : OnErr r (IsCut old new)
+  pub looks : OnOk r (LeavesUnchanged old new)
+  pub cut : OnErr r (IsAborted old new)
 
 -- these are the records of the rows that the query shows
 pub record Finds {A : Type 0} (cells : A → Row) (sql : List ℕ) (params : Row) (old new : State) (found : List A) : Type 0 where

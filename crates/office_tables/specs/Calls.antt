@@ -5,17 +5,17 @@ use Rattle.sqlite.specs.Effect.{Database}
 use Rattle.sqlite.specs.Tree.{Trees}
 use Rattle.sqlite.specs.Held.{Held, state}
 use Rattle.sqlite.specs.State.{State, HasCleanDisk}
-use Rattle.office_tables.specs.Faults.{Excused}
-use Rattle.office_tables.specs.Step.{Goes, IsCut, Looks, OnlyTouches}
+use Rattle.office_tables.specs.Faults.{FaultsHaveCause}
+use Rattle.office_tables.specs.Step.{Goes, IsAborted, LeavesUnchanged, OnlyTouches}
 use Rattle.office_tables.specs.declared.fault.StoreFault.{StoreFault}
 
 -- the rows show the model, beside nothing else
-abbrev pub ShowsAlone : {Model : Type 0} → (Trees → Model → Type 0) → Database → ⊤ → Model → Type 0
-ShowsAlone shows db beside m = shows db.trees m
+abbrev pub RepresentsAlone : {Model : Type 0} → (Trees → Model → Type 0) → Database → ⊤ → Model → Type 0
+RepresentsAlone represents db beside m = represents db.trees m
 
 -- The tables show the model beside what stays, as the settings of the office. Such a model is kept as is within the
 -- bounds of the tables.
-module _ {S X Stays Model : Type 0} (g : store.Ghosts S) (shows : Database → Stays → Model → Type 0) (kept : Model → Type 0) (before after : Held S) (r : Result X StoreFault) where
+module _ {S X Stays Model : Type 0} (g : store.Ghosts S) (represents : Database → Stays → Model → Type 0) (kept : Model → Type 0) (before after : Held S) (r : Result X StoreFault) where
   abbrev old : State
   old = state g before
 
@@ -24,16 +24,16 @@ module _ {S X Stays Model : Type 0} (g : store.Ghosts S) (shows : Database → S
 
   -- A call that changes the model where it may, and touches these tables only. Where the model is kept, it fails only
   -- for want of memory or by the disk; the transaction then goes on, or was taken back.
-  pub record Makes (may : Model → Type 0) (made : Model → Model) (touched : List ℕ) : Type 0 where
-    pub shows_made : HasCleanDisk new → (s : Stays) (m : Model) → shows old.now s m → may m → OnOk r (shows new.now s (made m))
+  pub record Updates (may : Model → Type 0) (made : Model → Model) (touched : List ℕ) : Type 0 where
+    pub represents_updated : HasCleanDisk new → (s : Stays) (m : Model) → represents old.now s m → may m → OnOk r (represents new.now s (made m))
     pub only : HasCleanDisk new → OnOk r (OnlyTouches touched old.now new.now)
     pub goes : OnOk r (Goes old new)
-    pub cut : OnErr r (IsCut old new)
-    pub faults : (s : Stays) (m : Model) → shows old.now s m → may m → kept m → Excused old new r
+    pub cut : OnErr r (IsAborted old new)
+    pub faults : (s : Stays) (m : Model) → represents old.now s m → may m → kept m → FaultsHaveCause old new r
 
   -- A call that reads the model, and changes nothing.
-  pub record Tells (may : Model → Type 0) (answer : Stays → Model → X → Type 0) : Type 0 where
-    pub answers : HasCleanDisk new → (s : Stays) (m : Model) → shows old.now s m → IfOk r (answer s m)
-    pub looks : OnOk r (Looks old new)
-    pub cut : OnErr r (IsCut old new)
-    pub faults : (s : Stays) (m : Model) → shows old.now s m → may m → kept m → Excused old new r
+  pub record Answers (may : Model → Type 0) (answer : Stays → Model → X → Type 0) : Type 0 where
+    pub answers : HasCleanDisk new → (s : Stays) (m : Model) → represents old.now s m → IfOk r (answer s m)
+    pub looks : OnOk r (LeavesUnchanged old new)
+    pub cut : OnErr r (IsAborted old new)
+    pub faults : (s : Stays) (m : Model) → represents old.now s m → may m → kept m → FaultsHaveCause old new r

@@ -8,7 +8,7 @@ use Rattle.sqlite.specs.declared.error.Error.{Error}
 use Rattle.office_tables.specs.Faults.{fault_of, BlamesDisk}
 use Rattle.office_tables.specs.Meaning.{Means}
 use Rattle.office_tables.specs.Schema.{Version, schema}
-use Rattle.office_tables.specs.Step.{Goes, IsCut}
+use Rattle.office_tables.specs.Step.{Goes, IsAborted}
 use Rattle.office_tables.specs.declared.fault.StoreFault.{StoreFault}
 
 abbrev pub changes_rows : Command → Bool
@@ -28,7 +28,7 @@ pub record IsOurs (sql : List ℕ) (s : State) : Type 0 where
 pub record Leaves {X : Type 0} (old new : State) (r : Result X StoreFault) : Type 0 where
   pub crash : Survives old new (λ _. ⊥)
   pub goes : OnOk r (Goes old new)
-  pub cut : OnErr r (IsCut old new)
+  pub cut : OnErr r (IsAborted old new)
   pub disk : HasCleanDisk new → IfErr r (BlamesDisk old new)
 
 -- the statement was carried out, or refused for a reason that the fault tells

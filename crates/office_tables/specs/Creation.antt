@@ -17,8 +17,8 @@ use Rattle.sqlite.specs.Effect.{Database}
 use Rattle.sqlite.specs.Given.{IsPlain}
 use Rattle.sqlite.specs.Listing.{understood}
 use Rattle.sqlite.specs.State.{State, HasCleanDisk}
-use Rattle.office_tables.specs.Faults.{BlamesDisk, Excused}
-use Rattle.office_tables.specs.Step.{Continues, IsCut}
+use Rattle.office_tables.specs.Faults.{BlamesDisk, FaultsHaveCause}
+use Rattle.office_tables.specs.Step.{Continues, IsAborted}
 use Rattle.office_tables.specs.declared.fault.StoreFault.{StoreFault}
 use Rattle.office_tables.specs.Text.{command_of, statement_of, IsAlone}
 use Rattle.sqlite_catalog.specs.Listing.{automatic, is_formed, is_fit}
@@ -99,9 +99,9 @@ IsMaking there after before s = HasCleanDisk s → HasMade there after before s.
 -- the disk, which is blamed for its own failures only.
 pub record LeavesMaking {X : Type 0} (old new : State) (r : Result X StoreFault) : Type 0 where
   pub goes : OnOk r (Continues old new)
-  pub cut : OnErr r (IsCut old new)
+  pub cut : OnErr r (IsAborted old new)
   pub disk : HasCleanDisk new → IfErr r (BlamesDisk old new)
-  pub faults : Excused old new r
+  pub faults : FaultsHaveCause old new r
 
 -- the desk's tables and the catalogue's, but for that of the places
 abbrev pub catalogue_schema : Schema

@@ -32,8 +32,8 @@ HasCause old new fault.Disk = MoreFaults old.faults new.faults ⊎ (old.is_open 
 HasCause old new fault.Schema = ⊥
 
 -- every fault has its cause, where the disk is clean and no limit is set
-abbrev pub Excused : {X : Type 0} → State → State → Result X StoreFault → Type 0
-Excused old new r = HasCleanDisk new → IsUnlimited old → IfErr r (HasCause old new)
+abbrev pub FaultsHaveCause : {X : Type 0} → State → State → Result X StoreFault → Type 0
+FaultsHaveCause old new r = HasCleanDisk new → IsUnlimited old → IfErr r (HasCause old new)
 
 -- the disk is blamed for its own failures only
 abbrev pub BlamesDisk : State → State → StoreFault → Type 0

@@ -44,7 +44,7 @@ pub record Goes (old new : State) : Type 0 where
   pub schema : HasCleanDisk new → new.now.schema ≡ old.now.schema
 
 -- What a call leaves that fails: the transaction goes on and can be taken back, or it has been taken back.
-pub record IsCut (old new : State) : Type 0 where
+pub record IsAborted (old new : State) : Type 0 where
   pub crash : Survives old new (λ _. ⊥)
   pub cut : HasCleanDisk new → GoesOn old new ⊎ IsBack old new
 
@@ -59,7 +59,7 @@ abbrev pub OnlyTouches : List ℕ → Database → Database → Type 0
 OnlyTouches touched old new = (tree : ℕ) → list_any (nat_eq tree) table_trees ≡ true → list_any (nat_eq tree) touched ≡ false → new.trees tree ≡ old.trees tree
 
 -- what a call leaves that reads
-pub record Looks (old new : State) : Type 0 where
+pub record LeavesUnchanged (old new : State) : Type 0 where
   pub goes : Goes old new
   pub same : HasCleanDisk new → new.now ≡ old.now
 

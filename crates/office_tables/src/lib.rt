@@ -1,18 +1,18 @@
 //! The tables of an office: their schema, what a statement leaves, transactions, and why a call fails.
 #![tactic(auto)]
 
-pub mod answer;
-mod changing;
+mod change_statement;
 mod fault;
-mod finding;
-mod gathering;
-pub mod making;
+pub mod from_row;
+mod query;
+mod streamed_rows;
+pub mod table_creation;
 mod transaction;
 pub mod value;
 
-pub use changing::change;
+pub use change_statement::change;
 pub use fault::StoreFault;
-pub use finding::{find, find_number};
-pub use gathering::{Gathering, gather};
-pub use making::{create_index, create_table};
+pub use query::{find, find_number};
+pub use streamed_rows::{Gathering, gather};
+pub use table_creation::{create_index, create_table};
 pub use transaction::{begin, commit, roll_back};

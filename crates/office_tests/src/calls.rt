@@ -4,8 +4,8 @@
 use crate::offices::day_after;
 use catalogue_store::Places;
 use isad_core::{List, Text};
+use office::Office;
 use office_core::{Answer, Busy, Command, Query, Reply};
-use running_office::Office;
 use sqlite::Alter;
 use std::alloc::Global;
 use std::process::Abort;

@@ -3,9 +3,9 @@
 use crate::calls::{Said, Step, goes};
 use crate::offices::{BOXES, in_memory, settings};
 use catalogue_store::{LinkPlaces, Places};
+use nested_sets::SpanPlaces;
+use office::{Office, OpenFault};
 use office_core::Query;
-use running_office::{Office, OpenFault};
-use span_places::SpanPlaces;
 use sqlite::MemStore;
 use std::alloc::Global;
 use std::process::Abort;

@@ -9,7 +9,7 @@ use crate::calls::{Said, told};
 use crate::migration::{has_spans, rows_of};
 use crate::offices::in_memory;
 use catalogue_store::LinkPlaces;
-use running_office::{OpenFault, migrate};
+use office::{OpenFault, migrate};
 use sqlite::{Connection, MemStore};
 use std::alloc::Global;
 use std::process::Abort;

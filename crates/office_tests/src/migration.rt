@@ -3,9 +3,9 @@
 use crate::calls::{Said, Step, goes};
 use crate::offices::{BOXES, FONDS, in_memory};
 use catalogue_store::LinkPlaces;
+use nested_sets::SpanPlaces;
+use office::Office;
 use office_core::Query;
-use running_office::Office;
-use span_places::SpanPlaces;
 use sqlite::{Alter, Connection, MemStore, Row};
 use std::alloc::Global;
 use std::process::Abort;

@@ -6,7 +6,7 @@ ghost use Rattle.sqlite.specs.State.{HasCleanDisk};
 
 use catalogue_store::Places;
 use isad_core::Day;
-use running_office::{Office, OpenFault, Settings, SettingsFault};
+use office::{Office, OpenFault, Settings, SettingsFault};
 use sqlite::{Alter, Connection, MemStore};
 use std::alloc::Global;
 use std::test::Fail;

@@ -4,7 +4,7 @@ use crate::calls::{Said, Step, goes};
 use crate::migration::rows_of;
 use crate::offices::{FONDS, in_memory};
 use catalogue_store::{LinkPlaces, Places};
-use span_places::SpanPlaces;
+use nested_sets::SpanPlaces;
 use std::alloc::Global;
 use std::process::Abort;
 use std::test::Fail;

@@ -3,9 +3,9 @@
 use crate::offices::{BOXES, day_after, in_memory};
 use catalogue_store::{LinkPlaces, Places};
 use isad_core::{Day, List, Text};
+use nested_sets::SpanPlaces;
+use office::Office;
 use office_core::{Answer, Command, Query};
-use running_office::Office;
-use span_places::SpanPlaces;
 use sqlite::Alter;
 use std::alloc::Global;
 use std::process::Abort;

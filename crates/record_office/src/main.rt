@@ -1,30 +1,7 @@
-//! The program: one command of a record office, from its words and streams to its exit status.
+//! The program `record_office`.
 #![tactic(auto)]
 
-mod checking;
-mod commands;
-#[cfg(test)]
-mod fakes;
-mod faults;
-mod importing;
-mod laws;
-#[cfg(test)]
-mod office_messages;
-mod perform;
-mod previewing;
-#[cfg(test)]
-mod printed_help;
-mod serving;
-#[cfg(test)]
-mod store_tests;
-mod stores;
-mod streams;
-mod talking;
-mod tasks;
-#[cfg(test)]
-mod tests;
-mod words;
-
+use program::{perform, words};
 use sqlite::Wary;
 use std::process::ExitCode;
 

@@ -26,3 +26,13 @@ pub mod Climbing
 pub mod Orders
 pub mod Sharing
 pub mod TopsLemmas
+pub mod Joined
+pub mod GrownRows
+pub mod NewRows
+pub mod ParentPlaces
+pub mod NamedParents
+pub mod RowSteps
+pub mod ParentSteps
+pub mod Whole
+pub mod NamedSteps
+pub mod WorkedGrowth

@@ -13,3 +13,11 @@ pub mod Steps
 pub mod Versions
 pub mod Tops
 pub mod Members
+pub mod Growing
+pub mod Grown
+pub mod Gains
+pub mod Lifts
+pub mod NewRows
+pub mod PlaceNumbers
+pub mod ArrivalParents
+pub mod WorkedGrowth

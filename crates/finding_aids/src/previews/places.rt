@@ -20,7 +20,7 @@ const MAX_DEPTH: u32 = 64;
 
 /// Where a row stands in a file.
 #[derive(Clone, Copy)]
-pub struct Place {
+pub struct RowPosition {
     /// The index of its parent's row, or none for a top.
     pub parent: Option<usize>,
     /// How deep it lies, where a top is 1.
@@ -32,7 +32,7 @@ type Known = BTreeMap<String, usize>;
 
 /// The place of each row, below the nearest row above it that has its parent's legacyId; or the
 /// first row that has none, because there is no such row, or because it would lie too deep.
-pub fn place_rows(alloc: Global, rows: &[Row]) -> Result<Vec<Place>, FileFault>
+pub fn place_rows(alloc: Global, rows: &[Row]) -> Result<Vec<RowPosition>, FileFault>
     ensures none_bad { IfOk result (λ places. faults rows.now ≡ []) }
     ensures places { IfOk result (λ places. ArePlaced rows.now places.items) }
     ensures shallow { IfOk result (λ places. All (λ place. place.depth ≤ most_deep) places.items) }
@@ -65,12 +65,12 @@ fn bad(row: &Row, cause: u8) -> FileFault
 }
 
 /// The place below this parent, or of a top, where the parent is known.
-fn place_of(known: &Known, places: &[Place], parent: Option<&Text>) -> Option<Place>
+fn place_of(known: &Known, places: &[RowPosition], parent: Option<&Text>) -> Option<RowPosition>
     requires { All (λ p. p.depth ≤ most_deep) places.now }
     ensures { result ≡ spec.place_of (get_by_text known.now) places.now (option_copied parent.entry) }
 {
     match parent {
-        None => Some(Place {
+        None => Some(RowPosition {
             parent: None,
             depth: 1,
         }),
@@ -86,12 +86,12 @@ fn index_of(known: &Known, legacy: &Text) -> Option<usize>
 }
 
 /// The place right below a row.
-fn place_at(places: &[Place], index: usize) -> Option<Place>
+fn place_at(places: &[RowPosition], index: usize) -> Option<RowPosition>
     requires { All (λ p. p.depth ≤ most_deep) places.now }
     ensures { result ≡ spec.place_at places.now index }
 {
     let above = places.get(index)?;
-    Some(Place {
+    Some(RowPosition {
         parent: Some(index),
         depth: above.depth + 1,
     })

@@ -10,7 +10,7 @@ ghost use Rattle.finding_aids.specs.Places.{ArePlaced};
 ghost use Rattle.finding_aids.specs.Planting.{grove, height_of_all, seen_below};
 ghost use Rattle.finding_aids.specs.Slots.{IsBelow, children_at, grown_at};
 
-use crate::previews::places::Place;
+use crate::previews::places::RowPosition;
 use atom_csv::Row;
 use std::alloc::{AllocError, Global};
 
@@ -26,7 +26,7 @@ pub struct Tree<'a> {
 /// Where a row stands, and what has grown below it so far, the last child first.
 #[derive(Drop)]
 struct Slot<'a> {
-    place: Place,
+    place: RowPosition,
     children: Vec<Tree<'a>>,
 }
 
@@ -34,7 +34,7 @@ struct Slot<'a> {
 pub fn plant<'a>(
     alloc: Global,
     rows: &'a [Row],
-    places: &[Place],
+    places: &[RowPosition],
 ) -> Result<Vec<Tree<'a>>, AllocError>
     requires placed { ArePlaced rows.now places.now }
     requires shallow { All (λ place. place.depth ≤ most_deep) places.now }
@@ -63,7 +63,7 @@ pub fn plant<'a>(
 }
 
 /// A slot for each place, with nothing in it.
-fn bare_slots<'a>(alloc: Global, places: &[Place]) -> Result<Vec<Slot<'a>>, AllocError>
+fn bare_slots<'a>(alloc: Global, places: &[RowPosition]) -> Result<Vec<Slot<'a>>, AllocError>
     ensures places { IfOk result (λ slots. map (λ slot. slot.place) slots.items ≡ places.now) }
     ensures bare { IfOk result (λ slots. All (λ slot. slot.children.items ≡ []) slots.items) }
 {

@@ -40,13 +40,13 @@ module _ (v : Version) (at : ℕ) (table : Table) (there : slice_get (schema v).
 
   module _ {A : Type 0} (row : A → Row) (key : A → ℤ) (keyed : (x : A) → rowid (row x) ≡ Int (key x)) (xs : List A) (stored : old.now.trees table.tree ≡ map row xs) (up : Rises (by_key row key keyed) xs)
       (keep : A → Bool) (keeps : (x : A) → list_all (holds (params ∷ row x ∷ [])) where_terms ≡ keep x)
-      (source : A → Row) (shows : (x : A) → eval_all project (params ∷ row x ∷ []) ≡ source x) (named : (x : A) → id_in (rowid (source x)) ≡ key x) where
+      (source : A → Row) (represents : (x : A) → eval_all project (params ∷ row x ∷ []) ≡ source x) (named : (x : A) → id_in (rowid (source x)) ≡ key x) where
     leaves : (count : ℕ) → Executes sql params old new (Ok count) → HasRows table.tree (map row (filter (λ x. not (keep x)) xs)) old.now new.now
     leaves count h =
         let wrote = runs_as sql params old new (schema v) has (Delete at q) means.is means.plain count h in
         let it : Deleted (schema v) at table there (mode_of old) params q old.now new.now =
         deleted (schema v) at table there old.step_limit (mode_of old) params (statement_of sql (understood (schema v) sql)) q old.now new.now wrote.tally alone has wrote.changed in
-        let got = chosen table.tree where_terms project old.now.trees params row source xs keep stored keeps shows it.rows (it.answer.answer Null) in
+        let got = chosen table.tree where_terms project old.now.trees params row source xs keep stored keeps represents it.rows (it.answer.answer Null) in
         record {
           are = it.applies.rows ∙ deletes_rows (plain table) row key keyed old.now.trees xs stored up keep got.0 got.1 source named it.rows got.2;
           only = touched v old.now new.now table.tree it.applies.tables;

@@ -84,12 +84,12 @@ module _ {A : Type 0} (number : A → ℕ) where
       omega (arith, most, least)
 
   module _ (v : Version) (table : Table) (sql : List ℕ) (names : List (List ℕ)) (means : Means v sql 0 (Select (last_of table) names)) (old new : State) (has : old.now.schema ≡ schema v)
-      (row : A → Row) (shows : (x : A) → eval_all (col 1 0 ∷ []) ([] ∷ row x ∷ []) ≡ number_cells (number x)) (xs : List A) (stored : old.now.trees table.tree ≡ map row xs) (counted : AreCounted number xs) where
+      (row : A → Row) (represents : (x : A) → eval_all (col 1 0 ∷ []) ([] ∷ row x ∷ []) ≡ number_cells (number x)) (xs : List A) (stored : old.now.trees table.tree ≡ map row xs) (counted : AreCounted number xs) where
     first_row : (rows : List Row) → Shown sql [] old new rows → (ys : List A) × IsPermutation xs ys × IsSorted from_the_last ys × (rows ≡ map number_cells (map number (take 1 ys)))
     first_row rows shown =
         let read = reads_as sql [] old new (schema v) has (Select (last_of table) names) means.is means.plain means.unlisted rows shown in
         let got = first_answers table.tree [] (col 1 0 ∷ []) falling old.now.trees [] row xs (λ _. true) (λ x. number_cells (number x)) (λ x. number_cells (number x)) from_the_last
-        stored (λ _. refl) shows shows (λ a b. by_falling (number a) (number b)) 1 rows (read.answer Null) in
+        stored (λ _. refl) represents represents (λ a b. by_falling (number a) (number b)) 1 rows (read.answer Null) in
         (got.0, subst (λ l. IsPermutation l got.0) (kept_all xs) got.1, got.2, got.3 ∙ sym (map-map number_cells number (take 1 got.0)))
 
     pub last_finds : (r : Result ℕ StoreFault) → IfOk r (FindsFirst sql [] old new) → IfOk r (λ n. n ≡ length xs)

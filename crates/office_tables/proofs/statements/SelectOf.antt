@@ -33,13 +33,13 @@ module _ (v : Version) (table : Table) (sql : List ℕ) (where_terms project : L
     (means : Means v sql (length params) (Select (asking table where_terms project order) names)) (old new : State) (has : old.now.schema ≡ schema v)
     {A : Type 0} (row : A → Row) (xs : List A) (stored : old.now.trees table.tree ≡ map row xs)
     (keep : A → Bool) (keeps : (x : A) → list_all (holds (params ∷ row x ∷ [])) where_terms ≡ keep x)
-    (show key : A → Row) (shows : (x : A) → eval_all project (params ∷ row x ∷ []) ≡ show x)
+    (show key : A → Row) (represents : (x : A) → eval_all project (params ∷ row x ∷ []) ≡ show x)
     (cmp : A → A → Ordering) (keyed : (x : A) → eval_all (map (λ k. k.0) order) (params ∷ row x ∷ []) ≡ key x) (compares : (x y : A) → key_cmp 0 (map (λ k. k.1) order) (key x) (key y) ≡ cmp x y) where
   -- the rows are those of the records that are kept, in the order that is asked for
   pub select_rows : (rows : List Row) → Shown sql params old new rows → (ys : List A) × IsOrdered cmp (filter keep xs) ys × (rows ≡ map show ys)
   select_rows rows shown =
       let read = reads_as sql params old new (schema v) has (Select (asking table where_terms project order) names) means.is means.plain means.unlisted rows shown in
-      let got = answers table.tree where_terms project order old.now.trees params row xs keep show key cmp stored keeps shows keyed compares rows (read.answer Null) in
+      let got = answers table.tree where_terms project order old.now.trees params row xs keep show key cmp stored keeps represents keyed compares rows (read.answer Null) in
       (got.0, (got.1, got.2), got.3)
 
   module _ {T X : Type 0} (cells : T → Row) (items : X → List T) (tell : A → T) (tells : (x : A) → show x ≡ cells (tell x)) where

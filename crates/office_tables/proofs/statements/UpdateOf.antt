@@ -45,7 +45,7 @@ module _ (v : Version) (at : ℕ) (table : Table) (there : slice_get (schema v).
     (means : Means v sql (length params) (Update at (choosing (plain table) where_terms project))) (old new : State) (has : old.now.schema ≡ schema v)
     {A : Type 0} (row : A → Row) (key : A → ℤ) (keyed : (x : A) → rowid (row x) ≡ Int (key x)) (xs : List A) (stored : old.now.trees table.tree ≡ map row xs) (up : Rises (by_key row key keyed) xs)
     (keep : A → Bool) (keeps : (x : A) → list_all (holds (params ∷ row x ∷ [])) where_terms ≡ keep x)
-    (source : A → Row) (shows : (x : A) → eval_all project (params ∷ row x ∷ []) ≡ source x) (named : (x : A) → id_in (rowid (source x)) ≡ key x)
+    (source : A → Row) (represents : (x : A) → eval_all project (params ∷ row x ∷ []) ≡ source x) (named : (x : A) → id_in (rowid (source x)) ≡ key x)
     (changed : A → A) (same_id : (x : A) → key (changed x) ≡ key x) (casts : (x : A) → Has xs x → keep x ≡ true → cast_row (plain table) (drop 1 (source x)) ≡ row (changed x)) where
   abbrev q : Program
   q = choosing (plain table) where_terms project
@@ -54,7 +54,7 @@ module _ (v : Version) (at : ℕ) (table : Table) (there : slice_get (schema v).
   Chosen rows = (ys : List A) × IsPermutation (filter keep xs) ys × (rows ≡ map source ys)
 
   found : (s : Schema) (rows : List Row) → Answers (record { schema = s; trees = old.now.trees }) q params rows → Chosen rows
-  found s rows given = chosen table.tree where_terms project old.now.trees params row source xs keep stored keeps shows rows (given.answer Null)
+  found s rows given = chosen table.tree where_terms project old.now.trees params row source xs keep stored keeps represents rows (given.answer Null)
 
   cast_each : (rows : List Row) (got : Chosen rows) (x : A) → Has got.0 x → cast_row (plain table) (drop 1 (source x)) ≡ row (changed x)
   cast_each rows got x h = let it = has_filtered keep xs x (had (filter keep xs) got.0 got.1 x h) in casts x it.0 it.1

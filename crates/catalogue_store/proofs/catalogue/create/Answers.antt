@@ -7,8 +7,8 @@ use Rattle.office_tables.specs.Schema.{desk_tables}
 use Rattle.office_tables.specs.Step.{InTransaction, Continues, Goes, PutsRow}
 use Rattle.office_tables.proofs.Calls.{early, continues_then, on_ok_both, on_ok_then}
 use Rattle.office_tables.proofs.CallEnds.{same_fault, making_last, making_not, making_then}
-use Rattle.catalogue_rows.specs.Rows.{office_row}
-use Rattle.catalogue_rows.specs.Shows.{Shows}
+use Rattle.catalogue_statements.specs.Rows.{office_row}
+use Rattle.catalogue_statements.specs.Represents.{Represents}
 use Rattle.catalogue_store.proofs.Beginning.{shows_beginning, desk_kept}
 use Rattle.catalogue_store.proofs.catalogue.create.Goals as goal
 
@@ -61,8 +61,8 @@ returns-clause-leaves g c start making =
     let r = c.insert_office.result in
     making_last a0 a3 a4 on3 r (on_ok_then r (Goes a3 a4) (Continues a3 a4) (λ last. last.on) left.goes) left.cut left.disk (λ before. c.insert_office.ensures.faults inside (step3 before).0.empty.0)
 
-pub returns-clause-shows : goal.returns-clause-shows
-returns-clause-shows g c start making clean =
+pub returns-clause-represents : goal.returns-clause-represents
+returns-clause-represents g c start making clean =
     let a0 = state g.S.Store c.args.conn.now in
     let a1 = state g.S.Store c.create_units.new.conn in
     let step1 = c.in_ok-create_units.ensures.made start making in
@@ -76,10 +76,10 @@ returns-clause-shows g c start making clean =
     let a4 = state g.S.Store c.insert_office.new.conn in
     let left = c.insert_office.ensures.leaves inside in
     on_ok_both c.insert_office.result (Goes a3 a4) (PutsRow tables.office.tree (office_row g.P.Places.version c.args.row.now) a3.now a4.now)
-    (Shows g.P.Places.shows g.P.Places.version a4.now c.args.row.now (record { forest = Empty; containers = []; next = c.args.row.now.next_unit }))
+    (Represents g.P.Places.represents g.P.Places.version a4.now c.args.row.now (record { forest = Empty; containers = []; next = c.args.row.now.next_unit }))
     (λ last puts.
     let clean3 = early a3 a4 _ last.on.crash clean in
-    shows_beginning g.P.Places.version g.P.Places.shows g.met.P.Places.shows_same start a3.now a4.now c.args.row.now (step3 clean3).0 (last.schema clean) puts (c.in_ok-create.ensures.nothing start step2.1 clean3))
+    shows_beginning g.P.Places.version g.P.Places.represents g.met.P.Places.shows_same start a3.now a4.now c.args.row.now (step3 clean3).0 (last.schema clean) puts (c.in_ok-create.ensures.nothing start step2.1 clean3))
     left.goes (c.insert_office.ensures.puts inside clean)
 
 pub returns-clause-desk : goal.returns-clause-desk

@@ -2,10 +2,10 @@ use Rattle.std.proofs.Common.{ap, ◌≡◌, subst, sym, ◌∙◌, map, slice_g
 use Rattle.std.specs.Prelude.{⊤}
 use Rattle.catalogue_core.specs.Units.{Unit, is_from}
 use Rattle.catalogue_core.specs.Finding.{Finds}
-use Rattle.office_tables.specs.Calls.{ShowsAlone}
-use Rattle.catalogue_rows.specs.Shows.{ShowsUnits}
+use Rattle.office_tables.specs.Calls.{RepresentsAlone}
+use Rattle.catalogue_statements.specs.Represents.{RepresentsUnits}
 use Rattle.office_tables.proofs.CallEnds.{same_fault, tells_not}
-use Rattle.catalogue_rows.proofs.Finding.{finds_first}
+use Rattle.catalogue_statements.proofs.Finding.{finds_first}
 use Rattle.catalogue_store.proofs.catalogue.known.Goals as goal
 
 pub returns-in_err-found : goal.returns-in_err-found
@@ -13,7 +13,7 @@ returns-in_err-found g c =
     let handed = c.from_residual.ensures in
     let e = c.in_err-found.field-0.0 in
     record {
-      tells = tells_not g.S.Store (ShowsAlone ShowsUnits) (λ _. ⊤) (λ _. ⊤) c.args.conn.now c.units_from.new.conn c.from_residual.result (λ _ f. Finds (is_from c.args.source.now c.args.legacy.now) f) e
+      tells = tells_not g.S.Store (RepresentsAlone RepresentsUnits) (λ _. ⊤) (λ _. ⊤) c.args.conn.now c.units_from.new.conn c.from_residual.result (λ _ f. Finds (is_from c.args.source.now c.args.legacy.now) f) e
           (same_fault c.from_residual.result e handed.0 handed.1) c.in_err-found.ensures.reads.cut
           (λ beside f shown may kept clean free. c.in_err-found.ensures.faults shown.units shown.rows clean free);
     }

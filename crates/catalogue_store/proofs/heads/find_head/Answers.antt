@@ -10,14 +10,14 @@ use Rattle.tree_core.specs.Forest.{nodes}
 use Rattle.catalogue_core.specs.Bounds.{IsKept}
 use Rattle.catalogue_core.specs.Units.{Unit, has_id}
 use Rattle.office_tables.specs.Schema as tables
-use Rattle.catalogue_rows.specs.Rows.{element_row}
-use Rattle.catalogue_rows.specs.Shows.{Shows, element_cells, elements_of}
-use Rattle.catalogue_rows.specs.Standings.{standing_of}
+use Rattle.catalogue_statements.specs.Rows.{element_row}
+use Rattle.catalogue_statements.specs.Represents.{Represents, element_cells, elements_of}
+use Rattle.catalogue_statements.specs.Standings.{standing_of}
 use Rattle.catalogue_store.specs.Heads.{head_of}
 use Rattle.office_tables.proofs.CallEnds.{same_fault, tells_not, tells_cut}
 use Rattle.office_tables.proofs.Calls.{early, goes_then, looks_then, office_of, still_office}
 use Rattle.office_tables.proofs.numbered.OwnNumbers.{still_numbered}
-use Rattle.catalogue_rows.proofs.FoundUnits.{none_found, one_told}
+use Rattle.catalogue_statements.proofs.FoundUnits.{none_found, one_told}
 use Rattle.catalogue_store.proofs.HeadForests.{head_told}
 use Rattle.catalogue_store.proofs.MarkCauses.{legible_units}
 use Rattle.catalogue_store.proofs.ValueCauses.{legible_elements}
@@ -32,7 +32,7 @@ returns-in_err-found g c =
     let handed = c.from_residual.ensures in
     let e = c.in_err-found.field-0.0 in
     record {
-      tells = tells_not g.S.Store (Shows g.P.Places.shows g.P.Places.version) IsKept (λ _. ⊤) c.args.conn.now c.standings_of.new.conn c.from_residual.result (λ _ k head. head ≡ option_map head_of (find (has_id c.args.unit) (nodes k.forest))) e
+      tells = tells_not g.S.Store (Represents g.P.Places.represents g.P.Places.version) IsKept (λ _. ⊤) c.args.conn.now c.standings_of.new.conn c.from_residual.result (λ _ k head. head ≡ option_map head_of (find (has_id c.args.unit) (nodes k.forest))) e
           (same_fault c.from_residual.result e handed.0 handed.1) c.in_err-found.ensures.reads.cut
           (λ o k it may kept clean free. let at = it.catalogue.units in c.in_err-found.ensures.faults at.units at.rows (legible_units a.now.trees k at kept) clean free);
     }
@@ -67,7 +67,7 @@ returns-in_err-identifier g c =
     let e = c.in_err-identifier.field-0.0 in
     let looked = c.in_ok-found.ensures.reads.looks in
     record {
-      tells = tells_cut g.S.Store (Shows g.P.Places.shows g.P.Places.version) IsKept (λ _. ⊤) c.args.conn.now c.standings_of.new.conn c.text_of.new.conn c.from_residual-in_err-identifier.result (λ _ k head. head ≡ option_map head_of (find (has_id c.args.unit) (nodes k.forest))) e
+      tells = tells_cut g.S.Store (Represents g.P.Places.represents g.P.Places.version) IsKept (λ _. ⊤) c.args.conn.now c.standings_of.new.conn c.text_of.new.conn c.from_residual-in_err-identifier.result (λ _ k head. head ≡ option_map head_of (find (has_id c.args.unit) (nodes k.forest))) e
           (same_fault c.from_residual-in_err-identifier.result e handed.0 handed.1) looked c.in_err-identifier.ensures.reads.cut
           (λ o k it may kept at_b clean free.
           let at = it.catalogue.elements in
@@ -90,7 +90,7 @@ returns-in_err-title g c =
     let e = c.in_err-title.field-0.0 in
     let looked = looks_then a b d c.in_ok-found.ensures.reads.looks c.in_ok-identifier.ensures.reads.looks in
     record {
-      tells = tells_cut g.S.Store (Shows g.P.Places.shows g.P.Places.version) IsKept (λ _. ⊤) c.args.conn.now c.text_of.new.conn c.text_of-2.new.conn c.from_residual-in_err-title.result (λ _ k head. head ≡ option_map head_of (find (has_id c.args.unit) (nodes k.forest))) e
+      tells = tells_cut g.S.Store (Represents g.P.Places.represents g.P.Places.version) IsKept (λ _. ⊤) c.args.conn.now c.text_of.new.conn c.text_of-2.new.conn c.from_residual-in_err-title.result (λ _ k head. head ≡ option_map head_of (find (has_id c.args.unit) (nodes k.forest))) e
           (same_fault c.from_residual-in_err-title.result e handed.0 handed.1) looked c.in_err-title.ensures.reads.cut
           (λ o k it may kept at_d clean free.
           let at = it.catalogue.elements in

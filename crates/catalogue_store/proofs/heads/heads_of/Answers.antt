@@ -8,7 +8,7 @@ use Rattle.sqlite_trees.proofs.ListLemmas.{all-get_or}
 use Rattle.catalogue_core.specs.Bounds.{IsKept}
 use Rattle.catalogue_core.specs.Finding.{has_unit}
 use Rattle.office_tables.specs.declared.fault.StoreFault.TheVariants as fault
-use Rattle.catalogue_rows.specs.Shows.{Shows}
+use Rattle.catalogue_statements.specs.Represents.{Represents}
 use Rattle.catalogue_store.specs.Heads.{head_at}
 use Rattle.office_tables.proofs.CallEnds.{same_fault, tells_not, tells_cut}
 use Rattle.office_tables.proofs.Calls.{cut_after, early, looks_nowhere, looks_then, office_of}
@@ -34,7 +34,7 @@ loop-unit-preserved g c =
       so_far = λ clean o k it.
           let at_b = early b d _ c.in_ok-found.ensures.tells.looks.goes.on.crash clean in
           let same = c.loop-unit.invariant.looks.same at_b in
-          let this = sym c.in-Some.is ∙ c.in_ok-found.ensures.tells.answers clean o k (subst (λ (db : Database). Shows g.P.Places.shows g.P.Places.version db o k) (sym same) it) in
+          let this = sym c.in-Some.is ∙ c.in_ok-found.ensures.tells.answers clean o k (subst (λ (db : Database). Represents g.P.Places.represents g.P.Places.version db o k) (sym same) it) in
           ap (map Some) c.in_ok-push.ensures.items ∙ map-append Some c.loop-unit.heads.items (c.in-Some.head ∷ [])
           ∙ ap₂ ◌++◌ (c.loop-unit.invariant.so_far at_b o k it) (ap (λ h. h ∷ []) this)
           ∙ sym (ap (map (head_at k.forest)) (take_more units i 0 c.loop-unit-test.true) ∙ map-append (head_at k.forest) (take i units) (get_or units i 0 ∷ []));
@@ -45,7 +45,7 @@ returns-then-unit-ge-NO_NUMBER g c =
     let a = state g.S.Store c.args.conn.now in
     let b = state g.S.Store c.loop-unit.conn in
     record {
-      tells = tells_not g.S.Store (Shows g.P.Places.shows g.P.Places.version) IsKept (λ k. AllByRecursion (λ unit. has_unit k.forest unit ≡ true) c.args.units.now) c.args.conn.now c.loop-unit.conn _ (λ _ k heads. map Some heads.items ≡ map (head_at k.forest) c.args.units.now) fault.Schema refl (cut_after a b c.loop-unit.invariant.looks.goes.on)
+      tells = tells_not g.S.Store (Represents g.P.Places.represents g.P.Places.version) IsKept (λ k. AllByRecursion (λ unit. has_unit k.forest unit ≡ true) c.args.units.now) c.args.conn.now c.loop-unit.conn _ (λ _ k heads. map Some heads.items ≡ map (head_at k.forest) c.args.units.now) fault.Schema refl (cut_after a b c.loop-unit.invariant.looks.goes.on)
           (λ o k it there kept clean free.
           let here = all-get_or (λ unit. has_unit k.forest unit ≡ true) c.args.units.now c.loop-unit.unit-index 0 there c.loop-unit-test.true in
           absurd (false≢true (no_unit k (get_or c.args.units.now c.loop-unit.unit-index 0) c.if-unit-ge-NO_NUMBER.true kept ∙ here)));
@@ -57,9 +57,9 @@ returns-in_err-found g c =
     let e = c.in_err-found.field-0.0 in
     let looked = c.loop-unit.invariant.looks in
     record {
-      tells = tells_cut g.S.Store (Shows g.P.Places.shows g.P.Places.version) IsKept (λ k. AllByRecursion (λ unit. has_unit k.forest unit ≡ true) c.args.units.now) c.args.conn.now c.loop-unit.conn c.find_head.new.conn c.from_residual.result (λ _ k heads. map Some heads.items ≡ map (head_at k.forest) c.args.units.now) e
+      tells = tells_cut g.S.Store (Represents g.P.Places.represents g.P.Places.version) IsKept (λ k. AllByRecursion (λ unit. has_unit k.forest unit ≡ true) c.args.units.now) c.args.conn.now c.loop-unit.conn c.find_head.new.conn c.from_residual.result (λ _ k heads. map Some heads.items ≡ map (head_at k.forest) c.args.units.now) e
           (same_fault c.from_residual.result e handed.0 handed.1) looked c.in_err-found.ensures.tells.cut
-          (λ o k it there kept at_b clean free. c.in_err-found.ensures.tells.faults o k (subst (λ (db : Database). Shows g.P.Places.shows g.P.Places.version db o k) (sym (looked.same at_b)) it) tt kept clean free);
+          (λ o k it there kept at_b clean free. c.in_err-found.ensures.tells.faults o k (subst (λ (db : Database). Represents g.P.Places.represents g.P.Places.version db o k) (sym (looked.same at_b)) it) tt kept clean free);
     }
 
 pub returns-in_default : goal.returns-in_default
@@ -69,11 +69,11 @@ returns-in_default g c =
     let d = state g.S.Store c.find_head.new.conn in
     let looked = looks_then a b d c.loop-unit.invariant.looks c.in_ok-found.ensures.tells.looks in
     record {
-      tells = tells_not g.S.Store (Shows g.P.Places.shows g.P.Places.version) IsKept (λ k. AllByRecursion (λ unit. has_unit k.forest unit ≡ true) c.args.units.now) c.args.conn.now c.find_head.new.conn _ (λ _ k heads. map Some heads.items ≡ map (head_at k.forest) c.args.units.now) fault.Schema refl (cut_after a d looked.goes.on)
+      tells = tells_not g.S.Store (Represents g.P.Places.represents g.P.Places.version) IsKept (λ k. AllByRecursion (λ unit. has_unit k.forest unit ≡ true) c.args.units.now) c.args.conn.now c.find_head.new.conn _ (λ _ k heads. map Some heads.items ≡ map (head_at k.forest) c.args.units.now) fault.Schema refl (cut_after a d looked.goes.on)
           (λ o k it there kept clean free.
           let here = all-get_or (λ unit. has_unit k.forest unit ≡ true) c.args.units.now c.loop-unit.unit-index 0 there c.loop-unit-test.true in
           let at_b = early b d _ c.in_ok-found.ensures.tells.looks.goes.on.crash clean in
-          let shown = subst (λ (db : Database). Shows g.P.Places.shows g.P.Places.version db o k) (sym (c.loop-unit.invariant.looks.same at_b)) it in
+          let shown = subst (λ (db : Database). Represents g.P.Places.represents g.P.Places.version db o k) (sym (c.loop-unit.invariant.looks.same at_b)) it in
           some_head k.forest (get_or c.args.units.now c.loop-unit.unit-index 0) here (sym c.in_default.is ∙ c.in_ok-found.ensures.tells.answers clean o k shown));
     }
 
@@ -85,7 +85,7 @@ returns-in_err-push g c =
     let handed = c.from_residual-in_err-push.ensures in
     let looked = looks_then a b d c.loop-unit.invariant.looks c.in_ok-found.ensures.tells.looks in
     record {
-      tells = tells_not g.S.Store (Shows g.P.Places.shows g.P.Places.version) IsKept (λ k. AllByRecursion (λ unit. has_unit k.forest unit ≡ true) c.args.units.now) c.args.conn.now c.find_head.new.conn c.from_residual-in_err-push.result (λ _ k heads. map Some heads.items ≡ map (head_at k.forest) c.args.units.now) fault.Memory
+      tells = tells_not g.S.Store (Represents g.P.Places.represents g.P.Places.version) IsKept (λ k. AllByRecursion (λ unit. has_unit k.forest unit ≡ true) c.args.units.now) c.args.conn.now c.find_head.new.conn c.from_residual-in_err-push.result (λ _ k heads. map Some heads.items ≡ map (head_at k.forest) c.args.units.now) fault.Memory
           (same_fault c.from_residual-in_err-push.result fault.Memory handed.0 handed.1) (cut_after a d looked.goes.on) (λ o k it there kept clean free. tt);
     }
 

@@ -7,12 +7,12 @@ use Rattle.tree_core.specs.Forest.{each, path}
 use Rattle.catalogue_core.specs.Bounds.{IsKept}
 use Rattle.catalogue_core.specs.Finding.{has_unit}
 use Rattle.catalogue_core.specs.Units.{Unit, has_id}
-use Rattle.office_tables.specs.Step.{IsCut, Looks}
+use Rattle.office_tables.specs.Step.{IsAborted, LeavesUnchanged}
 use Rattle.office_tables.proofs.CallEnds.{excused_then, same_fault, tells_not}
 use Rattle.office_tables.proofs.Calls.{early, cut_then, looks_then, on_err_then, on_ok_then}
 use Rattle.office_tables.proofs.Outcomes.{if_ok_by}
 use Rattle.std.proofs.lemmas.Result.{IfOk-weaker}
-use Rattle.catalogue_rows.specs.Shows.{Shows}
+use Rattle.catalogue_statements.specs.Represents.{Represents}
 use Rattle.catalogue_store.specs.Heads.{head_of}
 use Rattle.catalogue_store.proofs.HeadForests.{all_there, heads_are}
 use Rattle.catalogue_store.proofs.MarkForests.{path_in, path_ids}
@@ -23,7 +23,7 @@ returns-in_err-units g c =
     let e = c.from_residual.ensures in
     let why = c.in_err-units.ensures.tells in
     record {
-      tells = tells_not g.S.Store (Shows g.P.Places.shows g.P.Places.version) IsKept (λ _. ⊤) c.args.conn.now c.path.new.conn c.from_residual.result (λ _ k heads. heads.items ≡ map head_of (path (has_id c.args.unit) k.forest)) c.in_err-units.field-0.0
+      tells = tells_not g.S.Store (Represents g.P.Places.represents g.P.Places.version) IsKept (λ _. ⊤) c.args.conn.now c.path.new.conn c.from_residual.result (λ _ k heads. heads.items ≡ map head_of (path (has_id c.args.unit) k.forest)) c.in_err-units.field-0.0
           (same_fault c.from_residual.result c.in_err-units.field-0.0 e.0 e.1) why.cut (λ o k it may kept. why.faults tt (each (λ (u : Unit). u.id) k.forest) it.shown tt kept.places);
     }
 
@@ -39,20 +39,20 @@ returns g c =
       tells = record {
         answers = λ clean o k it.
             let units = path (has_id c.args.unit) k.forest in
-            if_ok_by c.heads_of.result (Looks b d) (λ heads. heads.items ≡ map head_of units)
+            if_ok_by c.heads_of.result (LeavesUnchanged b d) (λ heads. heads.items ≡ map head_of units)
             (λ went.
             let before = early b d _ went.goes.on.crash clean in
-            let shown = subst (λ (db : Database). Shows g.P.Places.shows g.P.Places.version db o k) (sym (looked.same before)) it in
+            let shown = subst (λ (db : Database). Represents g.P.Places.represents g.P.Places.version db o k) (sym (looked.same before)) it in
             let ids = c.deref.ensures.value ∙ found.answers before tt (each (λ (u : Unit). u.id) k.forest) it.shown ∙ path_ids c.args.unit k.forest in
             IfOk-weaker c.heads_of.result _ (λ heads. heads.items ≡ map head_of units)
             (λ heads told. heads_are a.now.trees k.forest it.catalogue.units units heads.items (path_in (has_id c.args.unit) k.forest) (told ∙ ap (map _) ids))
             (last.answers clean o k shown))
             last.looks;
-        looks = on_ok_then c.heads_of.result (Looks b d) (Looks a d) (looks_then a b d looked) last.looks;
-        cut = on_err_then c.heads_of.result (IsCut b d) (IsCut a d) (cut_then a b d looked.goes.on) last.cut;
+        looks = on_ok_then c.heads_of.result (LeavesUnchanged b d) (LeavesUnchanged a d) (looks_then a b d looked) last.looks;
+        cut = on_err_then c.heads_of.result (IsAborted b d) (IsAborted a d) (cut_then a b d looked.goes.on) last.cut;
         faults = λ o k it may kept. excused_then a b d looked.goes.on c.heads_of.result last.cut
             (λ before.
-            let shown = subst (λ (db : Database). Shows g.P.Places.shows g.P.Places.version db o k) (sym (looked.same before)) it in
+            let shown = subst (λ (db : Database). Represents g.P.Places.represents g.P.Places.version db o k) (sym (looked.same before)) it in
             let ids = c.deref.ensures.value ∙ found.answers before tt (each (λ (u : Unit). u.id) k.forest) it.shown ∙ path_ids c.args.unit k.forest in
             last.faults o k shown (subst (AllByRecursion (λ unit. has_unit k.forest unit ≡ true)) (sym ids) (all_there k.forest (path (has_id c.args.unit) k.forest) (path_in (has_id c.args.unit) k.forest))) kept);
       };

@@ -1,8 +1,8 @@
 use Rattle.std.proofs.Common.{◌≡◌, Some, ◌&&◌, filter, length, nat_eq, subst, ◌∙◌, arith}
 use Rattle.std.specs.List.Sorted.{IsPermutation}
 use Rattle.isad_core.specs.Values.{text_at}
-use Rattle.catalogue_rows.specs.Rows.{ElementRow}
-use Rattle.catalogue_rows.proofs.OneText.{one_text, last_text, no_text}
+use Rattle.catalogue_statements.specs.Rows.{ElementRow}
+use Rattle.catalogue_statements.proofs.OneText.{one_text, last_text, no_text}
 use Rattle.catalogue_store.proofs.heads.text_of.Goals as goal
 
 pub returns-in-Some-clause-text : goal.returns-in-Some-clause-text

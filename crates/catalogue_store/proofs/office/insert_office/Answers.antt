@@ -3,8 +3,8 @@ use Rattle.sqlite.specs.Held.{state}
 use Rattle.sqlite.specs.State.{HasCleanDisk}
 use Rattle.office_tables.proofs.Calls.{early, office_of, in_office, write_cut, write_went}
 use Rattle.office_tables.proofs.WriteCauses.{write_disk}
-use Rattle.catalogue_rows.proofs.InsertFaults.{insert_office_cause}
-use Rattle.catalogue_rows.proofs.Inserts.{insert_office_text, insert_office_command, insert_office_is, insert_office_plain, insert_office_done, insert_office_rows, insert_office_touches, insert_office_fresh}
+use Rattle.catalogue_statements.proofs.InsertFaults.{insert_office_cause}
+use Rattle.catalogue_statements.proofs.Inserts.{insert_office_text, insert_office_command, insert_office_is, insert_office_plain, insert_office_done, insert_office_rows, insert_office_touches, insert_office_fresh}
 use Rattle.catalogue_store.proofs.office.insert_office.Goals as goal
 
 pub returns-in_err-execute-clause-leaves : goal.returns-in_err-execute-clause-leaves

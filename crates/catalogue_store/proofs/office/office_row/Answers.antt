@@ -8,13 +8,13 @@ use Rattle.catalogue_core.proofs.NodeLemmas.{length-nodes}
 use Rattle.office_tables.specs.Counting.{capped}
 use Rattle.office_tables.specs.Schema as tables
 use Rattle.office_tables.specs.declared.fault.StoreFault.TheVariants as fault
-use Rattle.catalogue_rows.specs.Rows.{counted_from}
-use Rattle.catalogue_rows.specs.Settings.{AreLegibleSettings}
-use Rattle.catalogue_rows.specs.Shows.{ShowsSettings}
+use Rattle.catalogue_statements.specs.Rows.{counted_from}
+use Rattle.catalogue_statements.specs.Settings.{AreLegibleSettings}
+use Rattle.catalogue_statements.specs.Represents.{RepresentsSettings}
 use Rattle.catalogue_store.specs.Offices.{told_office}
 use Rattle.office_tables.proofs.CallEnds.{same_fault, tells_not, tells_cut}
 use Rattle.office_tables.proofs.Calls.{cut_after, early, office_of, still_office, goes_then, looks_then}
-use Rattle.catalogue_rows.proofs.Offices.{last_of, length-counted, same_number, not_refused}
+use Rattle.catalogue_statements.proofs.Offices.{last_of, length-counted, same_number, not_refused}
 use Rattle.catalogue_store.proofs.office.office_row.Goals as goal
 
 pub office_rows-requires : goal.office_rows-requires
@@ -42,7 +42,7 @@ returns-in_err-containers g c =
     let e = c.in_err-containers.field-0.0 in
     let looked = looks_then a b d c.in_ok-rows.ensures.reads.looks c.in_ok-units.ensures.reads.looks in
     record {
-      tells = tells_cut g.S.Store (ShowsSettings g.P.Places.shows g.P.Places.version) AreLegibleSettings (λ _. ⊤) c.args.conn.now c.count_units.new.conn c.count_containers.new.conn c.from_residual-in_err-containers.result (λ k o office. office ≡ told_office k o) e
+      tells = tells_cut g.S.Store (RepresentsSettings g.P.Places.represents g.P.Places.version) AreLegibleSettings (λ _. ⊤) c.args.conn.now c.count_units.new.conn c.count_containers.new.conn c.from_residual-in_err-containers.result (λ k o office. office ≡ told_office k o) e
           (same_fault c.from_residual-in_err-containers.result e handed.0 handed.1) looked c.in_err-containers.ensures.reads.cut
           (λ k o it may legible at_d clean free.
           c.in_err-containers.ensures.faults (counted_from 1 k.containers) (ap (λ (db : Database). db.trees tables.container.tree) (looked.same at_d) ∙ it.catalogue.containers) clean free);
@@ -56,7 +56,7 @@ returns-in_default g c =
     let e = state g.S.Store c.count_containers.new.conn in
     let looked = looks_then a d e (looks_then a b d c.in_ok-rows.ensures.reads.looks c.in_ok-units.ensures.reads.looks) c.in_ok-containers.ensures.reads.looks in
     record {
-      tells = tells_not g.S.Store (ShowsSettings g.P.Places.shows g.P.Places.version) AreLegibleSettings (λ _. ⊤) c.args.conn.now c.count_containers.new.conn _ (λ k o office. office ≡ told_office k o) fault.Schema
+      tells = tells_not g.S.Store (RepresentsSettings g.P.Places.represents g.P.Places.version) AreLegibleSettings (λ _. ⊤) c.args.conn.now c.count_containers.new.conn _ (λ k o office. office ≡ told_office k o) fault.Schema
           refl (cut_after a e looked.goes.on)
           (λ k o it may legible clean free.
           let at_d = early d e _ c.in_ok-containers.ensures.reads.looks.goes.on.crash clean in
@@ -74,7 +74,7 @@ returns-in_err-only_number g c =
     let fault = c.in_err-only_number.field-0.0 in
     let looked = looks_then a d e (looks_then a b d c.in_ok-rows.ensures.reads.looks c.in_ok-units.ensures.reads.looks) c.in_ok-containers.ensures.reads.looks in
     record {
-      tells = tells_not g.S.Store (ShowsSettings g.P.Places.shows g.P.Places.version) AreLegibleSettings (λ _. ⊤) c.args.conn.now c.count_containers.new.conn c.from_residual-in_err-only_number.result (λ k o office. office ≡ told_office k o) fault
+      tells = tells_not g.S.Store (RepresentsSettings g.P.Places.represents g.P.Places.version) AreLegibleSettings (λ _. ⊤) c.args.conn.now c.count_containers.new.conn c.from_residual-in_err-only_number.result (λ k o office. office ≡ told_office k o) fault
           (same_fault c.from_residual-in_err-only_number.result fault handed.0 handed.1) (cut_after a e looked.goes.on)
           (λ k o it may legible clean free.
           let at_d = early d e _ c.in_ok-containers.ensures.reads.looks.goes.on.crash clean in
@@ -95,7 +95,7 @@ returns-in_err-only_number-2 g c =
     let looked_d = looks_then a b d c.in_ok-rows.ensures.reads.looks c.in_ok-units.ensures.reads.looks in
     let looked = looks_then a d e looked_d c.in_ok-containers.ensures.reads.looks in
     record {
-      tells = tells_not g.S.Store (ShowsSettings g.P.Places.shows g.P.Places.version) AreLegibleSettings (λ _. ⊤) c.args.conn.now c.count_containers.new.conn c.from_residual-in_err-only_number-2.result (λ k o office. office ≡ told_office k o) fault
+      tells = tells_not g.S.Store (RepresentsSettings g.P.Places.represents g.P.Places.version) AreLegibleSettings (λ _. ⊤) c.args.conn.now c.count_containers.new.conn c.from_residual-in_err-only_number-2.result (λ k o office. office ≡ told_office k o) fault
           (same_fault c.from_residual-in_err-only_number-2.result fault handed.0 handed.1) (cut_after a e looked.goes.on)
           (λ k o it may legible clean free.
           let at_d = early d e _ c.in_ok-containers.ensures.reads.looks.goes.on.crash clean in

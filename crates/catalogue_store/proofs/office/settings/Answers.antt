@@ -2,11 +2,11 @@ use Rattle.std.proofs.Common.{◌≡◌, length, arith, ap, sym, ◌∙◌, refl
 use Rattle.std.specs.Prelude.{⊤}
 use Rattle.sqlite.specs.Held.{state}
 use Rattle.office_tables.specs.declared.fault.StoreFault.TheVariants as fault
-use Rattle.catalogue_rows.specs.Settings.{AreLegibleSettings}
-use Rattle.catalogue_rows.specs.Shows.{ShowsSettings}
+use Rattle.catalogue_statements.specs.Settings.{AreLegibleSettings}
+use Rattle.catalogue_statements.specs.Represents.{RepresentsSettings}
 use Rattle.office_tables.proofs.CallEnds.{same_fault, tells_not}
 use Rattle.office_tables.proofs.Calls.{cut_after, office_of}
-use Rattle.catalogue_rows.proofs.Offices.{last_of}
+use Rattle.catalogue_statements.proofs.Offices.{last_of}
 use Rattle.catalogue_store.proofs.office.settings.Goals as goal
 
 pub office_rows-requires : goal.office_rows-requires
@@ -17,7 +17,7 @@ returns-in_err-rows g c =
     let handed = c.from_residual.ensures in
     let e = c.in_err-rows.field-0.0 in
     record {
-      tells = tells_not g.S.Store (ShowsSettings g.P.Places.shows g.P.Places.version) AreLegibleSettings (λ _. ⊤) c.args.conn.now c.office_rows.new.conn c.from_residual.result (λ _ o row. row ≡ o) e
+      tells = tells_not g.S.Store (RepresentsSettings g.P.Places.represents g.P.Places.version) AreLegibleSettings (λ _. ⊤) c.args.conn.now c.office_rows.new.conn c.from_residual.result (λ _ o row. row ≡ o) e
           (same_fault c.from_residual.result e handed.0 handed.1) c.in_err-rows.ensures.reads.cut
           (λ k o it may legible clean free. c.in_err-rows.ensures.faults g.P.Places.version o it.catalogue.office legible clean free);
     }
@@ -27,7 +27,7 @@ returns-in_default g c =
     let a = state g.S.Store c.args.conn.now in
     let b = state g.S.Store c.office_rows.new.conn in
     record {
-      tells = tells_not g.S.Store (ShowsSettings g.P.Places.shows g.P.Places.version) AreLegibleSettings (λ _. ⊤) c.args.conn.now c.office_rows.new.conn _ (λ _ o row. row ≡ o) fault.Schema
+      tells = tells_not g.S.Store (RepresentsSettings g.P.Places.represents g.P.Places.version) AreLegibleSettings (λ _. ⊤) c.args.conn.now c.office_rows.new.conn _ (λ _ o row. row ≡ o) fault.Schema
           refl (cut_after a b c.in_ok-rows.ensures.reads.looks.goes.on)
           (λ k o it may legible clean free. omega (arith, ap length (c.in_ok-rows.ensures.rows clean g.P.Places.version o it.catalogue.office), c.in_default.ensures.cases.0));
     }

@@ -4,7 +4,7 @@ use Rattle.sqlite.specs.Effect.{Database}
 use Rattle.sqlite.specs.Held.{state}
 use Rattle.isad_core.specs.declared.values.BoxKey.{BoxKey}
 use Rattle.catalogue_core.specs.Merging.{box_number}
-use Rattle.catalogue_rows.specs.Shows.{ShowsContainers}
+use Rattle.catalogue_statements.specs.Represents.{RepresentsContainers}
 use Rattle.office_tables.specs.Schema as tables
 use Rattle.office_tables.proofs.CallEnds.{same_fault, read_not, read_only}
 use Rattle.office_tables.proofs.Calls.{early, cut_then, looks_then}
@@ -27,7 +27,7 @@ loop-number-preserved g c =
         looks_then a b d invariant.1.0 last,
         λ clean boxes at bs is.
             let before = early b d _ last.goes.on.crash clean in
-            let there : ShowsContainers b.now.trees boxes = ap (λ (db : Database). db.trees tables.container.tree) (invariant.1.0.same before) ∙ at in
+            let there : RepresentsContainers b.now.trees boxes = ap (λ (db : Database). db.trees tables.container.tree) (invariant.1.0.same before) ∙ at in
             let low : i < length bs = subst (λ n. i < n) (ap length is ∙ length-map bs (box_number boxes)) c.loop-number-test.true in
             let number : get_or c.args.numbers.now i 0 ≡ box_number boxes (get_or bs i key) = ap (λ (l : List ℕ). get_or l i 0) is ∙ get_or-map (box_number boxes) bs i key 0 low in
             let same : key ≡ get_or bs i key = c.in_ok-container_of.ensures.key clean boxes there (get_or bs i key) number in
@@ -60,7 +60,7 @@ returns-in_err-container_of-clause-faults g c boxes at legible few bs known is c
     let looked = c.loop-number.invariant.1.0 in
     let before = early b d _ c.in_err-container_of.ensures.reads.cut.crash clean in
     let free_b : IsUnlimited b = still_unlimited a b looked.goes.on free in
-    let there : ShowsContainers b.now.trees boxes = ap (λ (db : Database). db.trees tables.container.tree) (looked.same before) ∙ at in
+    let there : RepresentsContainers b.now.trees boxes = ap (λ (db : Database). db.trees tables.container.tree) (looked.same before) ∙ at in
     let box = box_at boxes bs c.args.numbers.now c.loop-number.number-index known is c.loop-number-test.true in
     let why = c.in_err-container_of.ensures.faults boxes there legible few box.0 box.1 box.2 clean free_b in
     let whole = cause_then a b d looked.goes.on before _ why in

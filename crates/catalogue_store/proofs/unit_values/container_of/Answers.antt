@@ -1,7 +1,7 @@
 use Rattle.std.proofs.Common.{rules, arith, ℕ, ap, length, sym, ◌∙◌}
 use Rattle.std.proofs.lemmas.List.{length-map}
 use Rattle.isad_core.specs.declared.values.BoxKey.{BoxKey}
-use Rattle.catalogue_rows.specs.Rows.{counted_from}
+use Rattle.catalogue_statements.specs.Rows.{counted_from}
 use Rattle.catalogue_store.proofs.BoxReads.{found_is}
 use Rattle.catalogue_store.proofs.ValueCauses.{box_found, legible_counted, row_there}
 use Rattle.catalogue_store.proofs.unit_values.container_of.Goals as goal

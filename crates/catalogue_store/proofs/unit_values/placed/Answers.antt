@@ -5,7 +5,7 @@ use Rattle.sqlite_rules.specs.Lists.{Has}
 use Rattle.sqlite_rules.proofs.ListLemmas.{has_at}
 use Rattle.isad_core.specs.Texts.{Bytes}
 use Rattle.office_tables.proofs.Rows.{has_map}
-use Rattle.catalogue_rows.proofs.TextReads.{AreTold, cell_of, all_told, one_told}
+use Rattle.catalogue_statements.proofs.TextReads.{AreTold, cell_of, all_told, one_told}
 use Rattle.catalogue_store.proofs.ValueCauses.{place_there}
 use Rattle.catalogue_store.proofs.unit_values.placed.Goals as goal
 

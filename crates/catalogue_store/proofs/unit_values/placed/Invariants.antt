@@ -1,4 +1,4 @@
-use Rattle.catalogue_rows.proofs.TextReads.{AreTold}
+use Rattle.catalogue_statements.proofs.TextReads.{AreTold}
 use Rattle.catalogue_store.proofs.unit_values.placed.Given as goal
 
 abbrev pub invariant-loop-element : goal.invariant-loop-element

@@ -6,15 +6,15 @@ use Rattle.sqlite.specs.State.{HasCleanDisk}
 use Rattle.isad_core.specs.declared.values.Values.{«Values» as Description}
 use Rattle.sqlite_trees.proofs.ListLemmas.{map-map}
 use Rattle.office_tables.specs.Faults.{HasCause}
-use Rattle.catalogue_rows.specs.Adding.{cell_of}
-use Rattle.catalogue_rows.specs.Rows.{ElementRow}
-use Rattle.catalogue_rows.specs.Shows.{element_cells}
-use Rattle.catalogue_rows.specs.Values.{TellsTexts}
-use Rattle.catalogue_rows.specs.declared.answer.Element.{Element}
+use Rattle.catalogue_statements.specs.Adding.{cell_of}
+use Rattle.catalogue_statements.specs.Rows.{ElementRow}
+use Rattle.catalogue_statements.specs.Represents.{element_cells}
+use Rattle.catalogue_statements.specs.Values.{TellsTexts}
+use Rattle.catalogue_statements.specs.declared.row_types.Element.{Element}
 use Rattle.office_tables.proofs.CallEnds.{same_fault, tells_not}
 use Rattle.office_tables.proofs.Calls.{cut_looks, on_ok_from}
-use Rattle.catalogue_rows.proofs.CellReads.{cells_read, elements_in_order}
-use Rattle.catalogue_rows.proofs.TextReads.{cell_of as told_of}
+use Rattle.catalogue_statements.proofs.CellReads.{cells_read, elements_in_order}
+use Rattle.catalogue_statements.proofs.TextReads.{cell_of as told_of}
 use Rattle.catalogue_store.proofs.ValueCauses.{never_fails}
 use Rattle.catalogue_store.proofs.unit_values.texts_of.Goals as goal
 

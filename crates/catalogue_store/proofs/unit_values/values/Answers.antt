@@ -8,18 +8,18 @@ use Rattle.catalogue_core.specs.Describing.{KnowsItsContainers}
 use Rattle.catalogue_core.specs.Merging.{box_number}
 use Rattle.catalogue_core.specs.Units.{Unit}
 use Rattle.office_tables.specs.Schema as tables
-use Rattle.catalogue_rows.specs.Shows.{ShowsContainers}
-use Rattle.catalogue_rows.specs.Values.{ShowsValues, TellsTexts}
+use Rattle.catalogue_statements.specs.Represents.{RepresentsContainers}
+use Rattle.catalogue_statements.specs.Values.{RepresentsValues, TellsTexts}
 use Rattle.catalogue_store.specs.Valuing.{values_of}
 use Rattle.catalogue_store.specs.declared.unit_values.UnitValues.{UnitValues}
 use Rattle.office_tables.proofs.CallEnds.{same_fault, tells_not, tells_cut}
 use Rattle.office_tables.proofs.Calls.{early, looks_then}
-use Rattle.catalogue_rows.proofs.FoundUnits.{none_found, one_found}
+use Rattle.catalogue_statements.proofs.FoundUnits.{none_found, one_found}
 use Rattle.catalogue_store.proofs.MarkCauses.{legible_units}
 use Rattle.catalogue_store.proofs.UnitTold.{texts_told, containers_told, boxes_known}
 use Rattle.catalogue_store.proofs.ValueCauses.{legible_elements}
 use Rattle.office_tables.proofs.numbered.OwnNumbers.{still_numbered}
-use Rattle.catalogue_rows.specs.Rows.{housing_row}
+use Rattle.catalogue_statements.specs.Rows.{housing_row}
 use Rattle.catalogue_store.proofs.unit_values.values.Goals as goal
 
 pub returns-in_err-levels : goal.returns-in_err-levels
@@ -28,7 +28,7 @@ returns-in_err-levels g c =
     let handed = c.from_residual.ensures in
     let e = c.in_err-levels.field-0.0 in
     record {
-      tells = tells_not g.S.Store ShowsValues IsKept KnowsItsContainers c.args.conn.now c.levels_of.new.conn c.from_residual.result (λ _ k found. found ≡ values_of c.args.unit k) e
+      tells = tells_not g.S.Store RepresentsValues IsKept KnowsItsContainers c.args.conn.now c.levels_of.new.conn c.from_residual.result (λ _ k found. found ≡ values_of c.args.unit k) e
           (same_fault c.from_residual.result e handed.0 handed.1) c.in_err-levels.ensures.reads.cut
           (λ o k it knows kept clean free. let at = it.catalogue.units in c.in_err-levels.ensures.faults at.units at.rows (legible_units a.now.trees k at kept) clean free);
     }
@@ -57,7 +57,7 @@ returns-in_err-texts g c =
     let e = c.in_err-texts.field-0.0 in
     let looked = c.in_ok-levels.ensures.reads.looks in
     record {
-      tells = tells_cut g.S.Store ShowsValues IsKept KnowsItsContainers c.args.conn.now c.levels_of.new.conn c.texts_of.new.conn c.from_residual-in_err-texts.result (λ _ k found. found ≡ values_of c.args.unit k) e
+      tells = tells_cut g.S.Store RepresentsValues IsKept KnowsItsContainers c.args.conn.now c.levels_of.new.conn c.texts_of.new.conn c.from_residual-in_err-texts.result (λ _ k found. found ≡ values_of c.args.unit k) e
           (same_fault c.from_residual-in_err-texts.result e handed.0 handed.1) looked c.in_err-texts.ensures.tells.cut
           (λ o k it knows kept at_b clean free.
           let at = it.catalogue in
@@ -76,7 +76,7 @@ returns-in_err-containers g c =
     let e = c.in_err-containers.field-0.0 in
     let looked = looks_then a b d c.in_ok-levels.ensures.reads.looks c.in_ok-texts.ensures.tells.looks in
     record {
-      tells = tells_cut g.S.Store ShowsValues IsKept KnowsItsContainers c.args.conn.now c.texts_of.new.conn c.containers_of.new.conn c.from_residual-in_err-containers.result (λ _ k found. found ≡ values_of c.args.unit k) e
+      tells = tells_cut g.S.Store RepresentsValues IsKept KnowsItsContainers c.args.conn.now c.texts_of.new.conn c.containers_of.new.conn c.from_residual-in_err-containers.result (λ _ k found. found ≡ values_of c.args.unit k) e
           (same_fault c.from_residual-in_err-containers.result e handed.0 handed.1) looked c.in_err-containers.ensures.reads.cut
           (λ o k it knows kept at_d clean free.
           let at = it.catalogue.housings in
@@ -94,7 +94,7 @@ returns-in_err-boxes g c =
     let looked_d = looks_then a b d c.in_ok-levels.ensures.reads.looks c.in_ok-texts.ensures.tells.looks in
     let looked = looks_then a d e looked_d c.in_ok-containers.ensures.reads.looks in
     record {
-      tells = tells_cut g.S.Store ShowsValues IsKept KnowsItsContainers c.args.conn.now c.containers_of.new.conn c.boxes_of.new.conn c.from_residual-in_err-boxes.result (λ _ k found. found ≡ values_of c.args.unit k) fault
+      tells = tells_cut g.S.Store RepresentsValues IsKept KnowsItsContainers c.args.conn.now c.containers_of.new.conn c.boxes_of.new.conn c.from_residual-in_err-boxes.result (λ _ k found. found ≡ values_of c.args.unit k) fault
           (same_fault c.from_residual-in_err-boxes.result fault handed.0 handed.1) looked c.in_err-boxes.ensures.reads.cut
           (λ o k it knows kept at_e clean free.
           let at = it.catalogue in
@@ -105,7 +105,7 @@ returns-in_err-boxes g c =
           let u = found.0 in
           let housed = containers_told a.now o k it c.args.unit u found.1 found.2 in
           let numbers = c.in_ok-containers.ensures.numbers at_e at.housings.housings (still_numbered housing_row _ _ at.housings.housings (ap (λ (db : Database). db.trees tables.housing.tree) (looked_d.same at_d)) at.housings.rows) k.containers u.values housed in
-          let there : ShowsContainers e.now.trees k.containers = ap (λ (db : Database). db.trees tables.container.tree) (looked.same at_e) ∙ at.containers in
+          let there : RepresentsContainers e.now.trees k.containers = ap (λ (db : Database). db.trees tables.container.tree) (looked.same at_e) ∙ at.containers in
           c.in_err-boxes.ensures.faults k.containers there kept.boxes kept.few_boxes u.values.boxes (boxes_known a.now o k it c.args.unit u found.1 found.2 knows) (c.as_slice.ensures ∙ numbers) clean free);
     }
 
@@ -133,7 +133,7 @@ returns g c =
             let texts = c.in_ok-texts.ensures.tells.answers at_d u.values at.elements.elements told in
             let housed = containers_told a.now o k it c.args.unit u found.1 found.2 in
             let numbers = c.in_ok-containers.ensures.numbers at_e at.housings.housings (still_numbered housing_row _ _ at.housings.housings (ap (λ (db : Database). db.trees tables.housing.tree) (looked_d.same at_d)) at.housings.rows) k.containers u.values housed in
-            let there : ShowsContainers e.now.trees k.containers = ap (λ (db : Database). db.trees tables.container.tree) (looked_e.same at_e) ∙ at.containers in
+            let there : RepresentsContainers e.now.trees k.containers = ap (λ (db : Database). db.trees tables.container.tree) (looked_e.same at_e) ∙ at.containers in
             let boxes = c.in_ok-boxes.ensures.boxes clean k.containers there u.values.boxes (c.as_slice.ensures ∙ numbers) in
             rw (found.4, texts, boxes, numbers, found.3) refl;
         looks = looks_then a e h looked_e c.in_ok-boxes.ensures.reads.looks;

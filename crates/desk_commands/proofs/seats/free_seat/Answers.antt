@@ -1,10 +1,10 @@
 use Rattle.sqlite.specs.Held.{state}
 use Rattle.office_core.specs.declared.command.Command.TheVariants as command
-use Rattle.office_rows.specs.Reading.{tables}
-use Rattle.office_rows.proofs.LegibleRows.{desk_legible}
+use Rattle.state_encoding.specs.Reading.{tables}
+use Rattle.state_encoding.proofs.LegibleRows.{desk_legible}
 use Rattle.office_tables.proofs.CallEnds.{same_fault}
 use Rattle.office_tables.proofs.Calls.{office_of}
-use Rattle.shown_office.proofs.Doings.{does_not}
+use Rattle.refinement.proofs.Doings.{does_not}
 use Rattle.desk_commands.proofs.Seated.{leaves}
 use Rattle.desk_commands.proofs.seats.free_seat.Goals as goal
 
@@ -17,7 +17,7 @@ returns-in_err-set_seat g c =
     let b = state g.S.Store c.set_seat.new.conn in
     let made = c.in_err-set_seat.ensures.makes in
     let e = c.from_residual.ensures in
-    does_not g.P.Places.shows g.P.Places.version _ (command.LeaveSeat c.args.ticket) a b c.from_residual.result c.in_err-set_seat.field-0.0
+    does_not g.P.Places.represents g.P.Places.version _ (command.LeaveSeat c.args.ticket) a b c.from_residual.result c.in_err-set_seat.field-0.0
     (same_fault c.from_residual.result c.in_err-set_seat.field-0.0 e.0 e.1) made.cut
     (λ s sound so it clean free. made.faults tt (tables g.P.Places.version s).desk it.desk tt (desk_legible g.P.Places.version s sound) clean free)
 
@@ -27,8 +27,8 @@ returns g c =
     let b = state g.S.Store c.set_seat.new.conn in
     let made = c.in_ok-set_seat.ensures.makes in
     record {
-      steps = λ clean s sound so it. leaves s sound c.args.ticket g.P.Places.version g.P.Places.shows g.met.P.Places.shows_same a.now b.now it (made.goes.schema clean) (made.only clean) c.args.seat so
-          (made.shows_made clean tt (tables g.P.Places.version s).desk it.desk tt);
+      steps = λ clean s sound so it. leaves s sound c.args.ticket g.P.Places.version g.P.Places.represents g.met.P.Places.shows_same a.now b.now it (made.goes.schema clean) (made.only clean) c.args.seat so
+          (made.represents_updated clean tt (tables g.P.Places.version s).desk it.desk tt);
       goes = made.goes;
       cut = tt;
       faults = λ s sound so it clean free. tt;

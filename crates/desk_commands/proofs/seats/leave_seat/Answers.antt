@@ -1,15 +1,15 @@
 use Rattle.std.proofs.Common.{Err, ap, ◌∙◌}
 use Rattle.std.specs.Prelude.{option_map}
 use Rattle.sqlite.specs.Held.{state}
-use Rattle.desk_store.specs.declared.cards.ReaderCard.{ReaderCard}
+use Rattle.desk_store.specs.declared.reader_summary.ReaderCard.{ReaderCard}
 use Rattle.office_core.specs.declared.command.Command.TheVariants as command
-use Rattle.office_rows.specs.Reading.{tables}
-use Rattle.office_rows.proofs.LegibleRows.{desk_legible}
+use Rattle.state_encoding.specs.Reading.{tables}
+use Rattle.state_encoding.proofs.LegibleRows.{desk_legible}
 use Rattle.office_tables.proofs.CallEnds.{same_fault}
 use Rattle.office_tables.proofs.Calls.{office_of}
-use Rattle.shown_office.proofs.CardsShown.{sitter_shown}
-use Rattle.shown_office.proofs.CommandSteps.{refuses}
-use Rattle.shown_office.proofs.Doings.{does_after, does_not, does_refuse}
+use Rattle.refinement.proofs.CardsShown.{sitter_shown}
+use Rattle.refinement.proofs.CommandSteps.{refuses}
+use Rattle.refinement.proofs.Doings.{does_after, does_not, does_refuse}
 use Rattle.desk_commands.proofs.Seated.{may_leave, must_stay}
 use Rattle.desk_commands.proofs.seats.leave_seat.Goals as goal
 
@@ -22,7 +22,7 @@ returns-in_err-card g c =
     let b = state g.S.Store c.reader.new.conn in
     let told = c.in_err-card.ensures.tells in
     let e = c.from_residual.ensures in
-    does_not g.P.Places.shows g.P.Places.version _ (command.LeaveSeat c.args.ticket) a b c.from_residual.result c.in_err-card.field-0.0
+    does_not g.P.Places.represents g.P.Places.version _ (command.LeaveSeat c.args.ticket) a b c.from_residual.result c.in_err-card.field-0.0
     (same_fault c.from_residual.result c.in_err-card.field-0.0 e.0 e.1) told.cut
     (λ s sound so it clean free. told.faults tt (tables g.P.Places.version s).desk it.desk tt (desk_legible g.P.Places.version s sound) clean free)
 
@@ -32,7 +32,7 @@ returns-in-Ok g c =
     let b = state g.S.Store c.reader.new.conn in
     let d = state g.S.Store c.free_seat.new.conn in
     let told = c.in_ok-card.ensures.tells in
-    does_after g.P.Places.shows g.P.Places.version _ (command.LeaveSeat c.args.ticket) _ a b d c.free_seat.result told.looks
+    does_after g.P.Places.represents g.P.Places.version _ (command.LeaveSeat c.args.ticket) _ a b d c.free_seat.result told.looks
     (λ clean s sound so it. may_leave s sound c.args.ticket _ c.in-Ok.seat
     (c.as_ref.ensures.value ∙ c.reader_of.ensures ∙ ap (option_map (λ (k : ReaderCard). k.reader)) (told.answers clean tt (tables g.P.Places.version s).desk it.desk) ∙ sitter_shown g.P.Places.version s sound c.args.ticket c.args.today)
     c.in-Ok.ensures.refused c.in-Ok.ensures.seat)
@@ -43,8 +43,8 @@ returns g c =
     let a = state g.S.Store c.args.conn.now in
     let b = state g.S.Store c.reader.new.conn in
     let told = c.in_ok-card.ensures.tells in
-    does_refuse g.P.Places.shows g.P.Places.version _ (command.LeaveSeat c.args.ticket) a b (Err c.in-Err.why) told.looks
-    (λ clean s sound so it. refuses g.P.Places.shows g.P.Places.version s (command.LeaveSeat c.args.ticket) b.now c.in-Err.why
+    does_refuse g.P.Places.represents g.P.Places.version _ (command.LeaveSeat c.args.ticket) a b (Err c.in-Err.why) told.looks
+    (λ clean s sound so it. refuses g.P.Places.represents g.P.Places.version s (command.LeaveSeat c.args.ticket) b.now c.in-Err.why
     (must_stay s sound c.args.ticket _ c.in-Err.why
     (c.as_ref.ensures.value ∙ c.reader_of.ensures ∙ ap (option_map (λ (k : ReaderCard). k.reader)) (told.answers clean tt (tables g.P.Places.version s).desk it.desk) ∙ sitter_shown g.P.Places.version s sound c.args.ticket c.args.today)
     c.in-Err.ensures.refused))

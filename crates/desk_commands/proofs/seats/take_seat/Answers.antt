@@ -1,14 +1,14 @@
 use Rattle.std.proofs.Common.{ap, ◌∙◌}
 use Rattle.std.specs.Prelude.{option_map}
-use Rattle.desk_store.specs.declared.cards.ReaderCard.{ReaderCard}
+use Rattle.desk_store.specs.declared.reader_summary.ReaderCard.{ReaderCard}
 use Rattle.sqlite.specs.Held.{state}
 use Rattle.office_core.specs.declared.command.Command.TheVariants as command
-use Rattle.office_rows.specs.Reading.{tables}
-use Rattle.office_rows.proofs.LegibleRows.{desk_legible}
+use Rattle.state_encoding.specs.Reading.{tables}
+use Rattle.state_encoding.proofs.LegibleRows.{desk_legible}
 use Rattle.office_tables.proofs.CallEnds.{same_fault}
 use Rattle.office_tables.proofs.Calls.{office_of}
-use Rattle.shown_office.proofs.CardsShown.{sitter_shown}
-use Rattle.shown_office.proofs.Doings.{does_after, does_not}
+use Rattle.refinement.proofs.CardsShown.{sitter_shown}
+use Rattle.refinement.proofs.Doings.{does_after, does_not}
 use Rattle.desk_commands.proofs.seats.take_seat.Goals as goal
 
 pub reader-requires : goal.reader-requires
@@ -20,7 +20,7 @@ returns-in_err-card g c =
     let b = state g.S.Store c.reader.new.conn in
     let told = c.in_err-card.ensures.tells in
     let e = c.from_residual.ensures in
-    does_not g.P.Places.shows g.P.Places.version _ (command.TakeSeat c.args.ticket) a b c.from_residual.result c.in_err-card.field-0.0
+    does_not g.P.Places.represents g.P.Places.version _ (command.TakeSeat c.args.ticket) a b c.from_residual.result c.in_err-card.field-0.0
     (same_fault c.from_residual.result c.in_err-card.field-0.0 e.0 e.1) told.cut
     (λ s sound so it clean free. told.faults tt (tables g.P.Places.version s).desk it.desk tt (desk_legible g.P.Places.version s sound) clean free)
 
@@ -30,7 +30,7 @@ returns g c =
     let b = state g.S.Store c.reader.new.conn in
     let d = state g.S.Store c.sit_down.new.conn in
     let told = c.in_ok-card.ensures.tells in
-    does_after g.P.Places.shows g.P.Places.version _ (command.TakeSeat c.args.ticket) _ a b d c.sit_down.result told.looks
+    does_after g.P.Places.represents g.P.Places.version _ (command.TakeSeat c.args.ticket) _ a b d c.sit_down.result told.looks
     (λ clean s sound so it. (
       so.0,
       so.1,

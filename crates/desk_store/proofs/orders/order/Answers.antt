@@ -6,7 +6,7 @@ use Rattle.desk_core.specs.DeskRows.{OrderRow}
 use Rattle.office_tables.proofs.Calls.{cut_after, looks_nowhere, still_office}
 use Rattle.office_tables.proofs.CallEnds.{same_fault}
 use Rattle.desk_store.specs.Orders.{order_with, IsThere}
-use Rattle.desk_store.specs.Shows.{ShowsDesk, ShowsRoom, IsLegible}
+use Rattle.desk_store.specs.Represents.{RepresentsDesk, RepresentsDeskAlone, IsLegible}
 use Rattle.desk_store.proofs.CardCalls.{unknown}
 use Rattle.desk_store.proofs.OrderReads.{entry_found, told_none, told_there, legible_there}
 use Rattle.desk_store.proofs.orders.order.Goals as goal
@@ -14,14 +14,14 @@ use Rattle.desk_store.proofs.ToldCalls.{ends_not, ends_well}
 
 pub returns-then-order-gt-MOST_ORDERS-clause-tells : goal.returns-then-order-gt-MOST_ORDERS-clause-tells
 returns-then-order-gt-MOST_ORDERS-clause-tells g c =
-    ends_well ShowsRoom IsLegible (λ _. ⊤) g.S.Store c.args.conn.now c.args.conn.now c.args.conn.now _ (looks_nowhere (state g.S.Store c.args.conn.now) c.requires.inside) None (λ clean d shown.
+    ends_well RepresentsDeskAlone IsLegible (λ _. ⊤) g.S.Store c.args.conn.now c.args.conn.now c.args.conn.now _ (looks_nowhere (state g.S.Store c.args.conn.now) c.requires.inside) None (λ clean d shown.
     let few = shown.few_orders in
     let over = c.if-order-gt-MOST_ORDERS.true in
     subst (λ row. IsThere row None) (sym (unknown (λ (o : OrderRow). o.id) c.args.order d.orders shown.order_numbers (omega (arith, few, over)))) refl)
 
 pub returns-in_default-clause-tells : goal.returns-in_default-clause-tells
 returns-in_default-clause-tells g c =
-    ends_well ShowsRoom IsLegible (λ _. ⊤) g.S.Store c.args.conn.now c.args.conn.now c.orders_with.new.conn _ c.in_ok-found.ensures.reads.looks None (λ clean d shown.
+    ends_well RepresentsDeskAlone IsLegible (λ _. ⊤) g.S.Store c.args.conn.now c.args.conn.now c.orders_with.new.conn _ c.in_ok-found.ensures.reads.looks None (λ clean d shown.
     let first = c.copied.ensures ∙ c.first.ensures.value ∙ ap (λ l. slice_get l 0) c.deref.ensures.value in
     let there = entry_found c.args.order d.orders c.in_ok-found.found.items (c.in_ok-found.ensures.rows clean d.orders shown.orders shown.order_numbers) in
     told_none (order_with c.args.order d) (sym there ∙ sym first ∙ c.in_default.is))
@@ -32,10 +32,10 @@ returns-in_err-placed-clause-tells g c =
     let b = state g.S.Store c.orders_with.new.conn in
     let looked = c.in_ok-found.ensures.reads.looks in
     let e = c.from_residual-in_err-placed.ensures in
-    ends_not ShowsRoom IsLegible (λ _. ⊤) g.S.Store c.args.conn.now c.orders_with.new.conn c.orders_with.new.conn _ looked
+    ends_not RepresentsDeskAlone IsLegible (λ _. ⊤) g.S.Store c.args.conn.now c.orders_with.new.conn c.orders_with.new.conn _ looked
     c.in_err-placed.field-0.0 (cut_after b b (looks_nowhere b (still_office a b c.requires.inside looked.goes)).goes.on)
     (λ d shown may kept clean free.
-    let before = subst (λ (db : Database). ShowsDesk db.trees d) (looked.same clean) shown in
+    let before = subst (λ (db : Database). RepresentsDesk db.trees d) (looked.same clean) shown in
     let first = c.copied.ensures ∙ c.first.ensures.value ∙ ap (λ l. slice_get l 0) c.deref.ensures.value in
     let there = entry_found c.args.order d.orders c.in_ok-found.found.items (c.in_ok-found.ensures.rows clean d.orders before.orders before.order_numbers) in
     let some = legible_there (λ (o : OrderRow). nat_eq c.args.order o.id) d.orders kept.orders c.in-Some.entry (sym there ∙ sym first ∙ c.in-Some.is) in
@@ -44,7 +44,7 @@ returns-in_err-placed-clause-tells g c =
 
 pub returns-clause-tells : goal.returns-clause-tells
 returns-clause-tells g c =
-    ends_well ShowsRoom IsLegible (λ _. ⊤) g.S.Store c.args.conn.now c.args.conn.now c.orders_with.new.conn _ c.in_ok-found.ensures.reads.looks _ (λ clean d shown.
+    ends_well RepresentsDeskAlone IsLegible (λ _. ⊤) g.S.Store c.args.conn.now c.args.conn.now c.orders_with.new.conn _ c.in_ok-found.ensures.reads.looks _ (λ clean d shown.
     let first = c.copied.ensures ∙ c.first.ensures.value ∙ ap (λ l. slice_get l 0) c.deref.ensures.value in
     let there = entry_found c.args.order d.orders c.in_ok-found.found.items (c.in_ok-found.ensures.rows clean d.orders shown.orders shown.order_numbers) in
     told_there (order_with c.args.order d) c.in-Some.entry c.in_ok-placed.placed (sym there ∙ sym first ∙ c.in-Some.is)

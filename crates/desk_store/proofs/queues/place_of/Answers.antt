@@ -6,7 +6,7 @@ use Rattle.desk_core.specs.DeskRows.{HoldingRow}
 use Rattle.std.specs.Prelude.{nat_eq}
 use Rattle.office_tables.proofs.Calls.{cut_looks, on_ok_from}
 use Rattle.desk_store.specs.Orders.{holding_of}
-use Rattle.desk_store.specs.Shows.{ShowsRoom, IsLegible}
+use Rattle.desk_store.specs.Represents.{RepresentsDeskAlone, IsLegible}
 use Rattle.desk_store.proofs.PlaceRows.{at_entry, at_shelf, entry_told, legible_place}
 use Rattle.desk_store.proofs.ToldCalls.{never_fails, ends_well}
 use Rattle.desk_store.proofs.queues.place_of.Goals as goal
@@ -35,7 +35,7 @@ pub returns : goal.returns
 returns g c =
     let first = c.in-None.ensures.value ∙ ap (λ l. slice_get l 0) c.deref.ensures.value in
     record {
-      tells = ends_well ShowsRoom IsLegible (λ _. ⊤) g.S.Store c.args.conn.now c.args.conn.now c.places_with.new.conn _ c.in_ok-found.ensures.reads.looks _ (λ clean d shown.
+      tells = ends_well RepresentsDeskAlone IsLegible (λ _. ⊤) g.S.Store c.args.conn.now c.args.conn.now c.places_with.new.conn _ c.in_ok-found.ensures.reads.looks _ (λ clean d shown.
           let there = entry_told c.args.container d.holdings c.in_ok-found.found.items (c.in_ok-found.ensures.rows clean d.holdings shown.holdings shown.holdings_rise) in
           at_shelf (holding_of c.args.container d) (sym there ∙ sym first));
     }

@@ -31,8 +31,8 @@ returns-clause-cut g c =
     let d = state g.S.Store c.insert_lines.new.conn in
     on_err_then c.insert_lines.result _ _ (cut_then a b d c.in_ok-insert_run.ensures.leaves.goes.on) c.insert_lines.ensures.cut
 
-pub returns-clause-shows : goal.returns-clause-shows
-returns-clause-shows g c clean desk shown is =
+pub returns-clause-represents : goal.returns-clause-represents
+returns-clause-represents g c clean desk shown is =
     let a = state g.S.Store c.args.conn.now in
     let b = state g.S.Store c.insert_run.new.conn in
     let d = state g.S.Store c.insert_lines.new.conn in

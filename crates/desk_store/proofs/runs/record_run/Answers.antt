@@ -1,10 +1,10 @@
 use Rattle.std.proofs.Common.{ℕ, Option, Result, [], ◌∷◌, sym, subst, ◌∙◌}
-use Rattle.office_tables.specs.Calls.{Makes}
+use Rattle.office_tables.specs.Calls.{Updates}
 use Rattle.office_tables.specs.declared.fault.StoreFault.{StoreFault}
 use Rattle.office_tables.specs.Schema as tables
 use Rattle.office_tables.proofs.CallEnds.{same_fault}
 use Rattle.desk_store.specs.Runs.{next_run, with_run, TakesEachOnce}
-use Rattle.desk_store.specs.Shows.{ShowsRoom, IsLegible}
+use Rattle.desk_store.specs.Represents.{RepresentsDeskAlone, IsLegible}
 use Rattle.desk_store.proofs.RunCalls.{recorded, not_recorded}
 use Rattle.desk_store.proofs.runs.record_run.Goals as goal
 
@@ -13,10 +13,10 @@ returns-in_err-insert_all-clause-makes g c =
     let whole = not_recorded g.S.Store c.args.conn.now c.next_number.new.conn c.insert_all.new.conn c.args.on c.args.taken.now c.in-Some.run' c.in_ok-run.ensures.reads.looks
     (λ clean d shown. sym c.in-Some.is ∙ c.in_ok-run.ensures.number clean d shown) c.in_err-insert_all.field-0.0 c.in_err-insert_all.ensures.cut c.in_err-insert_all.ensures.faults in
     let e = c.from_residual-in_err-insert_all.ensures in
-    subst (λ (r : Result (Option ℕ) StoreFault). Makes g.S.Store ShowsRoom IsLegible c.args.conn.now c.insert_all.new.conn r (λ _. TakesEachOnce c.args.taken.now) (λ d. with_run (next_run d) c.args.on c.args.taken.now d) (tables.run.tree ∷ tables.run_line.tree ∷ []))
+    subst (λ (r : Result (Option ℕ) StoreFault). Updates g.S.Store RepresentsDeskAlone IsLegible c.args.conn.now c.insert_all.new.conn r (λ _. TakesEachOnce c.args.taken.now) (λ d. with_run (next_run d) c.args.on c.args.taken.now d) (tables.run.tree ∷ tables.run_line.tree ∷ []))
     (sym (same_fault c.from_residual-in_err-insert_all.result c.in_err-insert_all.field-0.0 e.0 e.1)) whole
 
 pub returns-clause-makes : goal.returns-clause-makes
 returns-clause-makes g c =
     recorded g.S.Store c.args.conn.now c.next_number.new.conn c.insert_all.new.conn c.args.on c.args.taken.now c.in-Some.run' c.in_ok-run.ensures.reads.looks
-    (λ clean d shown. sym c.in-Some.is ∙ c.in_ok-run.ensures.number clean d shown) c.in_ok-insert_all.ensures.goes c.in_ok-insert_all.ensures.shows c.in_ok-insert_all.ensures.only
+    (λ clean d shown. sym c.in-Some.is ∙ c.in_ok-run.ensures.number clean d shown) c.in_ok-insert_all.ensures.goes c.in_ok-insert_all.ensures.represents c.in_ok-insert_all.ensures.only

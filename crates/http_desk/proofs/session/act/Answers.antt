@@ -11,7 +11,7 @@ use Rattle.http_desk.proofs.session.act.Goals as goal
 pub returns-in-Err-clause-turn : goal.returns-in-Err-clause-turn
 returns-in-Err-clause-turn g c =
     let items = c.args.buffer.now.items in
-    refused g.M.Machine.shows g.M.Machine.is_intact c.args.number _ _ items (leave_if c.args.head.waits) items (Fails c.args.head.waits false) false Busy _ _ _ c.refuse.ensures.sent
+    refused g.M.Machine.represents g.M.Machine.is_intact c.args.number _ _ items (leave_if c.args.head.waits) items (Fails c.args.head.waits false) false Busy _ _ _ c.refuse.ensures.sent
     (may_fail_after items (take c.args.size items) (drop c.args.size items) (request_in (take c.args.size items) c.args.head) c.requires.accepted) tt (λ s. (refl, refl)) c.in-Err.ensures.busy
 
 pub returns-then-closing-clause-turn : goal.returns-then-closing-clause-turn
@@ -20,7 +20,7 @@ returns-then-closing-clause-turn g c =
     let size = c.args.size in
     let n = c.body_len.result in
     let answers = rw (c.deref-2.ensures.value, c.deref-3.ensures.value) at c.in-Ok.ensures.answers in
-    acted_closing g.M.Machine.shows g.M.Machine.is_intact c.args.number _ _ items size n (request_in (take size items) c.args.head) (answer_in c.in-Ok.answer) c.is_bare-bare.result c.remove_front.new.buffer.items _ _ c.send_answer-sent.result _
+    acted_closing g.M.Machine.represents g.M.Machine.is_intact c.args.number _ _ items size n (request_in (take size items) c.args.head) (answer_in c.in-Ok.answer) c.is_bare-bare.result c.remove_front.new.buffer.items _ _ c.send_answer-sent.result _
     c.requires.accepted (subst (λ k. size + k ≤ length items) (sym c.body_len.ensures) c.requires.whole) c.body_len.ensures c.remove_front.ensures
     (rw c.deref.ensures.value at c.is_bare-bare.ensures) (sym c.is_closing-closing.ensures ∙ c.if-closing.true) c.after.ensures
     (rw c.if-closing.true at c.send_answer-sent.ensures.sends) answers
@@ -31,7 +31,7 @@ returns-clause-turn g c =
     let size = c.args.size in
     let n = c.body_len.result in
     let answers = rw (c.deref-2.ensures.value, c.deref-3.ensures.value) at c.in-Ok.ensures.answers in
-    acted_open g.M.Machine.shows g.M.Machine.is_intact c.args.number _ _ items size n (request_in (take size items) c.args.head) (answer_in c.in-Ok.answer) c.is_bare-bare.result c.remove_front.new.buffer.items _ _ c.send_answer-sent.result _
+    acted_open g.M.Machine.represents g.M.Machine.is_intact c.args.number _ _ items size n (request_in (take size items) c.args.head) (answer_in c.in-Ok.answer) c.is_bare-bare.result c.remove_front.new.buffer.items _ _ c.send_answer-sent.result _
     c.requires.accepted (subst (λ k. size + k ≤ length items) (sym c.body_len.ensures) c.requires.whole) c.body_len.ensures c.remove_front.ensures
     (rw c.deref.ensures.value at c.is_bare-bare.ensures) (sym c.is_closing-closing.ensures ∙ c.if-closing.false) c.after-else-closing.ensures
     (rw c.if-closing.false at c.send_answer-sent.ensures.sends) answers

@@ -25,7 +25,7 @@ returns-in-Refused-clause-turn g c =
     let bare = c.in-Refused.bare in
     let j = subst (λ v. Judges (take c.in-Whole.size c.deref.result.now) (verdict_in (take c.in-Whole.size c.deref.result.now) v)) c.in-Refused.is c.judge.ensures.judged in
     let head = head_found items c.in-Whole.size (heads.Refused status bare) found within (subst (λ b. Judges (take c.in-Whole.size b) (heads.Refused status bare)) c.deref.ensures.value j) in
-    let (written, appended, through) = refused g.M.Machine.shows g.M.Machine.is_intact c.args.number c.args.office.now c.args.office.now (c.args.buffer.now.items ++ got) [] items (Refuses status bare) bare status _ _ _ c.refuse.ensures.sent
+    let (written, appended, through) = refused g.M.Machine.represents g.M.Machine.is_intact c.args.number c.args.office.now c.args.office.now (c.args.buffer.now.items ++ got) [] items (Refuses status bare) bare status _ _ _ c.refuse.ensures.sent
     (subst (λ i. (block more : List ℕ) × HasHead i block (heads.Refused status bare) more) e (take c.in-Whole.size items, drop c.in-Whole.size items, head)) tt (λ s. (refl, refl)) (λ i s h. h) in
     (got, written, consumed, appended, through)
 
@@ -38,13 +38,13 @@ returns-in-Accepted-clause-turn g c =
       written,
       Consumes-trans _ _ _ _ _ consumed consumed2,
       appended,
-      subst (λ input. Through g.M.Machine.shows g.M.Machine.is_intact c.args.office.now c.receive.new.office (λ s t. Turn c.args.number s input c.receive.result written t c.receive.new.buffer.items)) (ap (λ l. l ++ more) e ∙ append_assoc items got more) through,
+      subst (λ input. Through g.M.Machine.represents g.M.Machine.is_intact c.args.office.now c.receive.new.office (λ s t. Turn c.args.number s input c.receive.result written t c.receive.new.buffer.items)) (ap (λ l. l ++ more) e ∙ append_assoc items got more) through,
     )
 
 pub returns-in-TooLong-clause-turn : goal.returns-in-TooLong-clause-turn
 returns-in-TooLong-clause-turn g c =
     let (got, consumed, e) = c.gather_head.ensures.got in
-    let (written, appended, through) = refused g.M.Machine.shows g.M.Machine.is_intact c.args.number c.args.office.now c.args.office.now (c.args.buffer.now.items ++ got) [] c.gather_head.new.buffer.items NoHead false BadRequest _ _ _ c.refuse-in-TooLong.ensures.sent
+    let (written, appended, through) = refused g.M.Machine.represents g.M.Machine.is_intact c.args.number c.args.office.now c.args.office.now (c.args.buffer.now.items ++ got) [] c.gather_head.new.buffer.items NoHead false BadRequest _ _ _ c.refuse-in-TooLong.ensures.sent
     (subst IsTooLong e c.in-TooLong.ensures.found) tt (λ s. (refl, refl)) (λ i s h. h) in
     (got, written, consumed, appended, through)
 
@@ -71,6 +71,6 @@ returns-in-Bound-clause-turn g c =
 pub returns-in-NoMemory-clause-turn : goal.returns-in-NoMemory-clause-turn
 returns-in-NoMemory-clause-turn g c =
     let (got, consumed, e) = c.gather_head.ensures.got in
-    let (written, appended, through) = refused g.M.Machine.shows g.M.Machine.is_intact c.args.number c.args.office.now c.args.office.now (c.args.buffer.now.items ++ got) [] c.gather_head.new.buffer.items (Fails false false) false Busy _ _ _ c.refuse-in-NoMemory.ensures.sent
+    let (written, appended, through) = refused g.M.Machine.represents g.M.Machine.is_intact c.args.number c.args.office.now c.args.office.now (c.args.buffer.now.items ++ got) [] c.gather_head.new.buffer.items (Fails false false) false Busy _ _ _ c.refuse-in-NoMemory.ensures.sent
     (may_fail (c.args.buffer.now.items ++ got)) tt (λ s. (refl, refl)) (λ i s h. h) in
     (got, written, consumed, appended, through)

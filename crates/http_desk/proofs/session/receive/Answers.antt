@@ -7,12 +7,12 @@ use Rattle.http_desk.specs.Messages.{HasHead, Fails}
 use Rattle.http_desk.specs.Session.{leave_if}
 use Rattle.http_desk.specs.Talking.{Turn, Through, after_sending}
 use Rattle.http_messages.specs.declared.status.Status.TheVariants.{Busy}
-use Rattle.http_desk.specs.declared.ended.Ended.TheVariants.{Closed, Cut, ReadFault, Bound}
+use Rattle.http_desk.specs.declared.session_end.Ended.TheVariants.{Closed, Cut, ReadFault, Bound}
 use Rattle.http_desk.proofs.Turns.{leave_broken, front_same, head_grown, head_more, stops_in_body, bound_here, may_fail_after, refused}
-use Rattle.http_desk.specs.declared.ended.Next.{Next}
-use Rattle.http_desk.specs.declared.ended.Next.TheVariants.{Ends}
-use Rattle.http_desk.specs.declared.sending.Sent.{Sent}
-use Rattle.http_desk.specs.declared.sending.Sent.TheVariants.{All as SendAll, Failed as SendFailed, Bound as SendBound}
+use Rattle.http_desk.specs.declared.session_end.Next.{Next}
+use Rattle.http_desk.specs.declared.session_end.Next.TheVariants.{Ends}
+use Rattle.http_desk.specs.declared.output.Sent.{Sent}
+use Rattle.http_desk.specs.declared.output.Sent.TheVariants.{All as SendAll, Failed as SendFailed, Bound as SendBound}
 use Rattle.http_desk.proofs.Faults.{reads_told, writes_told}
 use Rattle.http_desk.proofs.session.receive.Goals as goal
 
@@ -28,7 +28,7 @@ returns-in_default g c =
     let size = c.args.size in
     let block = take size items in
     let (turn, at_end) =
-    leave_broken g.M.Machine.shows g.M.Machine.is_intact c.args.number c.args.office.now items block
+    leave_broken g.M.Machine.represents g.M.Machine.is_intact c.args.number c.args.office.now items block
     (drop size items) (request_in block c.args.head) (g.R.Read.remaining c.args.reader.now) _ _
     c.give_leave.result _ c.after.result c.in_default.not-All c.after.ensures c.requires.accepted
     c.give_leave.ensures.sends in
@@ -60,7 +60,7 @@ returns-in-Whole-clause-turn g c =
       leave_if c.args.head.waits ++ written,
       consumed,
       Appends-trans _ _ _ _ _ c.in-All.ensures.sends appended,
-      subst (λ input. Through g.M.Machine.shows g.M.Machine.is_intact c.args.office.now c.act.new.office (λ s t. Turn c.args.number s input c.act.result (leave_if c.args.head.waits ++ written) t c.act.new.buffer.items)) e through,
+      subst (λ input. Through g.M.Machine.represents g.M.Machine.is_intact c.args.office.now c.act.new.office (λ s t. Turn c.args.number s input c.act.result (leave_if c.args.head.waits ++ written) t c.act.new.buffer.items)) e through,
     )
 
 pub returns-in-Cut-clause-turn : goal.returns-in-Cut-clause-turn
@@ -108,6 +108,6 @@ returns-in-NoMemory-clause-turn g c =
     let size = c.args.size in
     let (got, consumed, e) = c.gather_body.ensures.got in
     let there = head_more items (take size items) (Accepted (request_in (take size items) c.args.head)) (drop size items) got c.requires.accepted in
-    let (written, appended, through) = refused g.M.Machine.shows g.M.Machine.is_intact c.args.number c.args.office.now c.args.office.now (items ++ got) (leave_if c.args.head.waits) c.gather_body.new.buffer.items (Fails c.args.head.waits false) false Busy _ _ _ c.refuse.ensures.sent
+    let (written, appended, through) = refused g.M.Machine.represents g.M.Machine.is_intact c.args.number c.args.office.now c.args.office.now (items ++ got) (leave_if c.args.head.waits) c.gather_body.new.buffer.items (Fails c.args.head.waits false) false Busy _ _ _ c.refuse.ensures.sent
     (may_fail_after (items ++ got) (take size items) (drop size items ++ got) (request_in (take size items) c.args.head) there) tt (λ s. (refl, refl)) (λ i s h. h) in
     (got, leave_if c.args.head.waits ++ written, consumed, Appends-trans _ _ _ _ _ c.in-All.ensures.sends appended, through)

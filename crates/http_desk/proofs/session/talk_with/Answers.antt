@@ -1,20 +1,20 @@
 use Rattle.std.proofs.Common.{◌≡◌, arith, subst, refl, ap, ◌∙◌}
 use Rattle.std.specs.Prelude.{◌||◌}
 use Rattle.http_desk.specs.Quiet.{is_read_fault, is_write_fault}
-use Rattle.http_desk.specs.declared.ended.Ended.TheVariants.{Closed}
+use Rattle.http_desk.specs.declared.session_end.Ended.TheVariants.{Closed}
 use Rattle.http_desk.proofs.Sessions.{Carried, carried_none, carried_on, carried_to_end, carried_over}
 use Rattle.http_desk.proofs.session.talk_with.Goals as goal
 
 pub loop-number-init : goal.loop-number-init
 loop-number-init g c = record {
-  carried = carried_none g.M.Machine.shows g.M.Machine.is_intact _ _ c.args.office.now c.new-buffer.result.items c.new-buffer.ensures.items;
+  carried = carried_none g.M.Machine.represents g.M.Machine.is_intact _ _ c.args.office.now c.new-buffer.result.items c.new-buffer.ensures.items;
   reads = refl;
   writes = refl;
 }
 
 pub loop-number-preserved : goal.loop-number-preserved
 loop-number-preserved g c = record {
-  carried = carried_on g.M.Machine.shows g.M.Machine.is_intact _ _ _ _ _ _ c.args.office.now c.loop-number.office c.exchange.new.office c.loop-number.number c.loop-number.buffer.items _ _ c.in-Goes.is c.exchange.ensures.intact c.loop-number.invariant.carried c.exchange.ensures.turn;
+  carried = carried_on g.M.Machine.represents g.M.Machine.is_intact _ _ _ _ _ _ c.args.office.now c.loop-number.office c.exchange.new.office c.loop-number.number c.loop-number.buffer.items _ _ c.in-Goes.is c.exchange.ensures.intact c.loop-number.invariant.carried c.exchange.ensures.turn;
   reads = c.exchange.ensures.reads ∙ ap (λ n. is_read_fault n || c.loop-number.calls.read_failed) c.in-Goes.is ∙ c.loop-number.invariant.reads;
   writes = c.exchange.ensures.writes ∙ ap (λ n. is_write_fault n || c.loop-number.calls.write_failed) c.in-Goes.is ∙ c.loop-number.invariant.writes;
 }
@@ -29,7 +29,7 @@ returns-in-Ends-clause-writes g c =
 
 pub returns-in-Ends-clause-session : goal.returns-in-Ends-clause-session
 returns-in-Ends-clause-session g c =
-    carried_to_end g.M.Machine.shows g.M.Machine.is_intact _ _ _ _ _ _ c.args.office.now c.loop-number.office c.exchange.new.office c.loop-number.number c.loop-number.buffer.items _ _ c.in-Ends.ended c.in-Ends.is c.exchange.ensures.intact c.loop-number.invariant.carried c.exchange.ensures.turn
+    carried_to_end g.M.Machine.represents g.M.Machine.is_intact _ _ _ _ _ _ c.args.office.now c.loop-number.office c.exchange.new.office c.loop-number.number c.loop-number.buffer.items _ _ c.in-Ends.ended c.in-Ends.is c.exchange.ensures.intact c.loop-number.invariant.carried c.exchange.ensures.turn
 
 pub returns-in-Ends-clause-intact : goal.returns-in-Ends-clause-intact
 returns-in-Ends-clause-intact g c = λ i. c.loop-number.invariant.carried.4 (c.exchange.ensures.intact i)
@@ -37,5 +37,5 @@ returns-in-Ends-clause-intact g c = λ i. c.loop-number.invariant.carried.4 (c.e
 pub returns-clause-session : goal.returns-clause-session
 returns-clause-session g c =
     let last : c.loop-number.number ≡ 10001 = omega arith in
-    carried_over g.M.Machine.shows g.M.Machine.is_intact _ _ _ _ c.args.office.now c.loop-number.office c.loop-number.buffer.items Closed
-    (subst (λ n. Carried g.M.Machine.shows g.M.Machine.is_intact (g.R.Read.remaining c.args.reader.now) (g.R.Read.remaining c.loop-number.reader) (g.W.Write.contents c.args.writer.now) (g.W.Write.contents c.loop-number.writer) c.args.office.now c.loop-number.office n c.loop-number.buffer.items) last c.loop-number.invariant.carried)
+    carried_over g.M.Machine.represents g.M.Machine.is_intact _ _ _ _ c.args.office.now c.loop-number.office c.loop-number.buffer.items Closed
+    (subst (λ n. Carried g.M.Machine.represents g.M.Machine.is_intact (g.R.Read.remaining c.args.reader.now) (g.R.Read.remaining c.loop-number.reader) (g.W.Write.contents c.args.writer.now) (g.W.Write.contents c.loop-number.writer) c.args.office.now c.loop-number.office n c.loop-number.buffer.items) last c.loop-number.invariant.carried)

@@ -1,0 +1,74 @@
+-- Tables against which there is none of the causes 1 to 9: what is told of the state that they show is told of their rows.
+use Rattle.std.proofs.Common.{◌≡◌, ℕ, Bool, Some, Result, Ok, Err, IsTrue, sym, ap, subst}
+use Rattle.std.specs.Prelude.{⊤, IfOk}
+use Rattle.sqlite.specs.Held.{Held, state}
+use Rattle.sqlite.specs.State.{State, HasCleanDisk, IsLive}
+use Rattle.sqlite.specs.Tree.{Trees}
+use Rattle.sqlite_trees.specs.declared.store.Store as store
+use Rattle.tree_core.specs.Forest.{Forest}
+use Rattle.tree_core.specs.Versions.{Version}
+use Rattle.state_encoding.specs.Causes.{day_is_broken}
+use Rattle.state_encoding.specs.CellCauses.{rows_in}
+use Rattle.office_tables.specs.Asking.{Reads}
+use Rattle.office_tables.specs.Calls.{Answers}
+use Rattle.office_tables.specs.Faults.{FaultsHaveCause}
+use Rattle.office_tables.specs.Step.{InTransaction, LeavesUnchanged}
+use Rattle.office_tables.specs.declared.fault.StoreFault.{StoreFault}
+use Rattle.office_tables.proofs.Calls.{early}
+use Rattle.refinement.specs.DayRules.{breaks_day_rules}
+use Rattle.refinement.specs.Judging.{CanBeJudged, RepresentsWhole}
+use Rattle.refinement.proofs.Tellings.{looked_crash}
+use Rattle.adoption.specs.Catalogue.{said}
+use Rattle.adoption.specs.Found.{AreGoodTables}
+use Rattle.adoption.specs.Tables.{GoodTablesShowTheirState}
+use Rattle.adoption.specs.Causes.{HasNoEarlierCause}
+use Rattle.adoption.specs.OwnRows.{own_row_of}
+use Rattle.adoption.specs.WholeTables.{AreWholeTables}
+use Rattle.adoption.specs.declared.own_row.OwnRow.{OwnRow}
+use Rattle.adoption.proofs.CauseLemmas.{own_row_is}
+
+if_ok_then : {X E : Type 0} (r : Result X E) (P Q : X → Type 0) → ((x : X) → P x → Q x) → IfOk r P → IfOk r Q
+if_ok_then (Ok x) P Q f h = f x h
+if_ok_then (Err e) P Q f h = tt
+
+-- what was open still is
+pub opened_then : (a b : State) → LeavesUnchanged a b → HasCleanDisk b → IsTrue a.is_open → IsTrue b.is_open
+opened_then a b looked clean opened = subst IsTrue (sym (looked.goes.on.within clean).opened) opened
+
+module _ (places : Trees → Forest ℕ → Type 0) (v : Version) {S : Type 0} (g : store.Ghosts S) (before after : Held S) (r : Result Bool StoreFault) (own : OwnRow) where
+  abbrev old : State
+  old = state g before
+
+  abbrev new : State
+  new = state g after
+
+  -- what is told where the tables show a state
+  abbrev pub TellsTheDay : Type 0
+  TellsTheDay = Answers g (RepresentsWhole places v) CanBeJudged before after r (λ _. ⊤) (λ _ s broken. CanBeJudged s → own.today ≡ s.day → own.limits.hands ≡ s.settings.hands → broken ≡ breaks_day_rules s)
+
+  pub day_read : TellsTheDay → Reads old new r
+  day_read told = record { crash = looked_crash r old new told.looks told.cut; looks = told.looks; cut = told.cut }
+
+  module _ (law : GoodTablesShowTheirState places v old.now) (inside : InTransaction v old) (live : IsLive old) (told : TellsTheDay) (opened : IsTrue old.is_open) (whole : AreWholeTables old.now) (none : HasNoEarlierCause v old.now.trees) (clean : HasCleanDisk new) where
+    good : AreGoodTables v old.now
+    good = record {
+      schema_is = (inside (early old new _ (looked_crash r old new told.looks told.cut) clean)).0;
+      live = (live opened).0;
+      whole = whole;
+      catalogue = none.catalogue;
+      desk = none.desk;
+    }
+
+    pub day_told : own_row_of v old.now.trees ≡ Some own → IfOk r (λ broken. broken ≡ day_is_broken (rows_in v old.now.trees))
+    day_told mine =
+        let it = law good in
+        let is = own_row_is v old.now.trees own (sym mine) in
+        let s = said v old.now in
+        if_ok_then r (λ broken. CanBeJudged s → own.today ≡ s.day → own.limits.hands ≡ s.settings.hands → broken ≡ breaks_day_rules s) (λ broken. broken ≡ day_is_broken (rows_in v old.now.trees))
+        (λ broken tells. tells it.judged (ap (λ (o : OwnRow). o.today) is) (ap (λ (o : OwnRow). o.limits.hands) is))
+        (told.answers clean tt s it.represents)
+
+  pub day_excused : (law : GoodTablesShowTheirState places v old.now) → InTransaction v old → IsLive old → TellsTheDay → IsTrue old.is_open → AreWholeTables old.now → HasNoEarlierCause v old.now.trees → FaultsHaveCause old new r
+  day_excused law inside live told opened whole none clean free =
+      let it = law (good law inside live told opened whole none clean) in
+      told.faults tt (said v old.now) it.represents tt it.judged clean free

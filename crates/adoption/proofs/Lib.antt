@@ -1,0 +1,12 @@
+pub mod catalogue
+pub mod tables
+pub mod desk
+pub mod WholeTables
+pub mod Asked
+pub mod VersionLemmas
+pub mod Alike
+pub mod NewTables
+pub mod OwnRowLemmas
+pub mod CauseLemmas
+pub mod DayRules
+pub mod DeskChecked

@@ -1,0 +1,33 @@
+-- The desk's tables of a live connection, whole and with none of the causes 1 to 9 against them.
+use Rattle.std.proofs.Common.{subst}
+use Rattle.std.specs.List.{AllByRecursion}
+use Rattle.sqlite.specs.Effect.{Database}
+use Rattle.sqlite.specs.Schema.{Schema}
+use Rattle.sqlite.specs.Table.{Table}
+use Rattle.sqlite_schema.specs.Rules.{Obeys}
+use Rattle.tree_core.specs.Versions.{Version}
+use Rattle.office_tables.specs.Schema.{schema}
+use Rattle.adoption.specs.Desk.{RowsShowTheDesk}
+use Rattle.adoption.specs.Found.{AreGoodTables}
+use Rattle.row_completeness.specs.WholeRows.{IsWholeTable}
+use Rattle.adoption.proofs.desk.KeptDesk.{keys}
+use Rattle.adoption.proofs.desk.ShownDesk.{shows_desk}
+use Rattle.adoption.proofs.tables.Causeless.{ArePassed, are_passed}
+
+module _ (version : Version) (db : Database) (good : AreGoodTables version db) where
+  pub passed : ArePassed version db.trees
+  passed = are_passed version db.trees good.catalogue good.desk
+
+  obeys : Obeys (schema version) db.trees
+  obeys = subst (λ (s : Schema). Obeys s db.trees) good.schema_is good.live.obeys
+
+  whole : AllByRecursion (λ (table : Table). IsWholeTable table (db.trees table.tree)) (schema version).tables
+  whole = subst (λ (s : Schema). AllByRecursion (λ (table : Table). IsWholeTable table (db.trees table.tree)) s.tables) good.schema_is good.whole
+
+pub desk_shown : (version : Version) (db : Database) → RowsShowTheDesk version db
+desk_shown version db good =
+    let it = passed version db good in
+    record {
+      keys = keys version db.trees (obeys version db good) (whole version db good) it.desk;
+      represents = shows_desk version db.trees it (obeys version db good) (whole version db good);
+    }

@@ -1,0 +1,12 @@
+pub mod WholeTables
+pub mod Found
+pub mod Catalogue
+pub mod Desk
+pub mod Tables
+pub mod OwnTables
+pub mod Versions
+pub mod Verdicts
+pub mod Plain
+pub mod OwnRows
+pub mod Causes
+pub mod DeskChecked

@@ -1,0 +1,42 @@
+-- What tables of any origin are, where they are to be an office's of one version. The first that holds is told: no office, the
+-- other version, other tables, or the least cause that holds of the rows.
+use Rattle.std.specs.Prelude.{◌≡◌, ◌≢◌, ℕ, ◌&&◌, cond, nat_eq, Option, Some, None}
+use Rattle.sqlite.specs.Effect.{Database}
+use Rattle.tree_core.specs.Versions.{Version, Links, Spans}
+use Rattle.state_encoding.specs.CellCauses.{cell_cause}
+use Rattle.office_tables.specs.Schema.{schema}
+use Rattle.adoption.specs.WholeTables.{AreWholeTables}
+use Rattle.adoption.specs.Versions.{HasNoOffice, IsToldVersion, TellsNoOther}
+use Rattle.adoption.specs.declared.verdict.Verdict.{Verdict}
+use Rattle.adoption.specs.declared.verdict.Verdict.TheVariants as verdict
+
+-- the tables are this product's, of this version, as far as their definitions go
+pub record AreOurs (version : Version) (db : Database) : Type 0 where
+  pub version_is : TellsNoOther version db
+  pub schema_is : db.schema ≡ schema version
+
+pub record AreOthers (version : Version) (db : Database) : Type 0 where
+  pub version_is : TellsNoOther version db
+  pub schema_is_not : db.schema ≢ schema version
+
+abbrev pub IsVerdict : Version → Database → Verdict → Type 0
+IsVerdict version db verdict.NoOffice = HasNoOffice db
+IsVerdict Links db verdict.OldVersion = ⊥
+IsVerdict Spans db verdict.OldVersion = IsToldVersion Links db
+IsVerdict Links db verdict.NewVersion = IsToldVersion Spans db
+IsVerdict Spans db verdict.NewVersion = ⊥
+IsVerdict version db verdict.OtherTables = AreOthers version db
+IsVerdict version db (verdict.Unsound cause) = AreOurs version db × (AreWholeTables db → cell_cause version db.trees ≡ Some cause)
+IsVerdict version db verdict.Sound = AreOurs version db × (AreWholeTables db → cell_cause version db.trees ≡ None)
+
+-- ---- by the version alone
+
+-- what it makes of tables that were to be of the version with the first number, and tell the second
+abbrev pub verdict_of_version : ℕ → Option ℕ → Option Verdict
+verdict_of_version own None = None
+verdict_of_version own (Some told) =
+    cond (nat_eq own 2 && nat_eq told 1) (Some verdict.OldVersion) (cond (nat_eq own 1 && nat_eq told 2) (Some verdict.NewVersion) None)
+
+abbrev pub IsVersionVerdict : Version → Database → Option Verdict → Type 0
+IsVersionVerdict version db None = TellsNoOther version db
+IsVersionVerdict version db (Some told) = IsVerdict version db told

@@ -1,0 +1,2 @@
+-- What is asked of tables that are opened, beside what SQL itself tells of them.
+pub use Rattle.row_completeness.specs.WholeRows.{IsWholeTable, AreWholeTables}

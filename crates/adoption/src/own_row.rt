@@ -1,0 +1,233 @@
+//! The office's own row.
+
+ghost use Rattle.std.specs.Prelude.{◌≡◌, false, true, Some, IfOk, IsTrue};
+ghost use Rattle.std.specs.List.{list_all};
+ghost use Rattle.std.specs.Option.{option_map_or};
+ghost use Rattle.sqlite.specs.Held.{state};
+ghost use Rattle.sqlite.specs.Value.{owned};
+ghost use Rattle.sqlite.specs.State.{HasCleanDisk};
+ghost use Rattle.isad_core.specs.Days.{is_day_number};
+ghost use Rattle.isad_core.specs.Words.{is_between};
+ghost use Rattle.office_core.specs.Soundness.{is_country as is_country_code, is_repository as is_repository_code};
+ghost use Rattle.office_tables.specs.Cells.{text_in};
+ghost use Rattle.office_tables.specs.Asking.{Reads};
+ghost use Rattle.office_tables.specs.Faults.{FaultsHaveCause};
+ghost use Rattle.office_tables.specs.Step.{InTransaction};
+ghost use Rattle.adoption.specs.OwnRows.{are_good_numbers, are_good_texts, numbers_said, numbers_told, own_from as own_of_numbers, own_judged, own_row_of};
+ghost use Rattle.adoption.specs.WholeTables.{AreWholeTables};
+
+use catalogue_store::Places;
+use desk_core::Limits;
+use isad_core::Day;
+use office_tables::{Gathering, StoreFault, gather};
+use row_decoding::{cell, number_in, whole_in};
+use sqlite::types::ValueRef;
+use sqlite::{Alter, Connection, Row};
+
+/// What the office's own row tells the checks of the other tables.
+#[derive(Clone, Copy, Debug)]
+pub(crate) struct OwnRow {
+    pub(crate) limits: Limits,
+    pub(crate) today: Day,
+    pub(crate) next_unit: u64,
+}
+
+/// Its numbers, as they are read.
+#[derive(Clone, Copy, Debug)]
+pub(crate) struct Numbers {
+    version: u64,
+    seats: u64,
+    daily: u64,
+    hands: u64,
+    run_size: u64,
+    day: i64,
+    next_unit: u64,
+}
+
+/// Reads the numbers, where each can be read and the row's own is 1.
+fn numbers_in(row: &Row) -> Option<Numbers>
+    ensures { result ≡ numbers_said row.now }
+{
+    let one = number_in(cell(row, 0))?;
+    if one != 1 {
+        return None;
+    }
+    Some(Numbers {
+        version: number_in(cell(row, 1))?,
+        seats: number_in(cell(row, 2))?,
+        daily: number_in(cell(row, 3))?,
+        hands: number_in(cell(row, 4))?,
+        run_size: number_in(cell(row, 5))?,
+        day: whole_in(cell(row, 6))?,
+        next_unit: number_in(cell(row, 7))?,
+    })
+}
+
+/// Whether a number is 1 or more, up to the most.
+fn is_up_to(most: u64, number: u64) -> bool
+    ensures { result ≡ is_between 1 most number }
+{
+    1 <= number && number <= most
+}
+
+/// Whether it is a day of the calendar.
+fn is_day(number: i64) -> bool
+    ensures { result ≡ is_day_number number }
+{
+    -25_567 <= number && number <= 2_932_896
+}
+
+/// Whether an office of this version may have these numbers.
+fn are_good(version: u64, numbers: &Numbers) -> bool
+    ensures { result ≡ are_good_numbers version numbers.now }
+{
+    numbers.version == version
+        && is_up_to(200, numbers.seats)
+        && is_up_to(50, numbers.daily)
+        && is_up_to(10, numbers.hands)
+        && is_up_to(100, numbers.run_size)
+        && is_day(numbers.day)
+        && is_up_to(100_000_001, numbers.next_unit)
+}
+
+/// Whether the code is two capital letters.
+fn is_country(code: &str) -> bool
+    ensures { result ≡ is_country_code code.now }
+{
+    code.len() == 2 && code.bytes().all(|b| b >= b'A' && b <= b'Z')
+}
+
+/// Whether all bytes are seen: neither spaces nor control characters, and ASCII.
+fn are_seen(code: &str) -> bool
+    ensures { result ≡ list_all (is_between 33 126) code.now }
+{
+    code.bytes().all(|b| b >= b'!' && b <= b'~')
+}
+
+/// Whether the code is 1 to 32 bytes that are seen.
+fn is_repository(code: &str) -> bool
+    ensures { result ≡ is_repository_code code.now }
+{
+    is_up_to(32, code.len() as u64) && are_seen(code)
+}
+
+/// Whether it is a text, in UTF-8, of two capital letters.
+fn tells_country(value: ValueRef<'_>) -> bool
+    ensures { result ≡ option_map_or is_country_code (text_in (owned value.entry)) false }
+{
+    match value {
+        ValueRef::Text(bytes) => match std::str::from_utf8(bytes) {
+            Ok(text) => is_country(text),
+            Err(_) => false,
+        },
+        _ => false,
+    }
+}
+
+/// Whether it is a text, in UTF-8, of 1 to 32 bytes that are seen.
+fn tells_repository(value: ValueRef<'_>) -> bool
+    ensures { result ≡ option_map_or is_repository_code (text_in (owned value.entry)) false }
+{
+    match value {
+        ValueRef::Text(bytes) => match std::str::from_utf8(bytes) {
+            Ok(text) => is_repository(text),
+            Err(_) => false,
+        },
+        _ => false,
+    }
+}
+
+/// Whether the row has the texts of an office.
+fn has_good_texts(row: &Row) -> bool
+    ensures { result ≡ are_good_texts row.now }
+{
+    tells_country(cell(row, 8)) && tells_repository(cell(row, 9))
+}
+
+/// What these numbers tell, which an office may have.
+fn own_from(version: u64, numbers: &Numbers) -> Option<OwnRow>
+    requires good { are_good_numbers version numbers.now ≡ true }
+    ensures { result ≡ Some (own_of_numbers numbers.now) }
+{
+    let today = Day::from_number(numbers.day as i32)?;
+    Some(OwnRow {
+        limits: Limits {
+            seats: numbers.seats as u32,
+            daily: numbers.daily as u32,
+            hands: numbers.hands as u32,
+            run: numbers.run_size as u32,
+        },
+        today,
+        next_unit: numbers.next_unit,
+    })
+}
+
+/// The numbers that the row tells, where it has the texts of an office.
+fn told_in(row: &Row) -> Option<Numbers>
+    ensures { result ≡ numbers_told row.now }
+{
+    let numbers = numbers_in(row)?;
+    if !has_good_texts(row) {
+        return None;
+    }
+    Some(numbers)
+}
+
+/// The rows of the office that were taken: how many, and what the last one tells.
+#[derive(Drop)]
+struct OwnRows {
+    count: u64,
+    told: Option<Numbers>,
+}
+
+impl Gathering for OwnRows {
+    ghost use Rattle.adoption.specs.OwnRows.{AreOwnRows};
+
+    ghost holds = { λ rows all. AreOwnRows rows all.count all.told };
+
+    fn take(&mut self, row: &Row) -> Result<(), StoreFault> {
+        if self.count >= u64::MAX {
+            return Err(StoreFault::Memory);
+        }
+        self.count += 1;
+        self.told = told_in(row);
+        Ok(())
+    }
+}
+
+/// What the office's own row tells, or none where it is such as no office of this version has.
+pub(crate) fn own_row<P: Places, S: Alter>(
+    conn: &mut Connection<S>,
+) -> Result<Option<OwnRow>, StoreFault>
+    requires inside { InTransaction P.version (state S.Store conn.old) }
+    ensures reads { Reads (state S.Store conn.old) (state S.Store conn.new) result }
+    ensures tells { HasCleanDisk (state S.Store conn.new) → AreWholeTables (state S.Store conn.old).now
+        → IfOk result (λ found. found ≡ own_row_of P.version (state S.Store conn.old).now.trees) }
+    ensures opened { HasCleanDisk (state S.Store conn.new)
+        → IfOk result (λ _. IsTrue (state S.Store conn.old).is_open) }
+    ensures faults { FaultsHaveCause (state S.Store conn.old) (state S.Store conn.new) result }
+{
+    let all = gather(
+        conn,
+        "SELECT one, version, seats, daily, hands, run_size, day, next_unit, country, repo FROM office ORDER BY one",
+        OwnRows {
+            count: 0,
+            told: None,
+        },
+    )?;
+    if all.count != 1 {
+        return Ok(None);
+    }
+    Ok(judged(P::number(), all.told))
+}
+
+/// What these numbers tell, where an office of this version may have them.
+fn judged(version: u64, told: Option<Numbers>) -> Option<OwnRow>
+    ensures { result ≡ own_judged version told }
+{
+    let numbers = told?;
+    if !are_good(version, &numbers) {
+        return None;
+    }
+    own_from(version, &numbers)
+}

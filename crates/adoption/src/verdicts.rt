@@ -1,0 +1,96 @@
+//! Tables of any origin are judged.
+
+ghost use Rattle.std.specs.Prelude.{◌≡◌, IfOk, IsTrue, None, Some};
+ghost use Rattle.sqlite.specs.Held.{state};
+ghost use Rattle.sqlite.specs.State.{HasCleanDisk};
+ghost use Rattle.state_encoding.specs.CellCauses.{cell_cause};
+ghost use Rattle.office_tables.specs.Asking.{Reads};
+ghost use Rattle.office_tables.specs.Faults.{FaultsHaveCause, IsUnlimited};
+ghost use Rattle.office_tables.specs.Step.{InTransaction};
+ghost use Rattle.refinement.specs.DeskChecked.{catalogue_cell_cause};
+ghost use Rattle.adoption.specs.OwnRows.{own_row_of};
+ghost use Rattle.adoption.specs.Verdicts.{IsVerdict};
+ghost use Rattle.adoption.specs.WholeTables.{AreWholeTables};
+
+use crate::day_rules::breaks_day_rules;
+use crate::own_row::{OwnRow, own_row};
+use crate::own_tables::are_ours;
+use crate::verdict::Verdict;
+use crate::version::judge_version;
+use integrity_checks::{CheckedPlaces, load_check, load_check_desk};
+use office_tables::StoreFault;
+use sqlite::{Alter, Connection};
+use std::alloc::Global;
+
+/// The least cause of the desk's, and of the rules of the day, where none of the catalogue's holds.
+fn desk_cause<P: CheckedPlaces, S: Alter>(
+    alloc: Global,
+    conn: &mut Connection<S>,
+    own: &OwnRow,
+) -> Result<Option<u8>, StoreFault>
+    requires inside { InTransaction P.version (state S.Store conn.old) }
+    ensures reads { Reads (state S.Store conn.old) (state S.Store conn.new) result }
+    ensures tells { HasCleanDisk (state S.Store conn.new) → IsTrue (state S.Store conn.old).is_open
+        → AreWholeTables (state S.Store conn.old).now
+        → own_row_of P.version (state S.Store conn.old).now.trees ≡ Some own.now
+        → catalogue_cell_cause P.version (state S.Store conn.old).now.trees ≡ None
+        → IfOk result (λ cause. cause ≡ cell_cause P.version (state S.Store conn.old).now.trees) }
+    ensures faults { IsTrue (state S.Store conn.old).is_open → AreWholeTables (state S.Store conn.old).now
+        → own_row_of P.version (state S.Store conn.old).now.trees ≡ Some own.now
+        → catalogue_cell_cause P.version (state S.Store conn.old).now.trees ≡ None
+        → FaultsHaveCause (state S.Store conn.old) (state S.Store conn.new) result }
+{
+    if let Some(doubt) = load_check_desk(alloc, conn, &own.limits, own.today)? {
+        return Ok(Some(doubt.cause()));
+    }
+    if breaks_day_rules::<P, S>(alloc, conn, own)? {
+        return Ok(Some(10));
+    }
+    Ok(None)
+}
+
+/// The least of the ten causes that holds of the rows, or none.
+fn least_cause<P: CheckedPlaces, S: Alter>(
+    alloc: Global,
+    conn: &mut Connection<S>,
+) -> Result<Option<u8>, StoreFault>
+    requires inside { InTransaction P.version (state S.Store conn.old) }
+    ensures reads { Reads (state S.Store conn.old) (state S.Store conn.new) result }
+    ensures tells { HasCleanDisk (state S.Store conn.new) → AreWholeTables (state S.Store conn.old).now
+        → IfOk result (λ cause. cause ≡ cell_cause P.version (state S.Store conn.old).now.trees) }
+    ensures faults { AreWholeTables (state S.Store conn.old).now
+        → FaultsHaveCause (state S.Store conn.old) (state S.Store conn.new) result }
+{
+    let Some(own) = own_row::<P, S>(conn)? else {
+        return Ok(Some(1));
+    };
+    if let Some(doubt) = load_check::<P, S>(alloc, conn, own.next_unit)? {
+        return Ok(Some(doubt.cause()));
+    }
+    desk_cause::<P, S>(alloc, conn, &own)
+}
+
+/// What the tables are, inside a transaction. All of them are read, and nothing is changed.
+pub fn judge<P: CheckedPlaces, S: Alter>(
+    alloc: Global,
+    conn: &mut Connection<S>,
+) -> Result<Verdict, StoreFault>
+    requires inside { HasCleanDisk (state S.Store conn.old) → IsTrue (state S.Store conn.old).in_transaction }
+    requires unlimited { IsUnlimited (state S.Store conn.old) }
+    ensures reads { Reads (state S.Store conn.old) (state S.Store conn.new) result }
+    ensures tells { HasCleanDisk (state S.Store conn.new)
+        → IfOk result (IsVerdict P.version (state S.Store conn.old).now) }
+    ensures faults { AreWholeTables (state S.Store conn.old).now
+        → FaultsHaveCause (state S.Store conn.old) (state S.Store conn.new) result }
+{
+    if let Some(verdict) = judge_version::<P, S>(conn)? {
+        return Ok(verdict);
+    }
+    if !are_ours::<P, S>(alloc, conn)? {
+        return Ok(Verdict::OtherTables);
+    }
+    match least_cause::<P, S>(alloc, conn)? {
+        Some(cause) => Ok(Verdict::Unsound(cause)),
+        None => Ok(Verdict::Sound),
+    }
+}

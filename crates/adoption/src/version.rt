@@ -1,0 +1,65 @@
+//! The version that tables tell.
+
+ghost use Rattle.std.specs.Prelude.{◌≡◌, IfOk, IsTrue};
+ghost use Rattle.sqlite.specs.Held.{state};
+ghost use Rattle.sqlite.specs.State.{HasCleanDisk};
+ghost use Rattle.office_tables.specs.Asking.{Reads};
+ghost use Rattle.office_tables.specs.Faults.{FaultsHaveCause, IsUnlimited};
+ghost use Rattle.adoption.specs.Verdicts.{IsVersionVerdict, verdict_of_version};
+ghost use Rattle.adoption.specs.Versions.{AreVersions};
+
+use crate::verdict::Verdict;
+use catalogue_store::Places;
+use office_tables::StoreFault;
+use row_decoding::{cell, number_in};
+use sqlite::{Alter, Connection, Row};
+
+/// The rows of the table `office`, with their version alone, or none where it cannot be read.
+fn versions<S: Alter>(conn: &mut Connection<S>) -> Result<Option<Vec<Row>>, StoreFault>
+    requires inside { HasCleanDisk (state S.Store conn.old) → IsTrue (state S.Store conn.old).in_transaction }
+    requires unlimited { IsUnlimited (state S.Store conn.old) }
+    ensures reads { Reads (state S.Store conn.old) (state S.Store conn.new) result }
+    ensures tells { HasCleanDisk (state S.Store conn.new)
+        → IfOk result (AreVersions (state S.Store conn.old).now) }
+    ensures faults { FaultsHaveCause (state S.Store conn.old) (state S.Store conn.new) result }
+{
+    match conn.query_all("SELECT version FROM office", &[]) {
+        Ok(rows) => Ok(Some(rows)),
+        Err(error) => match StoreFault::from(error) {
+            StoreFault::Schema => Ok(None),
+            fault => Err(fault),
+        },
+    }
+}
+
+/// What tables are that tell this version and were to be of that one, where it is the other of the two.
+fn other_version(own: u64, told: Option<u64>) -> Option<Verdict>
+    ensures { result ≡ verdict_of_version own told }
+{
+    match (own, told) {
+        (2, Some(1)) => Some(Verdict::OldVersion),
+        (1, Some(2)) => Some(Verdict::NewVersion),
+        _ => None,
+    }
+}
+
+/// What the tables are by the version that they tell, or none where that is not the other of the two.
+pub(crate) fn judge_version<P: Places, S: Alter>(
+    conn: &mut Connection<S>,
+) -> Result<Option<Verdict>, StoreFault>
+    requires inside { HasCleanDisk (state S.Store conn.old) → IsTrue (state S.Store conn.old).in_transaction }
+    requires unlimited { IsUnlimited (state S.Store conn.old) }
+    ensures reads { Reads (state S.Store conn.old) (state S.Store conn.new) result }
+    ensures tells { HasCleanDisk (state S.Store conn.new)
+        → IfOk result (IsVersionVerdict P.version (state S.Store conn.old).now) }
+    ensures faults { FaultsHaveCause (state S.Store conn.old) (state S.Store conn.new) result }
+{
+    let Some(rows) = versions(conn)? else {
+        return Ok(Some(Verdict::NoOffice));
+    };
+    if rows.len() != 1 {
+        return Ok(Some(Verdict::NoOffice));
+    }
+    let told = number_in(cell(&rows[0], 0));
+    Ok(other_version(P::number(), told))
+}

@@ -1,9 +1,0 @@
-pub mod Tested
-pub mod Scans
-pub mod UnitsThere
-pub mod JudgedElements
-pub mod JudgedContainers
-pub mod FilledUnits
-pub mod JudgedHousings
-pub mod JudgedUnits
-pub mod Doubts

@@ -1,4 +1,0 @@
-pub mod Checks
-pub mod Answers
-pub mod Filled
-pub mod Judging

@@ -1,0 +1,33 @@
+use Rattle.std.proofs.Common.{◌≡◌, true}
+use Rattle.sqlite.specs.Held.{state}
+use Rattle.catalogue_core.specs.Finding.{has_unit}
+use Rattle.office_core.specs.declared.command.Command.TheVariants as command
+use Rattle.office_core.specs.declared.done.Done.TheVariants as done
+use Rattle.office_core.proofs.KeptOffices.{office_kept}
+use Rattle.office_tables.proofs.CallEnds.{same_fault}
+use Rattle.refinement.specs.Gate.{OthersAreOpen}
+use Rattle.refinement.specs.Represents.{office_of}
+use Rattle.refinement.proofs.Doings.{does_not}
+use Rattle.refinement.proofs.Passing.{passed_where}
+use Rattle.catalogue_commands.proofs.Closed.{closes, closes_near}
+use Rattle.catalogue_commands.proofs.closure.close_known.Goals as goal
+
+pub returns-in_err-set_closure : goal.returns-in_err-set_closure
+returns-in_err-set_closure g c =
+    let a = state g.S.Store c.args.conn.now in
+    let b = state g.S.Store c.set_closure.new.conn in
+    let made = c.in_err-set_closure.ensures.makes in
+    let e = c.from_residual.ensures in
+    does_not g.P.Places.represents g.P.Places.version _ (command.SetClosure c.args.unit c.args.until) a b c.from_residual.result c.in_err-set_closure.field-0.0
+    (same_fault c.from_residual.result c.in_err-set_closure.field-0.0 e.0 e.1) made.cut
+    (λ s sound so it clean free. made.faults (office_of s) s.catalogue it.catalogue tt (office_kept s sound) clean free)
+
+pub returns : goal.returns
+returns g c =
+    let a = state g.S.Store c.args.conn.now in
+    let b = state g.S.Store c.set_closure.new.conn in
+    let u = c.args.unit in
+    let made = c.in_ok-set_closure.ensures.makes in
+    passed_where g.S.Store g.P.Places.represents g.P.Places.version (λ s. (c.args.today ≡ s.day) × (has_unit s.catalogue.forest u ≡ true)) (command.SetClosure u c.args.until) c.args.today (done.SetClosure u) a c.set_closure.new.conn c.pass_near.new.conn c.pass_near.result (OthersAreOpen u)
+    (closes u c.args.until g.P.Places.represents g.P.Places.version a b c.args.today c.requires.calendar made.represents_updated made.only)
+    (λ s sound so. closes_near u c.args.until s sound c.requires.calendar) made.goes c.pass_near.ensures.tells

@@ -1,0 +1,36 @@
+use Rattle.std.proofs.Common.{◌≡◌, true}
+use Rattle.sqlite.specs.Held.{state}
+use Rattle.catalogue_core.specs.Finding.{has_unit}
+use Rattle.desk_store.specs.Holdings.{issued_of}
+use Rattle.office_core.specs.declared.command.Command.TheVariants as command
+use Rattle.office_core.specs.declared.done.Done.TheVariants as done
+use Rattle.office_core.proofs.KeptOffices.{office_kept}
+use Rattle.state_encoding.specs.DeskShown.{permit_rows}
+use Rattle.state_encoding.specs.Reading.{tables}
+use Rattle.office_tables.proofs.CallEnds.{same_fault}
+use Rattle.refinement.specs.Gate.{AreAsked, AreEnough}
+use Rattle.refinement.specs.Represents.{office_of}
+use Rattle.refinement.proofs.Doings.{does_not}
+use Rattle.refinement.proofs.Passing.{passed_where}
+use Rattle.catalogue_commands.proofs.Removed.{removes, removes_near}
+use Rattle.catalogue_commands.proofs.removal.remove_beside.Goals as goal
+
+pub returns-in_err-units : goal.returns-in_err-units
+returns-in_err-units g c =
+    let a = state g.S.Store c.args.conn.now in
+    let b = state g.S.Store c.remove_branch.new.conn in
+    let e = c.from_residual.ensures in
+    does_not g.P.Places.represents g.P.Places.version _ (command.Remove c.args.unit) a b c.from_residual.result c.in_err-units.field-0.0
+    (same_fault c.from_residual.result c.in_err-units.field-0.0 e.0 e.1) c.in_err-units.ensures.cut
+    (λ s sound so it clean free. c.in_err-units.ensures.faults (office_of s) s.catalogue it.catalogue so.1 (office_kept s sound) (permit_rows s) it.desk.permits clean free)
+
+pub returns : goal.returns
+returns g c =
+    let a = state g.S.Store c.args.conn.now in
+    let b = state g.S.Store c.remove_branch.new.conn in
+    let u = c.args.unit in
+    let v = g.P.Places.version in
+    let loans = c.args.loans.now in
+    passed_where g.S.Store g.P.Places.represents v (λ s. (c.args.today ≡ s.day) × (has_unit s.catalogue.forest u ≡ true) × AreAsked u s (issued_of (tables v s).desk) loans) (command.Remove u) c.args.today (done.Remove c.in_ok-units.units) a c.remove_branch.new.conn c.pass_of.new.conn c.pass_of.result (AreEnough loans)
+    (removes u v loans g.P.Places.represents a b c.args.today c.in_ok-units.units c.in_ok-units.ensures.removes c.in_ok-units.ensures.count)
+    (λ s sound so. removes_near u v loans s sound so.1 so.2) c.in_ok-units.ensures.goes c.pass_of.ensures.tells

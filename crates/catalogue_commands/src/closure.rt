@@ -1,0 +1,64 @@
+//! A unit is closed, or its closure ends.
+
+ghost use Rattle.std.specs.Prelude.{◌≡◌, true};
+ghost use Rattle.sqlite.specs.Held.{state};
+ghost use Rattle.isad_core.specs.Limits.{IsNumber};
+ghost use Rattle.catalogue_core.specs.Finding.{has_unit};
+ghost use Rattle.catalogue_core.specs.GoodCatalogues.{IsSomeDay};
+ghost use Rattle.office_core.specs.declared.command.Command.TheVariants as command;
+ghost use Rattle.office_tables.specs.Step.{InTransaction};
+ghost use Rattle.refinement.specs.CommandSteps.{CarriesOut};
+
+use catalogue_store::{Places, is_unit, set_closure};
+use isad_core::Day;
+use office_core::{Done, Refusal};
+use office_tables::StoreFault;
+use refinement::pass_near;
+use sqlite::{Alter, Connection};
+use std::alloc::Global;
+
+/// A day that there is, is one of the calendar.
+fn is_of_calendar(until: Option<Day>)
+    ensures { IsSomeDay until }
+{
+    if let Some(day) = until {
+        let _ = day.number();
+    }
+}
+
+/// Closes a unit that is there, or ends its closure, unless that withholds what is out.
+fn close_known<P: Places, S: Alter>(
+    alloc: Global,
+    conn: &mut Connection<S>,
+    today: Day,
+    unit: u64,
+    until: Option<Day>,
+) -> Result<Result<Done, Refusal>, StoreFault>
+    requires inside { InTransaction P.version (state S.Store conn.old) }
+    requires small { IsNumber unit }
+    requires calendar { IsSomeDay until }
+    ensures { CarriesOut P.represents P.version (λ s. (today ≡ s.day) × (has_unit s.catalogue.forest unit ≡ true))
+        (command.SetClosure unit until) (state S.Store conn.old) (state S.Store conn.new) result }
+{
+    set_closure::<P, S>(conn, unit, until)?;
+    pass_near::<P, S>(alloc, conn, today, unit, Done::SetClosure { unit })
+}
+
+/// Closes a unit until a day, or ends its closure. The day of the office is known.
+pub fn change_closure<P: Places, S: Alter>(
+    alloc: Global,
+    conn: &mut Connection<S>,
+    today: Day,
+    unit: u64,
+    until: Option<Day>,
+) -> Result<Result<Done, Refusal>, StoreFault>
+    requires inside { InTransaction P.version (state S.Store conn.old) }
+    ensures { CarriesOut P.represents P.version (λ s. today ≡ s.day) (command.SetClosure unit until) (state S.Store conn.old)
+        (state S.Store conn.new) result }
+{
+    if !is_unit::<P, S>(alloc, conn, unit)? {
+        return Ok(Err(Refusal::UnknownUnit));
+    }
+    is_of_calendar(until);
+    close_known::<P, S>(alloc, conn, today, unit, until)
+}

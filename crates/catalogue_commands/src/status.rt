@@ -1,0 +1,54 @@
+//! Units become drafts, or are published.
+
+ghost use Rattle.std.specs.Prelude.{◌≡◌, true};
+ghost use Rattle.sqlite.specs.Held.{state};
+ghost use Rattle.isad_core.specs.Limits.{IsNumber};
+ghost use Rattle.catalogue_core.specs.Finding.{has_unit};
+ghost use Rattle.office_core.specs.declared.command.Command.TheVariants as command;
+ghost use Rattle.office_tables.specs.Step.{InTransaction};
+ghost use Rattle.refinement.specs.CommandSteps.{CarriesOut};
+
+use catalogue_store::{Places, is_unit, set_status};
+use isad_core::Day;
+use office_core::{Done, Refusal};
+use office_tables::StoreFault;
+use refinement::pass_near;
+use sqlite::{Alter, Connection};
+use std::alloc::Global;
+
+/// Makes a unit that is there a draft, or publishes it, alone or with all below it, unless that withholds what is out.
+fn set_known<P: Places, S: Alter>(
+    alloc: Global,
+    conn: &mut Connection<S>,
+    today: Day,
+    unit: u64,
+    draft: bool,
+    whole: bool,
+) -> Result<Result<Done, Refusal>, StoreFault>
+    requires inside { InTransaction P.version (state S.Store conn.old) }
+    requires small { IsNumber unit }
+    ensures { CarriesOut P.represents P.version (λ s. (today ≡ s.day) × (has_unit s.catalogue.forest unit ≡ true))
+        (command.SetStatus unit draft whole) (state S.Store conn.old) (state S.Store conn.new) result }
+{
+    let units = set_status::<P, S>(alloc, conn, unit, draft, whole)?;
+    pass_near::<P, S>(alloc, conn, today, unit, Done::SetStatus { units })
+}
+
+/// Makes a unit a draft, or publishes it, alone or with all below it. The day of the office is known.
+pub fn change_status<P: Places, S: Alter>(
+    alloc: Global,
+    conn: &mut Connection<S>,
+    today: Day,
+    unit: u64,
+    draft: bool,
+    whole: bool,
+) -> Result<Result<Done, Refusal>, StoreFault>
+    requires inside { InTransaction P.version (state S.Store conn.old) }
+    ensures { CarriesOut P.represents P.version (λ s. today ≡ s.day) (command.SetStatus unit draft whole)
+        (state S.Store conn.old) (state S.Store conn.new) result }
+{
+    if !is_unit::<P, S>(alloc, conn, unit)? {
+        return Ok(Err(Refusal::UnknownUnit));
+    }
+    set_known::<P, S>(alloc, conn, today, unit, draft, whole)
+}

@@ -1,8 +1,0 @@
-pub mod Rows
-pub mod Shows
-pub mod Added
-pub mod Removals
-pub mod Adding
-pub mod Settings
-pub mod Values
-pub mod Standings

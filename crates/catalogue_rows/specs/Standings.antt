@@ -1,6 +1,0 @@
--- What a unit's row tells of it, but for where its description came from.
-use Rattle.catalogue_core.specs.Units.{Unit}
-use Rattle.catalogue_rows.specs.declared.answer.Standing.{Standing}
-
-abbrev pub standing_of : Unit → Standing
-standing_of u = record { level = u.values.level; draft = u.draft; until = u.until }

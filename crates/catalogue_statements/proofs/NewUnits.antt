@@ -1,0 +1,182 @@
+-- What the tables show after a unit is added.
+use Rattle.std.proofs.Common.{◌≡◌, ◌≢◌, ℕ, ◌+◌, ◌≤◌, pos, List, [], ◌∷◌, length, filter, Bool, true, false, not, Option, nat_eq, Equal, refl, sym, ap, subst, ◌∙◌, inl, inr}
+use Rattle.std.specs.List.{AllByRecursion, list_any, list_all}
+use Rattle.std.specs.List.Sorted.{IsPermutation}
+use Rattle.std.specs.Ordering.{int_cmp, is_eq}
+use Rattle.std.specs.Cmp.{IsTotalOrder, on_total, int_cmp_total, tied_itself}
+use Rattle.std.proofs.lemmas.Bool.{cases_Bool, eqb-true, false≢true, or_left, or_right}
+use Rattle.std.proofs.lemmas.List.Sorted.{IsPermutation-trans, IsPermutation-sym, IsPermutation-cons, length_permutation}
+use Rattle.sqlite.specs.Edit.{is_taken}
+use Rattle.sqlite.specs.Effect.{Database}
+use Rattle.sqlite.specs.Tree.{Trees, put_row}
+use Rattle.sqlite_rules.proofs.ListLemmas.{all_has, all_from, some_has, some_from}
+use Rattle.sqlite_trees.proofs.ListLemmas.{all_both, all_weaker, all-permutation, IsPermutation-filter}
+use Rattle.isad_core.specs.declared.values.BoxKey.{BoxKey}
+use Rattle.isad_core.specs.Boxes.{is_same}
+use Rattle.tree_core.specs.Forest.{Forest, nodes, each, has, has_place, add}
+use Rattle.tree_core.proofs.EachLemmas.{add-each}
+use Rattle.tree_core.proofs.Lists.{eqb_comm}
+use Rattle.catalogue_statements.specs.Adding.{WithTexts, cell_of, WithHousings, housing_cell, IsDescribed}
+use Rattle.catalogue_core.specs.Describing.{with_boxes, with_numbered, KnowsItsContainers}
+use Rattle.catalogue_core.specs.Merging.{Catalogue}
+use Rattle.office_tables.specs.Put.{put_by}
+use Rattle.catalogue_statements.specs.Rows.{office_row, unit_row, by_number, ElementRow, HousingRow}
+use Rattle.tree_core.specs.Versions.{Version}
+use Rattle.catalogue_statements.specs.Represents.{Represents, RepresentsNumbered, RepresentsUnits, element_cells, elements_of, housing_cells, housings_of}
+use Rattle.catalogue_core.specs.Units.{Unit, has_id}
+use Rattle.catalogue_statements.specs.declared.office.OfficeRow.{OfficeRow}
+use Rattle.catalogue_statements.proofs.Finding.{itself}
+use Rattle.catalogue_statements.proofs.HousingLemmas.{same_cells}
+use Rattle.catalogue_core.proofs.NodeLemmas.{nodes_add}
+use Rattle.office_tables.specs.Schema as tables
+use Rattle.catalogue_statements.proofs.Parts.{own_cells, others_cells, all_theirs, without_none}
+use Rattle.office_tables.proofs.Puts.{put_rows, put_rises, put_more, fresh_key}
+use Rattle.office_tables.proofs.Rows.{had, same_test}
+use Rattle.office_tables.proofs.Sorted.{once}
+use Rattle.office_tables.proofs.Tests.{same_nat}
+
+by_number_total : IsTotalOrder by_number
+by_number_total = on_total (λ (u : Unit). pos u.id) int_cmp_total
+
+-- what stands in one order stands in the other
+pub any_in : {X : Type 0} (p : X → Bool) (xs ys : List X) → IsPermutation xs ys → list_any p ys ≡ true → list_any p xs ≡ true
+any_in p xs ys same h = let x = some_has p ys h in some_from p xs x.0 (had xs ys same x.0 x.1) x.2
+
+-- no two units have one number
+pub numbered_once : (db : Trees) (f : Forest Unit) → RepresentsUnits db f → (n : ℕ) → has (has_id n) f ≡ true → length (filter (has_id n) (nodes f)) ≤ 1
+numbered_once db f at n there =
+    let v = some_has (has_id n) (nodes f) there in
+    let same : filter (has_id n) at.units ≡ filter (λ z. is_eq (by_number v.0 z)) at.units =
+    same_test (has_id n) (λ z. is_eq (by_number v.0 z)) (λ z. ap (λ m. nat_eq m z.id) (eqb-true n v.0.id v.2) ∙ eqb_comm v.0.id z.id ∙ sym (same_nat v.0.id z.id)) at.units in
+    subst (λ m. m ≤ 1) (ap length (sym same) ∙ (length_permutation (filter (has_id n) (nodes f)) (filter (has_id n) at.units) (IsPermutation-filter (has_id n) (nodes f) at.units at.are)))
+    (once by_number by_number_total v.0 at.units at.rise)
+
+-- a number that was free for a row is no unit's
+pub no_unit : (db : Trees) (f : Forest Unit) → (at : RepresentsUnits db f) → (u : Unit) → is_taken (db tables.unit.tree) (unit_row u) ≡ false → has (has_id u.id) f ≡ false
+no_unit db f at u free = elim (cases_Bool (has (has_id u.id) f)) [
+  | inr none ↦ none
+  | inl there ↦ absurd (
+      let apart = fresh_key unit_row (λ (x : Unit). pos x.id) (λ _. refl) u at.units (ap (λ rows. is_taken rows (unit_row u)) (sym at.rows) ∙ free) in
+      let x = some_has (has_id u.id) (nodes f) there in
+      let same : u.id ≡ x.0.id = eqb-true u.id x.0.id x.2 in
+      all_has (λ (x : Unit). int_cmp (pos x.id) (pos u.id) ≢ Equal) at.units x.0 apart (had at.units (nodes f) (IsPermutation-sym (nodes f) at.units at.are) x.0 x.1)
+      (ap (λ n. int_cmp (pos n) (pos u.id)) (sym same) ∙ tied_itself int_cmp_total (pos u.id)))
+]
+
+-- the tables tell of one unit more
+pub record HasAdded (represents : Trees → Forest ℕ → Type 0) (v : Version) (old new : Database) (o : OfficeRow) (c : Catalogue) (parent : Option ℕ) (u : Unit) (elements : List ElementRow) (housings : List HousingRow) : Type 0 where
+  pub schema : new.schema ≡ old.schema
+  pub office : new.trees tables.office.tree ≡ office_row v (record o { next_unit = u.id + 1 }) ∷ []
+  pub units : new.trees tables.unit.tree ≡ put_row (unit_row u) (old.trees tables.unit.tree)
+  pub fresh : is_taken (old.trees tables.unit.tree) (unit_row u) ≡ false
+  pub described : IsDescribed u.id u.values c.containers elements housings new.trees
+  pub shown : represents new.trees (add nat_eq parent u.id (each (λ (x : Unit). x.id) c.forest))
+
+module _ (u : Unit) (parent : Option ℕ) (f : Forest Unit) (many : IsPermutation (nodes (add has_id parent u f)) (u ∷ nodes f)) (new_id : has (has_id u.id) f ≡ false) where
+  abbrev grown : Forest Unit
+  grown = add has_id parent u f
+
+  -- a unit that was there is another
+  apart : (n : ℕ) → has (has_id n) f ≡ true → nat_eq u.id n ≡ false
+  apart n there = elim (cases_Bool (nat_eq u.id n)) [
+    | inr not ↦ not
+    | inl same ↦ absurd (false≢true (sym new_id ∙ ap (λ m. has (has_id m) f) (eqb-true u.id n same) ∙ there))
+  ]
+
+  others_apart : AllByRecursion (λ x. nat_eq u.id x.id ≡ false) (nodes f)
+  others_apart = all_from (λ (x : Unit). nat_eq u.id x.id ≡ false) (nodes f) (λ x h. apart x.id (some_from (has_id x.id) (nodes f) x h (itself x.id)))
+
+  -- what is true of the new unit and of those that were there
+  of_all : (P : Unit → Type 0) → P u → AllByRecursion P (nodes f) → AllByRecursion P (nodes grown)
+  of_all P own all = all-permutation P (u ∷ nodes f) (nodes grown) (IsPermutation-sym (nodes grown) (u ∷ nodes f) many) (own, all)
+
+  abbrev here : ℕ → Type 0
+  here n = has (has_id n) grown ≡ true
+
+  still_here : (n : ℕ) → has (has_id n) f ≡ true → here n
+  still_here n h = any_in (has_id n) (nodes grown) (u ∷ nodes f) many (or_right (has_id n u) (has (has_id n) f) h)
+
+  own_here : here u.id
+  own_here = any_in (has_id u.id) (nodes grown) (u ∷ nodes f) many (or_left (has_id u.id u) (has (has_id u.id) f) (itself u.id))
+
+  texts_grown : (xs ys : List ElementRow) → AllByRecursion (λ x. has (has_id x.unit) f ≡ true) xs → WithTexts u.id (element_cells u.values) xs ys
+      → WithTexts u.id (element_cells u.values) (filter (λ x. not (nat_eq u.id x.unit)) xs) ys
+  texts_grown xs ys there told =
+      subst (λ l. WithTexts u.id (element_cells u.values) l ys)
+      (sym (without_none (λ (e : ElementRow). e.unit) cell_of u.id xs (all_weaker (λ (x : ElementRow). has (has_id x.unit) f ≡ true) (λ (x : ElementRow). nat_eq u.id x.unit ≡ false) (λ x h. apart x.unit h) xs there))) told
+
+  housings_grown : (cells : List (ℕ × ℕ)) (xs ys : List HousingRow) → AllByRecursion (λ x. has (has_id x.unit) f ≡ true) xs → WithHousings u.id cells xs ys
+      → WithHousings u.id cells (filter (λ x. not (nat_eq u.id x.unit)) xs) ys
+  housings_grown cells xs ys there told =
+      subst (λ l. WithHousings u.id cells l ys)
+      (sym (without_none (λ (h : HousingRow). h.unit) housing_cell u.id xs (all_weaker (λ (x : HousingRow). has (has_id x.unit) f ≡ true) (λ (x : HousingRow). nat_eq u.id x.unit ≡ false) (λ x h. apart x.unit h) xs there))) told
+
+  elements_still : (xs ys : List ElementRow) → WithTexts u.id (element_cells u.values) (filter (λ x. not (nat_eq u.id x.unit)) xs) ys
+      → AllByRecursion (λ x. IsPermutation (element_cells x.values) (elements_of x.id xs)) (nodes f) → AllByRecursion (λ x. IsPermutation (element_cells x.values) (elements_of x.id ys)) (nodes grown)
+  elements_still xs ys told all =
+      let P = λ (x : Unit). IsPermutation (element_cells x.values) (elements_of x.id ys) in
+      of_all P (own_cells (λ (e : ElementRow). e.unit) cell_of u.id (element_cells u.values) xs ys told)
+      (all_both (λ (x : Unit). nat_eq u.id x.id ≡ false) (λ (x : Unit). IsPermutation (element_cells x.values) (elements_of x.id xs)) P
+      (λ x other h. IsPermutation-trans (element_cells x.values) (elements_of x.id xs) (elements_of x.id ys) h (others_cells (λ (e : ElementRow). e.unit) cell_of u.id x.id (element_cells u.values) xs ys other told))
+      (nodes f) others_apart all)
+
+  abbrev IsKnown : List BoxKey → Unit → Type 0
+  IsKnown boxes x = list_all (λ box. list_any (is_same box) boxes) x.values.boxes ≡ true
+
+  housings_still : (boxes more : List BoxKey) (xs ys : List HousingRow) → ((x : Unit) → IsKnown boxes x → housing_cells more x.values ≡ housing_cells boxes x.values)
+      → WithHousings u.id (housing_cells more u.values) (filter (λ x. not (nat_eq u.id x.unit)) xs) ys → AllByRecursion (IsKnown boxes) (nodes f)
+      → AllByRecursion (λ x. IsPermutation (housing_cells boxes x.values) (housings_of x.id xs)) (nodes f) → AllByRecursion (λ x. IsPermutation (housing_cells more x.values) (housings_of x.id ys)) (nodes grown)
+  housings_still boxes more xs ys same told known all =
+      let P = λ (x : Unit). IsPermutation (housing_cells more x.values) (housings_of x.id ys) in
+      let Q = λ (x : Unit). IsPermutation (housing_cells more x.values) (housings_of x.id xs) in
+      let still = all_both (IsKnown boxes) (λ (x : Unit). IsPermutation (housing_cells boxes x.values) (housings_of x.id xs)) Q (λ x k h. subst (λ l. IsPermutation l (housings_of x.id xs)) (sym (same x k)) h) (nodes f) known all in
+      of_all P (own_cells (λ (h : HousingRow). h.unit) housing_cell u.id (housing_cells more u.values) xs ys told)
+      (all_both (λ (x : Unit). nat_eq u.id x.id ≡ false) Q P
+      (λ x other h. IsPermutation-trans (housing_cells more x.values) (housings_of x.id xs) (housings_of x.id ys) h (others_cells (λ (h : HousingRow). h.unit) housing_cell u.id x.id (housing_cells more u.values) xs ys other told))
+      (nodes f) others_apart still)
+
+pub shows_added : (v : Version) (represents : Trees → Forest ℕ → Type 0) (old new : Database) (o : OfficeRow) (c : Catalogue) (parent : Option ℕ) (u : Unit) (it : Represents represents v old o c)
+    → has_place has_id parent c.forest ≡ true → KnowsItsContainers c → HasAdded represents v old new o c parent u it.catalogue.elements.elements it.catalogue.housings.housings
+    → RepresentsNumbered represents v new o (with_numbered parent u c)
+shows_added v represents old new o c parent u it there knows wrote =
+    let at = it.catalogue in
+    let f = c.forest in
+    let boxes = with_boxes c.containers u.values.boxes in
+    let key = λ (x : Unit). pos x.id in
+    let new_id = no_unit old.trees f at.units u wrote.fresh in
+    let many = nodes_add has_id parent u f (numbered_once old.trees f at.units) there in
+    let free = fresh_key unit_row key (λ _. refl) u at.units.units (ap (λ rows. is_taken rows (unit_row u)) (sym at.units.rows) ∙ wrote.fresh) in
+    let made = wrote.described in
+    let texts = texts_grown u parent f many new_id at.elements.elements made.elements at.elements.others made.texts_more in
+    let housed = housings_grown u parent f many new_id (housing_cells boxes u.values) at.housings.housings made.housings at.housings.others made.housed_more in
+    let grown = add has_id parent u f in
+    record {
+      catalogue = record {
+        schema_is = wrote.schema ∙ at.schema_is;
+        office = wrote.office;
+        next = refl;
+        units = record {
+          units = put_by key u at.units.units;
+          rows = wrote.units ∙ ap (put_row (unit_row u)) at.units.rows ∙ put_rows unit_row key (λ _. refl) u at.units.units;
+          rise = put_rises unit_row key (λ _. refl) u at.units.units at.units.rise;
+          are = IsPermutation-trans (nodes grown) (u ∷ nodes f) (put_by key u at.units.units) many
+              (IsPermutation-trans (u ∷ nodes f) (u ∷ at.units.units) (put_by key u at.units.units) (IsPermutation-cons u (nodes f) at.units.units at.units.are) (put_more key u at.units.units free));
+        };
+        elements = record {
+          elements = made.elements;
+          rows = made.texts.rows;
+          are = elements_still u parent f many new_id at.elements.elements made.elements texts at.elements.are;
+          others = all_theirs (λ (e : ElementRow). e.unit) cell_of (λ n. has (has_id n) grown ≡ true) u.id (element_cells u.values) at.elements.elements made.elements (own_here u parent f many new_id)
+              (all_weaker (λ (e : ElementRow). has (has_id e.unit) f ≡ true) (λ (e : ElementRow). has (has_id e.unit) grown ≡ true) (λ e h. still_here u parent f many new_id e.unit h) at.elements.elements at.elements.others) texts;
+        };
+        containers = made.housed.containers;
+        housings = record {
+          housings = made.housings;
+          rows = made.housed.rows;
+          are = housings_still u parent f many new_id c.containers boxes at.housings.housings made.housings (λ x known. same_cells c.containers u.values.boxes x.values.boxes 1 knows.apart known) housed knows.known at.housings.are;
+          others = all_theirs (λ (h : HousingRow). h.unit) housing_cell (λ n. has (has_id n) grown ≡ true) u.id (housing_cells boxes u.values) at.housings.housings made.housings (own_here u parent f many new_id)
+              (all_weaker (λ (h : HousingRow). has (has_id h.unit) f ≡ true) (λ (h : HousingRow). has (has_id h.unit) grown ≡ true) (λ h k. still_here u parent f many new_id h.unit k) at.housings.housings at.housings.others) housed;
+        };
+      };
+      shown = subst (represents new.trees) (sym (add-each nat_eq (λ (x : Unit). x.id) parent u f)) wrote.shown;
+    }

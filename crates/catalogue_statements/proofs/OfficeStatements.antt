@@ -1,0 +1,188 @@
+-- The statements on the office's row, and the counts: what their texts mean, what they leave or tell, and why they fail.
+use Rattle.std.proofs.Common.{◌≡◌, ℕ, pos, List, [], ◌∷◌, length, map, drop, codes, true, false, Equal, Result, OnOk, IfOk, IfErr, refl, ap, ◌∙◌}
+use Rattle.std.proofs.Math.Nat.{le_refl}
+use Rattle.std.proofs.lemmas.Bool.{both_ways}
+use Rattle.std.proofs.lemmas.Result.{IfOk-weaker}
+use Rattle.std.specs.Bool.{⊤}
+use Rattle.sqlite.specs.declared.types.Value.TheVariants.{Null, Int}
+use Rattle.sqlite.specs.Order.{Row}
+use Rattle.sqlite.specs.Cast.{cast_row}
+use Rattle.sqlite.specs.Table.{Table}
+use Rattle.sqlite.specs.Term.{Term, lit, col, op2}
+use Rattle.sqlite.specs.Query.{inner, end}
+use Rattle.sqlite.specs.Collation.TheVariants.{Binary}
+use Rattle.sqlite.specs.Command.{Command}
+use Rattle.sqlite.specs.Command.TheVariants.{Update, Select}
+use Rattle.sqlite.specs.Listing.{understood}
+use Rattle.sqlite.specs.State.{State, Shown, IsLive}
+use Rattle.sqlite.proofs.Callers.{reads_as, one_permutation}
+use Rattle.sqlite_schema.specs.declared.program.Program.{Program}
+use Rattle.sqlite_sql.specs.declared.ops.BinaryOp.TheVariants.{Compare}
+use Rattle.sqlite_sql.specs.declared.ops.CompareOp.TheVariants.{Eq}
+use Rattle.sqlite_tied.specs.Compute.{everything}
+use Rattle.sqlite_typing.specs.Types.{accepts_program}
+use Rattle.sqlite_value.specs.declared.keys.Key.{Key}
+use Rattle.sqlite_value.specs.Keys.{ascending}
+use Rattle.tree_core.specs.Versions.{Version, Links, Spans, version_number}
+use Rattle.office_tables.specs.Asking.{Finds, Misses}
+use Rattle.office_tables.specs.Changing.{Ran}
+use Rattle.office_tables.specs.Counting.{capped}
+use Rattle.office_tables.specs.Faults.{IsUnlimited, HasCause}
+use Rattle.office_tables.specs.Meaning.{Means}
+use Rattle.office_tables.specs.Schema.{schema, office, unit, container}
+use Rattle.office_tables.specs.Step.{HasRows, OnlyTouches}
+use Rattle.office_tables.specs.declared.fault.StoreFault.{StoreFault}
+use Rattle.catalogue_statements.specs.Rows.{office_row, told_cells}
+use Rattle.catalogue_statements.specs.Settings.{AreLegibleSettings}
+use Rattle.catalogue_statements.specs.declared.office.OfficeRow.{OfficeRow}
+use Rattle.office_tables.proofs.Casts.{cast_int, cast_null}
+use Rattle.office_tables.proofs.Causes.{read_cause, none_refuse, counts_always}
+use Rattle.office_tables.proofs.Counts.{summary_query, count_rows, counts}
+use Rattle.office_tables.proofs.Queries.{asking, choosing}
+use Rattle.office_tables.proofs.statements.OnlyOf.{update_only}
+use Rattle.office_tables.proofs.RowReads.{all_caused}
+use Rattle.office_tables.proofs.Rows.{kept_all}
+use Rattle.office_tables.proofs.statements.SelectOf.{select_finds, select_faults}
+use Rattle.office_tables.proofs.Tests.{only, same_number, by_one_int}
+use Rattle.office_tables.proofs.statements.UpdateOf.{update_leaves, update_faults}
+use Rattle.office_tables.proofs.statements.LeafOf.{office_kept}
+
+-- what a row of the table tells: the version, and the rest
+abbrev Telling : Type 0
+Telling = Version × OfficeRow
+
+abbrev telling_row : Telling → Row
+telling_row x = office_row x.0 x.1
+
+-- ---- the number of the next unit
+
+abbrev pub set_next_text : List ℕ
+set_next_text = codes "UPDATE office SET next_unit = ?1 WHERE one = 1"
+
+abbrev the_one : List Term
+the_one = op2 (Compare Eq Binary) (col 1 0) (lit (Int (pos 1))) ∷ []
+
+abbrev set_next_columns : List Term
+set_next_columns = col 1 0 ∷ col 1 0 ∷ lit Null ∷ col 1 2 ∷ col 1 3 ∷ col 1 4 ∷ col 1 5 ∷ col 1 6 ∷ col 1 7 ∷ col 1 8 ∷ col 1 9 ∷ col 0 0 ∷ []
+
+abbrev pub set_next_command : Command
+set_next_command = Update 7 (choosing office the_one set_next_columns)
+
+pub set_next_means : (v : Version) → Means v set_next_text 1 set_next_command
+unfolding understood everything
+set_next_means Links = record { is = refl; plain = (refl, refl); whole = (le_refl _, refl, refl); unlisted = refl }
+set_next_means Spans = record { is = refl; plain = (refl, refl); whole = (le_refl _, refl, refl); unlisted = refl }
+
+module _ (old new : State) (next : ℕ) (v : Version) (has : old.now.schema ≡ schema v) (version : Version) (o : OfficeRow) (stored : old.now.trees office.tree ≡ office_row version o ∷ [])
+    (r : Result Unit StoreFault) (ran : Ran set_next_text (Int (pos next) ∷ []) old new r) where
+  abbrev one : List Telling
+  one = (version, o) ∷ []
+
+  abbrev changed : Telling → Telling
+  changed x = (x.0, record x.1 { next_unit = next })
+
+  abbrev source : Telling → Row
+  source x = Int (pos 1) ∷ telling_row (changed x)
+
+  casts : (x : Telling) → cast_row office (drop 1 (source x)) ≡ telling_row (changed x)
+  casts x =
+      rw (cast_int (pos 1), cast_null, cast_int (pos (version_number x.0)), cast_int (pos x.1.seats), cast_int (pos x.1.daily), cast_int (pos x.1.hands), cast_int (pos x.1.run_size), cast_int x.1.day, cast_int (pos next)) refl
+
+  pub set_next_leaves : OnOk r (HasRows office.tree (office_row version (record o { next_unit = next }) ∷ []) old.now new.now)
+  set_next_leaves =
+      update_leaves v 7 office refl set_next_text the_one set_next_columns (Int (pos next) ∷ []) (set_next_means v) old new has telling_row (λ _. pos 1) (λ _. refl) one stored (tt, tt)
+      (λ _. true) (λ _. only (same_number 1 1)) source (λ _. refl) (λ _. refl) changed (λ _. refl) (λ x _ _. casts x) r ran
+
+  pub set_next_faults : IsUnlimited old → IsLive old → IfErr r (HasCause old new)
+  set_next_faults free live =
+      update_faults v 7 office refl set_next_text the_one set_next_columns (Int (pos next) ∷ []) (set_next_means v) old new has telling_row (λ _. pos 1) (λ _. refl) one stored (tt, tt)
+      (λ _. true) (λ _. only (same_number 1 1)) source (λ _. refl) (λ _. refl) changed (λ _. refl) (λ x _ _. casts x)
+      (λ _. false) (office_kept v) (λ x p h. absurd (let k : false ≡ true = h in cc)) (λ _. refl) (λ _. refl) (λ _. refl) refl free live r ran
+
+-- whatever the row is, no other table is touched
+pub set_next_only : (old new : State) (next : ℕ) (v : Version) → old.now.schema ≡ schema v → (r : Result Unit StoreFault) → Ran set_next_text (Int (pos next) ∷ []) old new r → OnOk r (OnlyTouches (office.tree ∷ []) old.now new.now)
+set_next_only old new next v has = update_only v 7 office refl set_next_text _ (Int (pos next) ∷ []) old new has (set_next_means v)
+
+-- ---- the office's row
+
+abbrev pub office_is_text : List ℕ
+office_is_text = codes "SELECT country, repo, seats, daily, hands, run_size, day, next_unit FROM office ORDER BY one"
+
+abbrev office_is_columns : List Term
+office_is_columns = col 1 3 ∷ col 1 4 ∷ col 1 5 ∷ col 1 6 ∷ col 1 7 ∷ col 1 8 ∷ col 1 9 ∷ col 1 10 ∷ []
+
+abbrev office_is_names : List (List ℕ)
+office_is_names = codes "country" ∷ codes "repo" ∷ codes "seats" ∷ codes "daily" ∷ codes "hands" ∷ codes "run_size" ∷ codes "day" ∷ codes "next_unit" ∷ []
+
+abbrev by_one : List (Term × Key)
+by_one = (col 1 0, ascending Binary) ∷ []
+
+abbrev pub office_is_command : Command
+office_is_command = Select (asking office [] office_is_columns by_one) office_is_names
+
+pub office_is_means : (v : Version) → Means v office_is_text 0 office_is_command
+unfolding understood everything
+office_is_means Links = record { is = refl; plain = (refl, refl); whole = (le_refl _, refl, refl); unlisted = refl }
+office_is_means Spans = record { is = refl; plain = (refl, refl); whole = (le_refl _, refl, refl); unlisted = refl }
+
+module _ (old new : State) (v : Version) (has : old.now.schema ≡ schema v) (version : Version) (o : OfficeRow) (stored : old.now.trees office.tree ≡ office_row version o ∷ []) {X : Type 0} (items : X → List OfficeRow) (r : Result X StoreFault) where
+  abbrev the_row : Telling
+  the_row = (version, o)
+
+  pub office_is_finds : IfOk r (λ found. Finds told_cells office_is_text [] old new (items found)) → IfOk r (λ found. items found ≡ o ∷ [])
+  office_is_finds found =
+      IfOk-weaker r _ _ (λ all it. it.2 ∙ ap (map (λ (x : Telling). x.1)) (one_permutation the_row it.0 it.1.0))
+      (select_finds v office office_is_text [] office_is_columns by_one office_is_names [] (office_is_means v) old new has telling_row (the_row ∷ []) stored
+      (λ _. true) (λ _. refl) (λ x. told_cells x.1) (λ _. Int (pos 1) ∷ []) (λ _. refl) (λ _ _. Equal) (λ _. refl) (λ a b. by_one_int (pos 1) (pos 1)) told_cells items (λ x. x.1) (λ _. refl) r found)
+
+  pub office_is_faults : AreLegibleSettings o → IsUnlimited old → IfErr r (Misses told_cells AreLegibleSettings office_is_text [] old new) → IfErr r (HasCause old new)
+  office_is_faults legible free =
+      select_faults v office office_is_text [] office_is_columns by_one office_is_names [] (office_is_means v) old new has telling_row (the_row ∷ []) stored
+      (λ _. true) (λ _. refl) (λ x. told_cells x.1) (λ _. Int (pos 1) ∷ []) (λ _. refl) (λ _ _. Equal) (λ _. refl) (λ a b. by_one_int (pos 1) (pos 1)) told_cells items (λ x. x.1) (λ _. refl)
+      AreLegibleSettings refl free (legible, tt) r
+
+-- ---- how many there are
+
+abbrev counting : Table → Program
+counting table = record { lets = []; body = summary_query (inner table.tree end) [] count_rows }
+
+abbrev number_cells : ℕ → Row
+number_cells n = Int (pos n) ∷ []
+
+module _ (old new : State) (v : Version) (has : old.now.schema ≡ schema v) {A : Type 0} (table : Table) (row : A → Row) (xs : List A) (stored : old.now.trees table.tree ≡ map row xs)
+    (sql : List ℕ) (means : Means v sql 0 (Select (counting table) (codes "count(*)" ∷ []))) {X : Type 0} (items : X → List ℕ) (r : Result X StoreFault) where
+  counted : (rows : List Row) → Shown sql [] old new rows → rows ≡ map number_cells (capped (length xs) ∷ [])
+  counted rows shown =
+      let read = reads_as sql [] old new (schema v) has (Select (counting table) (codes "count(*)" ∷ [])) means.is means.plain means.unlisted rows shown in
+      counts table.tree [] old.now.trees [] row xs (λ _. true) stored (λ _. refl) rows (read.answer Null) ∙ ap (λ l. (Int (pos (capped (length l))) ∷ []) ∷ []) (kept_all xs)
+
+  pub count_finds : IfOk r (λ found. Finds number_cells sql [] old new (items found)) → IfOk r (λ found. items found ≡ capped (length xs) ∷ [])
+  count_finds found = IfOk-weaker r _ _ (λ all it. it.are (capped (length xs) ∷ []) (counted it.rows it.shown)) found
+
+  pub count_faults : accepts_program (schema v) [] (summary_query (inner table.tree end) [] count_rows) [] ≡ true → IsUnlimited old → IfErr r (Misses number_cells (λ _. ⊤) sql [] old new) → IfErr r (HasCause old new)
+  count_faults accepted free missed =
+      all_caused number_cells (λ _. ⊤) sql [] old new r missed
+      (read_cause sql [] old new (schema v) has (counting table) (codes "count(*)" ∷ []) means.is means.plain means.whole means.unlisted (λ db e refused. none_refuse refused (λ t. both_ways _ t accepted) (counts_always _ _)) free)
+      (λ rows shown. (capped (length xs) ∷ [], counted rows shown, (tt, tt)))
+
+abbrev pub count_units_text : List ℕ
+count_units_text = codes "SELECT count(*) FROM unit"
+
+abbrev pub count_units_command : Command
+count_units_command = Select (counting unit) (codes "count(*)" ∷ [])
+
+pub count_units_means : (v : Version) → Means v count_units_text 0 count_units_command
+unfolding understood everything
+count_units_means Links = record { is = refl; plain = (refl, refl); whole = (le_refl _, refl, refl); unlisted = refl }
+count_units_means Spans = record { is = refl; plain = (refl, refl); whole = (le_refl _, refl, refl); unlisted = refl }
+
+abbrev pub count_containers_text : List ℕ
+count_containers_text = codes "SELECT count(*) FROM container"
+
+abbrev pub count_containers_command : Command
+count_containers_command = Select (counting container) (codes "count(*)" ∷ [])
+
+pub count_containers_means : (v : Version) → Means v count_containers_text 0 count_containers_command
+unfolding understood everything
+count_containers_means Links = record { is = refl; plain = (refl, refl); whole = (le_refl _, refl, refl); unlisted = refl }
+count_containers_means Spans = record { is = refl; plain = (refl, refl); whole = (le_refl _, refl, refl); unlisted = refl }

@@ -1,0 +1,221 @@
+-- DELETE of a unit, with its elements, its housings and the permits for it.
+use Rattle.office_tables.specs.Schema as tables
+use Rattle.std.proofs.Common.{◌≡◌, inl, inr, ℕ, ℤ, pos, List, [], ◌∷◌, map, filter, find, codes, Bool, true, false, ◌&&◌, ◌||◌, not, cond, Some, None, unwrap_or, Ok, nat_eq, refl, sym, ap, ap₂, subst, ◌∙◌}
+use Rattle.std.proofs.lemmas.Bool.{eq-eqb, eqb-true, cases_Bool}
+use Rattle.std.specs.List.{AllByRecursion, list_any}
+use Rattle.std.specs.List.Sorted.{IsPermutation}
+use Rattle.std.specs.declared.cmp.Ordering.TheVariants.{Less}
+use Rattle.sqlite.specs.declared.types.Value.TheVariants.{Null, Int}
+use Rattle.sqlite.specs.Order.{Row, column}
+use Rattle.sqlite.specs.Table.{Table}
+use Rattle.sqlite.specs.Tree.{Trees, has_rowid}
+use Rattle.sqlite.specs.Edit.{edit_of, taken_by, row_at}
+use Rattle.sqlite.specs.Rowids.TheVariants.{Given}
+use Rattle.sqlite.specs.Ops.{binary, is_true}
+use Rattle.sqlite.specs.Term.{col, op2}
+use Rattle.sqlite.specs.Collation.TheVariants.{Binary}
+use Rattle.sqlite.specs.Command.{Command}
+use Rattle.sqlite.specs.Command.TheVariants as command
+use Rattle.sqlite.specs.Effect.{Database, Answers}
+use Rattle.sqlite.specs.Listing.{understood}
+use Rattle.sqlite.specs.declared.run.Mode.{Mode}
+use Rattle.sqlite.specs.State.{State, Writes, Executes, mode_of}
+use Rattle.sqlite.proofs.Callers.{IsPlain, command_of, statement_of, runs_as, one_permutation}
+use Rattle.sqlite_rules.specs.Action.{works, Work, loses, Settles, is_child_of}
+use Rattle.sqlite_rules.specs.Calls.{ids_of}
+use Rattle.sqlite_rules.specs.declared.action.Deed.TheVariants.{Delete}
+use Rattle.sqlite_schema.specs.Names.{same_name}
+use Rattle.sqlite_schema.specs.declared.program.Program.{Program}
+use Rattle.sqlite_schema.specs.declared.schema.Keys.TheVariants.{Enforced}
+use Rattle.sqlite_sql.specs.declared.ops.BinaryOp.TheVariants.{Compare}
+use Rattle.sqlite_sql.specs.declared.ops.CompareOp.TheVariants.{Eq}
+use Rattle.sqlite_tied.specs.Compute.{everything}
+use Rattle.sqlite_value.specs.Keys.{joined, first_key, plain}
+use Rattle.desk_core.specs.DeskRows.{PermitRow}
+use Rattle.office_tables.specs.Numbered.{HasNumbered}
+use Rattle.office_tables.specs.Order.{Rises}
+use Rattle.office_tables.specs.Permits.{permit_cells}
+use Rattle.catalogue_statements.specs.Removals.{without, AreRemoved}
+use Rattle.catalogue_statements.specs.Rows.{unit_row, by_number, ElementRow, element_row, HousingRow, housing_row}
+use Rattle.tree_core.specs.Versions.{Version, Links, Spans}
+use Rattle.office_tables.specs.Schema.{schema, unit, element, housing, permit, to_unit}
+use Rattle.office_tables.specs.Step.{OnlyTouches}
+use Rattle.catalogue_core.specs.Units.{Unit}
+use Rattle.office_tables.proofs.numbered.OwnNumbers.{those_left}
+use Rattle.office_tables.proofs.Cascades.{IsCascade, three_works, cascade_rows, cascade_apart}
+use Rattle.catalogue_statements.proofs.ElementStatements.{element_alone}
+use Rattle.catalogue_statements.proofs.HousingStatements.{housing_alone}
+use Rattle.catalogue_statements.proofs.Moves.{other_number}
+use Rattle.office_tables.proofs.Queries.{choosing, chosen}
+use Rattle.office_tables.proofs.Rows.{tests as tests_of}
+use Rattle.office_tables.proofs.Steps.{DeletedWith, deleted_with}
+use Rattle.office_tables.proofs.Tests.{only, same_number, same_nat}
+use Rattle.office_tables.proofs.Updates.{deletes_rows}
+use Rattle.catalogue_statements.proofs.Without.{without_one}
+use Rattle.office_tables.proofs.Touching.{touched, touched_then, touched_wider}
+use Rattle.office_tables.proofs.statements.LeafOf.{permit_alone}
+
+abbrev pub remove_unit_text : List ℕ
+remove_unit_text = codes "DELETE FROM unit WHERE id = ?1"
+
+abbrev pub remove_unit_program : Program
+remove_unit_program = choosing unit (op2 (Compare Eq Binary) (col 1 0) (col 0 0) ∷ []) (col 1 0 ∷ [])
+
+abbrev pub remove_unit_command : Command
+remove_unit_command = command.Delete 8 remove_unit_program
+
+pub remove_unit_is : (v : Version) → command_of (understood (schema v) remove_unit_text) ≡ remove_unit_command
+unfolding understood everything
+remove_unit_is Links = refl
+remove_unit_is Spans = refl
+
+pub remove_unit_plain : (v : Version) → IsPlain (understood (schema v) remove_unit_text)
+unfolding understood everything
+remove_unit_plain Links = (refl, refl)
+remove_unit_plain Spans = (refl, refl)
+
+-- ---- the work on the children of a unit, which tell it at a place
+
+abbrev work_on : Table → ℕ → Unit → Work
+work_on child place u = record { depth = 0; child = child; ref = to_unit place; places = 0 ∷ []; order = plain; deed = Delete; moves = (unit_row u, []) ∷ [] }
+
+no_null : (n : ℤ) → is_true (binary (Compare Eq Binary) (Int n) Null) ≡ false
+unfolding binary
+no_null n = refl
+
+lost : (u : Unit) → loses plain (0 ∷ []) (unit_row u, []) ≡ true
+unfolding first_key
+lost u = ap₂ (λ a b. (a && true) && not (b && true)) (same_number u.id u.id ∙ eq-eqb u.id u.id refl) (no_null (pos u.id))
+
+works_are : (v : Version) (u : Unit) → works (schema v) Enforced 0 tables.unit.tree (unit_row u ∷ []) [] ≡ work_on permit 2 u ∷ work_on element 1 u ∷ work_on housing 1 u ∷ []
+unfolding joined same_name
+works_are Links u = rw (lost u) refl
+works_are Spans u = rw (lost u) refl
+
+child_is : (child : Table) (place : ℕ) (u : Unit) (n : ℕ) (r : Row) → column r place ≡ Int (pos n) → list_any (is_child_of (work_on child place u) r) (work_on child place u).moves ≡ nat_eq u.id n
+unfolding first_key
+child_is child place u n r is =
+    ap₂ (λ a b. (a && (b && true)) || false) (lost u) (ap (λ v. is_true (binary (Compare Eq Binary) v (Int (pos u.id)))) is ∙ same_number n u.id)
+    ∙ tidy (nat_eq u.id n)
+  where
+    tidy : (b : Bool) → ((true && (b && true)) || false) ≡ b
+    tidy true = refl
+    tidy false = refl
+
+found_one : {A B : Type 0} (f : A → B) (p : B → Bool) (q : A → Bool) → ((x : A) → p (f x) ≡ q x) → (xs : List A) (x : A) → filter q xs ≡ x ∷ [] → find p (map f xs) ≡ Some (f x)
+found_one f p q same [] x h = absurd (let e = h in cc)
+found_one f p q same (y ∷ ys) x h = elim (q y) as (λ b. p (f y) ≡ b → cond b (y ∷ filter q ys) (filter q ys) ≡ x ∷ [] → cond (p (f y)) (Some (f y)) (find p (map f ys)) ≡ Some (f x)) [
+  | true ↦ λ passes e. let is : y ≡ x = cc in rw (passes, is) refl
+  | false ↦ λ fails e. rw fails (found_one f p q same ys x e)
+] (same y) h
+
+abbrev pub keep : ℕ → Unit → Bool
+keep id u = nat_eq id u.id
+
+module _ (old new : State) (id : ℕ) (count : ℕ) (v : Version) (has : old.now.schema ≡ schema v) (h : Executes remove_unit_text (Int (pos id) ∷ []) old new (Ok count)) where
+  remove_unit_w : Writes old new None remove_unit_command (statement_of remove_unit_text (understood (schema v) remove_unit_text)) (Int (pos id) ∷ []) count
+  remove_unit_w = runs_as remove_unit_text (Int (pos id) ∷ []) old new (schema v) has remove_unit_command (remove_unit_is v) (remove_unit_plain v) count h
+
+  pub remove_unit_it : DeletedWith (schema v) 8 unit refl (mode_of old) (Int (pos id) ∷ []) remove_unit_program old.now new.now
+  remove_unit_it = deleted_with (schema v) 8 unit refl old.step_limit (mode_of old) (Int (pos id) ∷ []) (statement_of remove_unit_text (understood (schema v) remove_unit_text)) remove_unit_program old.now new.now remove_unit_w.tally has remove_unit_w.changed
+
+-- keys are enforced, and none is in doubt
+abbrev pub strict : Mode
+strict = record { keys = Enforced; in_doubt = false; may_wait = false }
+
+-- the statement shows the numbers of the units that have this one
+pub shown_units : (old : Database) (id : ℕ) (rows : List Row) → Answers old remove_unit_program (Int (pos id) ∷ []) rows → (xs : List Unit) → old.trees tables.unit.tree ≡ map unit_row xs
+    → (ys : List Unit) × IsPermutation (filter (keep id) xs) ys × (rows ≡ map (λ (x : Unit). Int (pos x.id) ∷ []) ys)
+shown_units old id rows answer xs from =
+    chosen tables.unit.tree (op2 (Compare Eq Binary) (col 1 0) (col 0 0) ∷ []) (col 1 0 ∷ []) old.trees (Int (pos id) ∷ []) unit_row (λ (x : Unit). Int (pos x.id) ∷ []) xs (keep id) from
+    (λ x. only (same_number x.id id)) (λ _. refl) rows (answer.answer Null)
+
+module _ (old new : Database) (id : ℕ) (units : List Unit) (u : Unit) (v : Version) (stored : old.trees tables.unit.tree ≡ map unit_row units) (up : Rises by_number units)
+    (id_is : u.id ≡ id) (there : filter (keep id) units ≡ u ∷ []) (it : DeletedWith (schema v) 8 unit refl strict (Int (pos id) ∷ []) remove_unit_program old new) where
+  got : (xs : List Unit) → old.trees tables.unit.tree ≡ map unit_row xs → (ys : List Unit) × IsPermutation (filter (keep id) xs) ys × (it.rows ≡ map (λ (x : Unit). Int (pos x.id) ∷ []) ys)
+  got = shown_units old id it.rows it.answer
+
+  units_left : (xs : List Unit) → old.trees tables.unit.tree ≡ map unit_row xs → Rises by_number xs → it.next tables.unit.tree ≡ map unit_row (without (λ (x : Unit). x.id) (id ∷ []) xs)
+  units_left xs from rise =
+      let found = got xs from in
+      it.applies.rows ∙ deletes_rows unit unit_row (λ x. pos x.id) (λ _. refl) old.trees xs from rise (keep id) found.0 found.1 (λ (x : Unit). Int (pos x.id) ∷ []) (λ _. refl) it.rows found.2
+      ∙ ap (map unit_row) (without_one (λ (x : Unit). x.id) id xs)
+
+  ids : ids_of it.rows ≡ pos u.id ∷ []
+  ids = let found = got units stored in ap ids_of (found.2 ∙ ap (map (λ (x : Unit). Int (pos x.id) ∷ [])) (one_permutation u found.0 (subst (λ l. IsPermutation l found.0) there found.1)))
+
+  same_row : (x : Unit) → has_rowid (pos u.id) (unit_row x) ≡ keep u.id x
+  same_row x = tests_of unit_row (λ x. pos x.id) (λ _. refl) (pos u.id) x ∙ same_nat x.id u.id
+
+  taken : taken_by old.trees (edit_of old.trees unit (ids_of it.rows) Given 0 []) ≡ unit_row u ∷ []
+  taken =
+      ap (map (row_at (old.trees tables.unit.tree))) ids
+      ∙ ap (λ rows. row_at rows (pos u.id) ∷ []) stored
+      ∙ ap (λ o. unwrap_or o [] ∷ []) (found_one unit_row (has_rowid (pos u.id)) (keep u.id) same_row units u (ap (λ n. filter (keep n) units) id_is ∙ there))
+
+  cascade : (first : Trees) × (second : Trees) × IsCascade (schema v) Enforced (work_on housing 1 u) it.next first × IsCascade (schema v) Enforced (work_on element 1 u) first second × IsCascade (schema v) Enforced (work_on permit 2 u) second new.trees
+  cascade = three_works (schema v) Enforced it.next new.trees (work_on permit 2 u) (work_on element 1 u) (work_on housing 1 u) (permit_alone v) (element_alone v) (housing_alone v)
+      (subst (λ ws. Settles (schema v) Enforced it.next ws (Ok new.trees)) (ap (λ olds. works (schema v) Enforced 0 tables.unit.tree olds []) taken ∙ works_are v u) it.settles)
+
+  abbrev first : Trees
+  first = cascade.0
+
+  abbrev second : Trees
+  second = cascade.1
+
+  to_next : OnlyTouches (tables.unit.tree ∷ []) old (record old { trees = it.next })
+  to_next = touched v old (record old { trees = it.next }) tables.unit.tree it.applies.tables
+
+  to_first : OnlyTouches (tables.housing.tree ∷ []) (record old { trees = it.next }) (record old { trees = first })
+  to_first = touched v (record old { trees = it.next }) (record old { trees = first }) tables.housing.tree (cascade_apart (schema v) Enforced (work_on housing 1 u) it.next first cascade.2)
+
+  to_second : OnlyTouches (tables.element.tree ∷ []) (record old { trees = first }) (record old { trees = second })
+  to_second = touched v (record old { trees = first }) (record old { trees = second }) tables.element.tree (cascade_apart (schema v) Enforced (work_on element 1 u) first second cascade.3)
+
+  to_new : OnlyTouches (tables.permit.tree ∷ []) (record old { trees = second }) new
+  to_new = touched v (record old { trees = second }) new tables.permit.tree (cascade_apart (schema v) Enforced (work_on permit 2 u) second new.trees cascade.4)
+
+  same_test_as : {A : Type 0} (number : A → ℕ) (xs : List A) → filter (λ x. not (nat_eq u.id (number x))) xs ≡ without number (id ∷ []) xs
+  same_test_as number xs = ap (λ n. filter (λ x. not (nat_eq n (number x))) xs) id_is ∙ without_one number id xs
+
+  -- the unit is gone, with all that tells of it
+  pub remove_unit_removes : AreRemoved (id ∷ []) old new
+  remove_unit_removes = record {
+    units = λ xs from rise. to_new tables.unit.tree refl refl ∙ to_second tables.unit.tree refl refl ∙ to_first tables.unit.tree refl refl ∙ units_left xs from rise;
+    elements = λ xs has.
+        let at = to_first tables.element.tree refl refl ∙ to_next tables.element.tree refl refl ∙ has.are in
+        subst (HasNumbered element_row (new.trees tables.element.tree)) (same_test_as (λ (e : ElementRow). e.unit) xs)
+        (those_left element_row (old.trees tables.element.tree) (new.trees tables.element.tree) xs has (λ (e : ElementRow). nat_eq u.id e.unit)
+        (to_new tables.element.tree refl refl
+        ∙ cascade_rows (schema v) Enforced (work_on element 1 u) element_row (λ e. e.0) (λ _. refl) first second has.numbered at has.rise (λ e. nat_eq u.id e.1.unit) (λ e. child_is element 1 u e.1.unit (element_row e) refl) cascade.3));
+    housings = λ xs has.
+        let at = to_next tables.housing.tree refl refl ∙ has.are in
+        subst (HasNumbered housing_row (new.trees tables.housing.tree)) (same_test_as (λ (h : HousingRow). h.unit) xs)
+        (those_left housing_row (old.trees tables.housing.tree) (new.trees tables.housing.tree) xs has (λ (h : HousingRow). nat_eq u.id h.unit)
+        (to_new tables.housing.tree refl refl ∙ to_second tables.housing.tree refl refl
+        ∙ cascade_rows (schema v) Enforced (work_on housing 1 u) housing_row (λ h. h.0) (λ _. refl) it.next first has.numbered at has.rise (λ h. nat_eq u.id h.1.unit) (λ h. child_is housing 1 u h.1.unit (housing_row h) refl) cascade.2));
+    permits = λ xs has.
+        let at = to_second tables.permit.tree refl refl ∙ to_first tables.permit.tree refl refl ∙ to_next tables.permit.tree refl refl ∙ has.are in
+        subst (HasNumbered permit_cells (new.trees tables.permit.tree)) (same_test_as (λ (p : PermitRow). p.unit) xs)
+        (those_left permit_cells (old.trees tables.permit.tree) (new.trees tables.permit.tree) xs has (λ (p : PermitRow). nat_eq u.id p.unit)
+        (cascade_rows (schema v) Enforced (work_on permit 2 u) permit_cells (λ p. p.0) (λ _. refl) second new.trees has.numbered at has.rise (λ p. nat_eq u.id p.1.unit) (λ p. child_is permit 2 u p.1.unit (permit_cells p) refl) cascade.4));
+    only = touched_wider (tables.unit.tree ∷ tables.housing.tree ∷ tables.element.tree ∷ tables.permit.tree ∷ []) (tables.permit.tree ∷ tables.unit.tree ∷ tables.element.tree ∷ tables.housing.tree ∷ []) old new refl
+        (touched_then (tables.unit.tree ∷ tables.housing.tree ∷ []) (tables.element.tree ∷ tables.permit.tree ∷ []) old (record old { trees = first }) new
+        (touched_then (tables.unit.tree ∷ []) (tables.housing.tree ∷ []) old (record old { trees = it.next }) (record old { trees = first }) to_next to_first)
+        (touched_then (tables.element.tree ∷ []) (tables.permit.tree ∷ []) (record old { trees = first }) (record old { trees = second }) new to_second to_new));
+  }
+
+-- ---- the one unit of a number
+
+none_after : (x : Unit) (xs : List Unit) → AllByRecursion (λ y. by_number x y ≡ Less) xs → filter (keep x.id) xs ≡ []
+none_after x [] up = refl
+none_after x (y ∷ ys) up = rw (other_number x.id y.id up.0) (none_after x ys up.1)
+
+pub the_one : (id : ℕ) (xs : List Unit) → Rises by_number xs → list_any (λ (u : Unit). nat_eq id u.id) xs ≡ true → (u : Unit) × (u.id ≡ id) × (filter (keep id) xs ≡ u ∷ [])
+the_one id [] up h = absurd (cc)
+the_one id (x ∷ xs) up h = elim (cases_Bool (nat_eq id x.id)) [
+  | inl e ↦
+      let same : id ≡ x.id = eqb-true id x.id e in
+      (x, sym same, rw e (ap (λ l. x ∷ l) (ap (λ n. filter (keep n) xs) same ∙ none_after x xs up.0)))
+  | inr n ↦ let rest = the_one id xs up.1 (rw n at h) in (rest.0, rest.1, rw n rest.2)
+]

@@ -1,0 +1,46 @@
+use Rattle.office_tables.specs.Schema as tables
+use Rattle.std.proofs.Common.{◌≡◌, ℤ, List, [], ◌∷◌, false, nat_eq, ◌&&◌, refl, sym, subst}
+use Rattle.std.specs.List.{list_any}
+use Rattle.sqlite.specs.Held.{state}
+use Rattle.sqlite.specs.Edit.{next_rowid}
+use Rattle.catalogue_statements.specs.Adding.{AreHoused, WithHousings}
+use Rattle.catalogue_core.specs.Describing.{with_boxes}
+use Rattle.catalogue_core.specs.Merging.{box_number}
+use Rattle.catalogue_statements.specs.Rows.{HousingRow, housing_row}
+use Rattle.office_tables.specs.Step.{Goes, PutsRow}
+use Rattle.office_tables.proofs.Calls.{early, on_ok_both}
+use Rattle.office_tables.proofs.numbered.OwnNumbers.{still_numbered}
+use Rattle.catalogue_statements.proofs.HousingLemmas.{housed}
+use Rattle.office_tables.proofs.Causes.{still_unlimited}
+use Rattle.office_tables.proofs.LaterCauses.{last_cause}
+use Rattle.catalogue_statements.proofs.Untold.{unit_still}
+use Rattle.catalogue_statements.proofs.housing.house.Goals as goal
+
+pub returns-clause-adds : goal.returns-clause-adds
+returns-clause-adds g c clean boxes xs at =
+    let a = state g.S.Store c.args.conn.now in
+    let b = state g.S.Store c.number_of.new.conn in
+    let d = state g.S.Store c.insert_housing.new.conn in
+    let key = c.args.key.now in
+    let all = with_boxes boxes (key ∷ []) in
+    let row : ℤ × HousingRow = (next_rowid (b.now.trees tables.housing.tree), record { unit = c.args.unit; ord = c.args.place; container = c.in_ok-number.number }) in
+    on_ok_both c.insert_housing.result (Goes b d) (PutsRow tables.housing.tree (housing_row row) b.now d.now)
+    ((ys : List HousingRow) × AreHoused d.now.trees all ys × WithHousings c.args.unit ((c.args.place, box_number all key) ∷ []) xs ys)
+    (λ last puts.
+    let before = early b d _ last.on.crash clean in
+    housed a.now b.now d.now c.args.unit c.args.place c.in_ok-number.number key boxes xs at (c.in_ok-number.ensures.numbers before boxes at.containers at.apart) (c.in_ok-number.ensures.only before) puts)
+    c.insert_housing.ensures.leaves.goes (c.insert_housing.ensures.puts clean)
+
+pub returns-clause-faults : goal.returns-clause-faults
+returns-clause-faults g c known boxes xs at small place_free number_free clean free =
+    let a = state g.S.Store c.args.conn.now in
+    let b = state g.S.Store c.number_of.new.conn in
+    let d = state g.S.Store c.insert_housing.new.conn in
+    let unit = c.args.unit in
+    let went = c.in_ok-number.ensures.goes in
+    last_cause a b d went.on c.insert_housing.result c.insert_housing.ensures.leaves.cut clean (λ before.
+    let is = c.in_ok-number.ensures.numbers before boxes at.containers at.apart in
+    let kept = c.in_ok-number.ensures.only before in
+    let here = unit_still a.now.trees b.now.trees unit (kept tables.unit.tree refl refl) known in
+    let none = subst (λ n. list_any (λ (h : HousingRow). nat_eq unit h.unit && nat_eq n h.container) xs ≡ false) (sym is.0) number_free in
+    c.insert_housing.ensures.faults here xs (still_numbered housing_row (a.now.trees tables.housing.tree) (b.now.trees tables.housing.tree) xs (kept tables.housing.tree refl refl) at.rows) place_free none clean (still_unlimited a b went.on free))

@@ -1,0 +1,14 @@
+//! The statements on the catalogue's tables, each with the rows that it changes or answers.
+#![tactic(auto)]
+
+pub mod containers;
+pub mod elements;
+pub mod housing;
+pub mod link_queries;
+pub mod link_updates;
+pub mod office;
+pub mod row_types;
+pub mod units;
+
+pub use office::OfficeRow;
+pub use units::NewUnit;

@@ -1,0 +1,122 @@
+//! The row of the office: its settings, its day and its next unit number.
+
+ghost use Rattle.std.specs.Prelude.{◌≡◌, ℕ, List, [], ◌∷◌, length, OnOk, IfOk};
+ghost use Rattle.isad_core.specs.declared.values.BoxKey.{BoxKey};
+ghost use Rattle.sqlite.specs.Held.{state};
+ghost use Rattle.sqlite.specs.State.{HasCleanDisk};
+ghost use Rattle.tree_core.specs.Versions.{Version};
+ghost use Rattle.catalogue_core.specs.Units.{«Unit» as Described};
+ghost use Rattle.isad_core.specs.Limits.{IsNumber};
+ghost use Rattle.office_tables.specs.Asking.{Reads};
+ghost use Rattle.office_tables.specs.Changing.{Leaves};
+ghost use Rattle.office_tables.specs.Counting.{capped};
+ghost use Rattle.office_tables.specs.Faults.{FaultsHaveCause};
+ghost use Rattle.office_tables.specs.Schema as tables;
+ghost use Rattle.office_tables.specs.Step.{InOffice, Holds, HasRows, OnlyTouches};
+ghost use Rattle.catalogue_statements.specs.Rows.{container_row, office_row as row_of_office, unit_row};
+ghost use Rattle.catalogue_statements.specs.Settings.{AreLegibleSettings};
+ghost use Rattle.catalogue_statements.specs.Represents.{RepresentsOffice};
+ghost use Rattle.catalogue_statements.specs.declared.office.OfficeRow.{OfficeRow};
+
+use isad_core::{Day, Text};
+use office_tables::value::number;
+use office_tables::{StoreFault, change, find};
+use sqlite::{Alter, Connection};
+use std::alloc::Global;
+
+/// What the office's row tells.
+#[derive(Debug, PartialEq, Drop)]
+pub struct OfficeRow {
+    /// Two letters, A to Z.
+    pub country: Text,
+    /// 1 to 32 bytes.
+    pub repo: Text,
+    /// How many seats the reading room has.
+    pub seats: u32,
+    /// How many orders a ticket may place on a day.
+    pub daily: u32,
+    /// How many containers a ticket may have out.
+    pub hands: u32,
+    /// How many containers a run takes at most.
+    pub run_size: u32,
+    /// The day on which the desk is open.
+    pub day: Day,
+    /// The number of the next new unit.
+    pub next_unit: u64,
+}
+
+/// Writes the number of the next new unit.
+pub fn set_next_unit<S: Alter>(conn: &mut Connection<S>, next: u64) -> Result<(), StoreFault>
+    requires inside { InOffice (state S.Store conn.old) }
+    requires small { IsNumber next }
+    ensures leaves { Leaves (state S.Store conn.old) (state S.Store conn.new) result }
+    ensures rows { HasCleanDisk (state S.Store conn.new)
+        → (version : Version) (o : OfficeRow) → RepresentsOffice version (state S.Store conn.old).now.trees o
+        → OnOk result (HasRows tables.office.tree (row_of_office version (record o { next_unit = next }) ∷ [])
+        (state S.Store conn.old).now (state S.Store conn.new).now) }
+    ensures only { HasCleanDisk (state S.Store conn.new)
+        → OnOk result (OnlyTouches (tables.office.tree ∷ []) (state S.Store conn.old).now
+        (state S.Store conn.new).now) }
+    ensures faults { (version : Version) (o : OfficeRow) → RepresentsOffice version (state S.Store conn.old).now.trees o
+        → FaultsHaveCause (state S.Store conn.old) (state S.Store conn.new) result }
+{
+    change(
+        conn,
+        "UPDATE office SET next_unit = ?1 WHERE one = 1",
+        &[number(next)],
+    )
+}
+
+/// The rows of the table: one.
+pub fn office_rows<S: Alter>(
+    alloc: Global,
+    conn: &mut Connection<S>,
+) -> Result<Vec<OfficeRow>, StoreFault>
+    requires inside { InOffice (state S.Store conn.old) }
+    ensures reads { Reads (state S.Store conn.old) (state S.Store conn.new) result }
+    ensures rows { HasCleanDisk (state S.Store conn.new)
+        → (version : Version) (o : OfficeRow) → RepresentsOffice version (state S.Store conn.old).now.trees o
+        → IfOk result (λ found. found.items ≡ o ∷ []) }
+    ensures faults { (version : Version) (o : OfficeRow) → RepresentsOffice version (state S.Store conn.old).now.trees o
+        → AreLegibleSettings o
+        → FaultsHaveCause (state S.Store conn.old) (state S.Store conn.new) result }
+{
+    find(
+        alloc,
+        conn,
+        "SELECT country, repo, seats, daily, hands, run_size, day, next_unit FROM office ORDER BY one",
+        &[],
+    )
+}
+
+/// How many units there are.
+pub fn count_units<S: Alter>(
+    alloc: Global,
+    conn: &mut Connection<S>,
+) -> Result<Vec<u64>, StoreFault>
+    requires inside { InOffice (state S.Store conn.old) }
+    ensures reads { Reads (state S.Store conn.old) (state S.Store conn.new) result }
+    ensures rows { HasCleanDisk (state S.Store conn.new)
+        → (xs : List Described) → Holds tables.unit unit_row (state S.Store conn.old) xs
+        → IfOk result (λ found. found.items ≡ capped (length xs) ∷ []) }
+    ensures faults { (xs : List Described) → Holds tables.unit unit_row (state S.Store conn.old) xs
+        → FaultsHaveCause (state S.Store conn.old) (state S.Store conn.new) result }
+{
+    find(alloc, conn, "SELECT count(*) FROM unit", &[])
+}
+
+/// How many containers there are.
+pub fn count_containers<S: Alter>(
+    alloc: Global,
+    conn: &mut Connection<S>,
+) -> Result<Vec<u64>, StoreFault>
+    requires inside { InOffice (state S.Store conn.old) }
+    ensures reads { Reads (state S.Store conn.old) (state S.Store conn.new) result }
+    ensures rows { HasCleanDisk (state S.Store conn.new)
+        → (xs : List (ℕ × BoxKey)) → Holds tables.container container_row (state S.Store conn.old) xs
+        → IfOk result (λ found. found.items ≡ capped (length xs) ∷ []) }
+    ensures faults { (xs : List (ℕ × BoxKey)) → Holds tables.container container_row (state S.Store conn.old) xs
+        → FaultsHaveCause (state S.Store conn.old) (state S.Store conn.new) result }
+{
+    find(alloc, conn, "SELECT count(*) FROM container", &[])
+}

@@ -1,0 +1,55 @@
+use Rattle.office_tables.specs.Schema as tables
+use Rattle.std.proofs.Common.{[], ◌∷◌, filter, not, nat_eq, refl, ◌∙◌}
+use Rattle.sqlite.specs.Held.{state}
+use Rattle.catalogue_statements.specs.Adding.{AreElements, AreHoused}
+use Rattle.catalogue_statements.specs.Rows.{ElementRow, HousingRow, housing_row}
+use Rattle.office_tables.specs.Numbered.{HoldsNumbered}
+use Rattle.office_tables.specs.Step.{Goes, OnlyTouches}
+use Rattle.office_tables.proofs.Calls.{early, on_ok_both, on_ok_then}
+use Rattle.office_tables.proofs.Outcomes.{on_ok_by}
+use Rattle.office_tables.proofs.CallEnds.{leaves_last}
+use Rattle.office_tables.proofs.Touching.{touched_then}
+use Rattle.catalogue_store.proofs.Telling.{same_elements, same_housed}
+use Rattle.catalogue_store.proofs.descriptions.clear.Goals as goal
+
+pub returns-clause-leaves : goal.returns-clause-leaves
+returns-clause-leaves g c =
+    let a = state g.S.Store c.args.conn.now in
+    let b = state g.S.Store c.clear_elements.new.conn in
+    let d = state g.S.Store c.clear_housings.new.conn in
+    leaves_last a b d c.clear_housings.result c.in_ok-clear_elements.ensures.leaves.goes c.clear_housings.ensures.leaves
+
+pub returns-clause-only : goal.returns-clause-only
+returns-clause-only g c clean =
+    let a = state g.S.Store c.args.conn.now in
+    let b = state g.S.Store c.clear_elements.new.conn in
+    let d = state g.S.Store c.clear_housings.new.conn in
+    let all = OnlyTouches (tables.element.tree ∷ tables.housing.tree ∷ []) a.now d.now in
+    on_ok_by c.clear_housings.result (Goes b d) all
+    (λ last.
+    let first = c.in_ok-clear_elements.ensures.only (early b d _ last.on.crash clean) in
+    on_ok_then c.clear_housings.result (OnlyTouches (tables.housing.tree ∷ []) b.now d.now) all (touched_then (tables.element.tree ∷ []) (tables.housing.tree ∷ []) a.now b.now d.now first)
+    (c.clear_housings.ensures.only clean))
+    c.clear_housings.ensures.leaves.goes
+
+pub returns-clause-clears : goal.returns-clause-clears
+returns-clause-clears g c clean boxes xs hs texts housed =
+    let a = state g.S.Store c.args.conn.now in
+    let b = state g.S.Store c.clear_elements.new.conn in
+    let d = state g.S.Store c.clear_housings.new.conn in
+    let unit = c.args.unit in
+    let elements = filter (λ (x : ElementRow). not (nat_eq unit x.unit)) xs in
+    let housings = filter (λ (x : HousingRow). not (nat_eq unit x.unit)) hs in
+    on_ok_by c.clear_housings.result (Goes b d) (AreElements d.now.trees elements × AreHoused d.now.trees boxes housings)
+    (λ last.
+    let before = early b d _ last.on.crash clean in
+    let there : AreElements b.now.trees elements = record { rows = c.in_ok-clear_elements.ensures.rows before xs texts.rows } in
+    let kept = c.in_ok-clear_elements.ensures.only before in
+    let here = same_housed a.now.trees b.now.trees boxes hs (kept tables.container.tree refl refl) (kept tables.housing.tree refl refl) housed in
+    on_ok_both c.clear_housings.result (HoldsNumbered tables.housing housing_row d housings) (OnlyTouches (tables.housing.tree ∷ []) b.now d.now) (AreElements d.now.trees elements × AreHoused d.now.trees boxes housings)
+    (λ left only. (
+      same_elements b.now.trees d.now.trees elements (only tables.element.tree refl refl) there,
+      record { containers = only tables.container.tree refl refl ∙ here.containers; apart = here.apart; rows = left },
+    ))
+    (c.clear_housings.ensures.rows clean hs here.rows) (c.clear_housings.ensures.only clean))
+    c.clear_housings.ensures.leaves.goes

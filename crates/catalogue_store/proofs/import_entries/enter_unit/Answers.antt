@@ -1,0 +1,95 @@
+use Rattle.std.proofs.Common.{[], ◌∷◌, refl, sym, ◌∙◌}
+use Rattle.std.proofs.lemmas.List.Sorted.{list_any-IsPermutation}
+use Rattle.sqlite.specs.Held.{state}
+use Rattle.tree_core.specs.Forest.{nodes}
+use Rattle.catalogue_core.specs.Bounds.{IsKept}
+use Rattle.catalogue_core.specs.Describing.{HasPlaceFor, IsNew}
+use Rattle.catalogue_core.specs.Units.{has_id, is_from}
+use Rattle.office_tables.specs.Schema as tables
+use Rattle.office_tables.specs.Step.{Goes, IsAborted, OnlyTouches}
+use Rattle.catalogue_statements.specs.Added.{unit_of}
+use Rattle.catalogue_statements.specs.Adding.{IsDescribed}
+use Rattle.catalogue_statements.specs.Rows.{ElementRow, HousingRow}
+use Rattle.catalogue_statements.specs.Represents.{RepresentsCatalogue, described_trees}
+use Rattle.office_tables.proofs.CallEnds.{excused_then, makes_not, same_fault}
+use Rattle.office_tables.proofs.Calls.{cut_then, early, goes_then, on_err_then, on_ok_both, on_ok_then, still_office}
+use Rattle.office_tables.proofs.Outcomes.{on_ok_by}
+use Rattle.office_tables.proofs.Touching.{touched_then, touched_wider}
+use Rattle.catalogue_statements.proofs.Untold.{none_yet, unit_added}
+use Rattle.catalogue_store.specs.Entering.{with_entered}
+use Rattle.catalogue_store.proofs.Entered.{shows_entered}
+use Rattle.catalogue_store.proofs.Telling.{elements_shown, housed_shown, same_elements, same_housed}
+use Rattle.catalogue_store.proofs.import_entries.enter_unit.Goals as goal
+
+pub describe-requires-clause-inside : goal.describe-requires-clause-inside
+describe-requires-clause-inside g c = still_office (state g.S.Store c.args.conn.now) (state g.S.Store c.insert_unit.new.conn) c.requires.inside c.in_ok-insert_unit.ensures.leaves.goes
+
+pub returns-in_err-insert_unit : goal.returns-in_err-insert_unit
+returns-in_err-insert_unit g c =
+    let u = unit_of c.args.unit.now in
+    let handed = c.from_residual.ensures in
+    let e = c.in_err-insert_unit.field-0.0 in
+    record {
+      makes = λ v parent. makes_not g.S.Store (RepresentsCatalogue v) (λ k. IsKept k × IsNew u k) (HasPlaceFor parent) c.args.conn.now c.insert_unit.new.conn c.from_residual.result (with_entered parent u) described_trees e
+          (same_fault c.from_residual.result e handed.0 handed.1) c.in_err-insert_unit.ensures.leaves.cut
+          (λ o k it may kept clean free.
+          let at = it.units in
+          c.in_err-insert_unit.ensures.faults at.units at.rows (sym (list_any-IsPermutation (has_id u.id) (nodes k.forest) at.units at.are) ∙ kept.1.number)
+          (sym (list_any-IsPermutation (is_from u.source u.legacy) (nodes k.forest) at.units at.are) ∙ kept.1.origin) clean free);
+    }
+
+pub returns : goal.returns
+returns g c =
+    let a = state g.S.Store c.args.conn.now in
+    let b = state g.S.Store c.insert_unit.new.conn in
+    let d = state g.S.Store c.describe.new.conn in
+    let u = unit_of c.args.unit.now in
+    let r = c.describe.result in
+    let told = tables.element.tree ∷ tables.container.tree ∷ tables.housing.tree ∷ [] in
+    let first = c.in_ok-insert_unit.ensures.leaves.goes in
+    record {
+      makes = λ v parent. record {
+        represents_updated = λ clean o k it may.
+            let xs = it.elements.elements in
+            let hs = it.housings.housings in
+            let shown = RepresentsCatalogue v d.now o (with_entered parent u k) in
+            on_ok_by r (Goes b d) shown
+            (λ last.
+            let at_b = early b d _ last.on.crash clean in
+            let put = c.in_ok-insert_unit.ensures.puts at_b in
+            let kept = put.only in
+            let texts = same_elements a.now.trees b.now.trees xs (kept tables.element.tree refl refl) (elements_shown v a.now o k it) in
+            let housed = same_housed a.now.trees b.now.trees k.containers hs (kept tables.container.tree refl refl) (kept tables.housing.tree refl refl) (housed_shown v a.now o k it may.knows) in
+            on_ok_both r (IsDescribed u.id u.values k.containers xs hs d.now.trees) (OnlyTouches told b.now d.now) shown
+            (λ made only. shows_entered v a.now d.now o k parent u it may.place may.knows (record {
+              schema = (goes_then a b d first last).schema clean;
+              office = only tables.office.tree refl refl ∙ kept tables.office.tree refl refl;
+              units = only tables.unit.tree refl refl ∙ put.rows;
+              fresh = put.fresh;
+              described = made;
+            }))
+            (c.describe.ensures.tells clean k.containers xs hs texts housed) (c.describe.ensures.only clean))
+            c.describe.ensures.goes;
+        only = λ clean.
+            let touched = OnlyTouches described_trees a.now d.now in
+            on_ok_by r (Goes b d) touched
+            (λ last.
+            let put = c.in_ok-insert_unit.ensures.puts (early b d _ last.on.crash clean) in
+            on_ok_then r (OnlyTouches told b.now d.now) touched
+            (λ only. touched_wider (tables.unit.tree ∷ told) described_trees a.now d.now refl (touched_then (tables.unit.tree ∷ []) told a.now b.now d.now put.only only))
+            (c.describe.ensures.only clean))
+            c.describe.ensures.goes;
+        goes = on_ok_then r (Goes b d) (Goes a d) (goes_then a b d first) c.describe.ensures.goes;
+        cut = on_err_then r (IsAborted b d) (IsAborted a d) (cut_then a b d first.on) c.describe.ensures.cut;
+        faults = λ o k it may kept. excused_then a b d first.on r c.describe.ensures.cut (λ at_b.
+            let xs = it.elements.elements in
+            let hs = it.housings.housings in
+            let put = c.in_ok-insert_unit.ensures.puts at_b in
+            let only = put.only in
+            let unit = unit_added a.now.trees b.now.trees u it.units.units it.units.rows put.rows in
+            let texts = same_elements a.now.trees b.now.trees xs (only tables.element.tree refl refl) (elements_shown v a.now o k it) in
+            let housed = same_housed a.now.trees b.now.trees k.containers hs (only tables.container.tree refl refl) (only tables.housing.tree refl refl) (housed_shown v a.now o k it may.knows) in
+            c.describe.ensures.faults unit kept.1.whole k.containers xs hs texts housed kept.0.few_boxes
+            (none_yet (λ (x : ElementRow). x.unit) u.id k.forest xs kept.1.number it.elements.others) (none_yet (λ (h : HousingRow). h.unit) u.id k.forest hs kept.1.number it.housings.others));
+      };
+    }

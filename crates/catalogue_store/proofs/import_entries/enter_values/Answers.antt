@@ -1,0 +1,143 @@
+use Rattle.std.proofs.Common.{[], ◌∷◌, filter, not, nat_eq, refl, sym, ◌∙◌}
+use Rattle.std.specs.Prelude.{⊤}
+use Rattle.std.proofs.lemmas.List.Sorted.{list_any-IsPermutation}
+use Rattle.sqlite.specs.Held.{state}
+use Rattle.tree_core.specs.Forest.{nodes}
+use Rattle.catalogue_core.specs.Bounds.{IsKept}
+use Rattle.catalogue_core.specs.Describing.{with_values, AreWhole, MayDescribe}
+use Rattle.catalogue_core.specs.Units.{has_id}
+use Rattle.office_tables.specs.Schema as tables
+use Rattle.office_tables.specs.Step.{Goes, IsAborted, OnlyTouches}
+use Rattle.catalogue_statements.specs.Adding.{IsDescribed}
+use Rattle.catalogue_statements.specs.Rows.{ElementRow, HousingRow}
+use Rattle.catalogue_statements.specs.Represents.{RepresentsCatalogue, described_trees}
+use Rattle.office_tables.proofs.CallEnds.{excused_then, makes_not, same_fault, makes_cut}
+use Rattle.office_tables.proofs.Calls.{cut_then, early, goes_then, on_err_then, on_ok_both, on_ok_then, still_office}
+use Rattle.office_tables.proofs.Outcomes.{on_ok_by}
+use Rattle.office_tables.proofs.Touching.{touched_then, touched_wider}
+use Rattle.catalogue_statements.proofs.Untold.{none_left, unit_valued}
+use Rattle.catalogue_store.proofs.Telling.{elements_shown, housed_shown, same_elements, same_housed}
+use Rattle.catalogue_store.proofs.Valued.{shows_valued}
+use Rattle.catalogue_store.proofs.import_entries.enter_values.Goals as goal
+
+pub set_level-requires-clause-inside : goal.set_level-requires-clause-inside
+set_level-requires-clause-inside g c = c.requires.inside
+
+pub clear-requires-clause-inside : goal.clear-requires-clause-inside
+clear-requires-clause-inside g c =
+    let a = state g.S.Store c.args.conn.now in
+    let b = state g.S.Store c.set_level.new.conn in
+    still_office a b c.requires.inside c.in_ok-set_level.ensures.leaves.goes
+
+pub describe-requires-clause-inside : goal.describe-requires-clause-inside
+describe-requires-clause-inside g c =
+    let a = state g.S.Store c.args.conn.now in
+    let b = state g.S.Store c.set_level.new.conn in
+    let d = state g.S.Store c.clear.new.conn in
+    still_office a d c.requires.inside (goes_then a b d c.in_ok-set_level.ensures.leaves.goes c.in_ok-clear.ensures.leaves.goes)
+
+pub returns-in_err-set_level : goal.returns-in_err-set_level
+returns-in_err-set_level g c =
+    let handed = c.from_residual.ensures in
+    let e = c.in_err-set_level.field-0.0 in
+    record {
+      makes = λ v. makes_not g.S.Store (RepresentsCatalogue v) (λ k. IsKept k × AreWhole c.args.values.now) (MayDescribe c.args.unit) c.args.conn.now c.set_level.new.conn c.from_residual.result (with_values c.args.unit c.args.values.now) described_trees e
+          (same_fault c.from_residual.result e handed.0 handed.1) c.in_err-set_level.ensures.leaves.cut
+          (λ o k it may kept clean free. let at = it.units in c.in_err-set_level.ensures.faults at.units at.rows at.rise clean free);
+    }
+
+pub returns-in_err-clear : goal.returns-in_err-clear
+returns-in_err-clear g c =
+    let a = state g.S.Store c.args.conn.now in
+    let b = state g.S.Store c.set_level.new.conn in
+    let handed = c.from_residual-in_err-clear.ensures in
+    let e = c.in_err-clear.field-0.0 in
+    record {
+      makes = λ v. makes_cut g.S.Store (RepresentsCatalogue v) (λ k. IsKept k × AreWhole c.args.values.now) (MayDescribe c.args.unit) c.args.conn.now c.set_level.new.conn c.clear.new.conn c.from_residual-in_err-clear.result (with_values c.args.unit c.args.values.now) described_trees e
+          (same_fault c.from_residual-in_err-clear.result e handed.0 handed.1) c.in_ok-set_level.ensures.leaves.goes.on c.in_err-clear.ensures.leaves.cut
+          (λ o k it may kept at_b clean free.
+          let at = it in
+          let xs = at.elements.elements in
+          let hs = at.housings.housings in
+          let only = c.in_ok-set_level.ensures.only at_b in
+          let texts = same_elements a.now.trees b.now.trees xs (only tables.element.tree refl refl) (elements_shown v a.now o k at) in
+          let housed = same_housed a.now.trees b.now.trees k.containers hs (only tables.container.tree refl refl) (only tables.housing.tree refl refl) (housed_shown v a.now o k at may.knows) in
+          c.in_err-clear.ensures.faults k.containers xs hs texts housed clean free);
+    }
+
+pub returns : goal.returns
+returns g c =
+    let a = state g.S.Store c.args.conn.now in
+    let b = state g.S.Store c.set_level.new.conn in
+    let d = state g.S.Store c.clear.new.conn in
+    let e = state g.S.Store c.describe.new.conn in
+    let unit = c.args.unit in
+    let values = c.args.values.now in
+    let r = c.describe.result in
+    let leveled = c.in_ok-set_level.ensures in
+    let cleared = c.in_ok-clear.ensures in
+    let went = goes_then a b d leveled.leaves.goes cleared.leaves.goes in
+    record {
+      makes = λ v. record {
+        represents_updated = λ clean o k it may.
+            let at = it in
+            let xs = at.elements.elements in
+            let hs = at.housings.housings in
+            let elements = filter (λ (x : ElementRow). not (nat_eq unit x.unit)) xs in
+            let housings = filter (λ (x : HousingRow). not (nat_eq unit x.unit)) hs in
+            let shown = RepresentsCatalogue v e.now o (with_values unit values k) in
+            on_ok_by r (Goes d e) shown
+            (λ last.
+            let before_d = early d e _ last.on.crash clean in
+            let before_b = early b d _ cleared.leaves.goes.on.crash before_d in
+            let level = leveled.rows before_b at.units.units at.units.rows at.units.rise in
+            let kept = level.only in
+            let texts = same_elements a.now.trees b.now.trees xs (kept tables.element.tree refl refl) (elements_shown v a.now o k at) in
+            let housed = same_housed a.now.trees b.now.trees k.containers hs (kept tables.container.tree refl refl) (kept tables.housing.tree refl refl) (housed_shown v a.now o k at may.knows) in
+            let none = cleared.clears before_d k.containers xs hs texts housed in
+            let still = cleared.only before_d in
+            on_ok_both r (IsDescribed unit values k.containers elements housings e.now.trees) (OnlyTouches (tables.element.tree ∷ tables.container.tree ∷ tables.housing.tree ∷ []) d.now e.now) shown
+            (λ made only. (shows_valued unit values v (λ _ _. ⊤) (λ _ _ _ _ _. tt) a.now e.now o k (record { catalogue = it; shown = tt }) may.knows may.there (record {
+              schema = (goes_then a d e went last).schema clean;
+              office = only tables.office.tree refl refl ∙ still tables.office.tree refl refl ∙ kept tables.office.tree refl refl;
+              places = only tables.link.tree refl refl ∙ still tables.link.tree refl refl ∙ kept tables.link.tree refl refl;
+              units_are = only tables.unit.tree refl refl ∙ still tables.unit.tree refl refl ∙ level.are;
+              described = made;
+            })).catalogue)
+            (c.describe.ensures.tells clean k.containers elements housings none.0 none.1) (c.describe.ensures.only clean))
+            c.describe.ensures.goes;
+        only = λ clean.
+            let touched = OnlyTouches described_trees a.now e.now in
+            let told = tables.element.tree ∷ tables.container.tree ∷ tables.housing.tree ∷ [] in
+            let gone = tables.element.tree ∷ tables.housing.tree ∷ [] in
+            on_ok_by r (Goes d e) touched
+            (λ last.
+            let before_d = early d e _ last.on.crash clean in
+            let before_b = early b d _ cleared.leaves.goes.on.crash before_d in
+            let first = touched_then (tables.unit.tree ∷ []) gone a.now b.now d.now (leveled.only before_b) (cleared.only before_d) in
+            on_ok_then r (OnlyTouches told d.now e.now) touched
+            (λ only. touched_wider (tables.unit.tree ∷ tables.element.tree ∷ tables.housing.tree ∷ tables.element.tree ∷ tables.container.tree ∷ tables.housing.tree ∷ []) described_trees a.now e.now refl
+            (touched_then (tables.unit.tree ∷ gone) told a.now d.now e.now first only))
+            (c.describe.ensures.only clean))
+            c.describe.ensures.goes;
+        goes = on_ok_then r (Goes d e) (Goes a e) (goes_then a d e went) c.describe.ensures.goes;
+        cut = on_err_then r (IsAborted d e) (IsAborted a e) (cut_then a d e went.on) c.describe.ensures.cut;
+        faults = λ o k it may kept. excused_then a d e went.on r c.describe.ensures.cut (λ before_d.
+            let at = it in
+            let xs = at.elements.elements in
+            let hs = at.housings.housings in
+            let elements = filter (λ (x : ElementRow). not (nat_eq unit x.unit)) xs in
+            let housings = filter (λ (x : HousingRow). not (nat_eq unit x.unit)) hs in
+            let before_b = early b d _ cleared.leaves.goes.on.crash before_d in
+            let level = leveled.rows before_b at.units.units at.units.rows at.units.rise in
+            let only = level.only in
+            let texts = same_elements a.now.trees b.now.trees xs (only tables.element.tree refl refl) (elements_shown v a.now o k at) in
+            let housed = same_housed a.now.trees b.now.trees k.containers hs (only tables.container.tree refl refl) (only tables.housing.tree refl refl) (housed_shown v a.now o k at may.knows) in
+            let none = cleared.clears before_d k.containers xs hs texts housed in
+            let still = cleared.only before_d in
+            let listed = sym (list_any-IsPermutation (has_id unit) (nodes k.forest) at.units.units at.units.are) ∙ may.there in
+            let known = unit_valued d.now.trees unit values at.units.units (still tables.unit.tree refl refl ∙ level.are) listed in
+            c.describe.ensures.faults known kept.1 k.containers elements housings none.0 none.1 kept.0.few_boxes
+            (none_left (λ (x : ElementRow). nat_eq unit x.unit) xs) (none_left (λ (x : HousingRow). nat_eq unit x.unit) hs));
+      };
+    }

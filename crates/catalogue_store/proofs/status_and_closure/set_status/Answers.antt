@@ -1,0 +1,73 @@
+use Rattle.std.proofs.Common.{◌≡◌, ℕ, List, [], ◌∷◌, length, ap, arith, sym, subst, ◌∙◌}
+use Rattle.std.specs.Prelude.{⊤}
+use Rattle.std.specs.List.{AllByRecursion}
+use Rattle.sqlite.specs.Effect.{Database}
+use Rattle.sqlite.specs.Held.{state}
+use Rattle.isad_core.specs.Limits.{IsNumber}
+use Rattle.tree_core.specs.Forest.{each}
+use Rattle.catalogue_core.specs.Bounds.{IsKept}
+use Rattle.catalogue_core.specs.Statuses.{chosen, with_status}
+use Rattle.catalogue_core.specs.Units.{Unit}
+use Rattle.office_tables.specs.Schema as tables
+use Rattle.office_tables.specs.Step.{OnlyTouches}
+use Rattle.office_tables.proofs.Calls.{early, cut_then, goes_then}
+use Rattle.office_tables.proofs.CallEnds.{makes_not, same_fault}
+use Rattle.office_tables.proofs.Causes.{still_unlimited}
+use Rattle.office_tables.proofs.LaterCauses.{next_cause}
+use Rattle.catalogue_statements.specs.Represents.{Represents}
+use Rattle.catalogue_statements.proofs.Statuses.{low_chosen}
+use Rattle.catalogue_store.proofs.status_and_closure.set_status.Goals as goal
+
+pub returns-in_err-units-clause-makes : goal.returns-in_err-units-clause-makes
+returns-in_err-units-clause-makes g c =
+    let e = c.from_residual.ensures in
+    let why = c.in_err-units.ensures.tells in
+    makes_not g.S.Store (Represents g.P.Places.represents g.P.Places.version) IsKept (λ _. ⊤) c.args.conn.now c.units_under.new.conn c.from_residual.result (λ k. with_status (chosen c.args.whole c.args.unit k) c.args.draft k) (tables.unit.tree ∷ []) c.in_err-units.field-0.0
+    (same_fault c.from_residual.result c.in_err-units.field-0.0 e.0 e.1) why.cut (λ o k it may kept. why.faults tt (each (λ (u : Unit). u.id) k.forest) it.shown tt kept.places)
+
+pub returns-in_err-set_drafts-clause-makes : goal.returns-in_err-set_drafts-clause-makes
+returns-in_err-set_drafts-clause-makes g c =
+    let a = state g.S.Store c.args.conn.now in
+    let b = state g.S.Store c.units_under.new.conn in
+    let d = state g.S.Store c.set_drafts.new.conn in
+    let told = c.in_ok-units.ensures.tells in
+    let cut = c.in_err-set_drafts.ensures.leaves.cut in
+    let last = c.from_residual-in_err-set_drafts.ensures in
+    let e = c.in_err-set_drafts.field-0.0 in
+    makes_not g.S.Store (Represents g.P.Places.represents g.P.Places.version) IsKept (λ _. ⊤) c.args.conn.now c.set_drafts.new.conn c.from_residual-in_err-set_drafts.result (λ k. with_status (chosen c.args.whole c.args.unit k) c.args.draft k) (tables.unit.tree ∷ []) e
+    (same_fault c.from_residual-in_err-set_drafts.result e last.0 last.1) (cut_then a b d told.looks.goes.on cut)
+    (λ o k it may kept clean free. next_cause a b d told.looks.goes.on cut clean e
+    (λ before.
+    let f = each (λ (u : Unit). u.id) k.forest in
+    let ids = c.deref.ensures.value ∙ told.answers before tt f it.shown in
+    let low = subst (AllByRecursion IsNumber) (sym ids) (low_chosen c.args.whole c.args.unit f c.requires.small kept.places) in
+    let shown = subst (λ (db : Database). Represents g.P.Places.represents g.P.Places.version db o k) (sym (told.looks.same before)) it in
+    c.in_err-set_drafts.ensures.faults o k shown low clean (still_unlimited a b told.looks.goes.on free)))
+
+pub returns-clause-makes : goal.returns-clause-makes
+returns-clause-makes g c =
+    let a = state g.S.Store c.args.conn.now in
+    let b = state g.S.Store c.units_under.new.conn in
+    let d = state g.S.Store c.set_drafts.new.conn in
+    let told = c.in_ok-units.ensures.tells in
+    let went = c.in_ok-set_drafts.ensures.leaves.goes in
+    record {
+      represents_updated = λ clean o k it may.
+          let represents = λ (db : Database). Represents g.P.Places.represents g.P.Places.version db o in
+          let before = early b d _ went.on.crash clean in
+          let ids = c.deref.ensures.value ∙ told.answers before tt (each (λ (u : Unit). u.id) k.forest) it.shown in
+          subst (λ (ids : List ℕ). represents d.now (with_status ids c.args.draft k)) ids
+          (c.in_ok-set_drafts.ensures.represents clean o k (subst (λ (db : Database). represents db k) (sym (told.looks.same before)) it));
+      only = λ clean. subst (λ (db : Database). OnlyTouches (tables.unit.tree ∷ []) db d.now) (told.looks.same (early b d _ went.on.crash clean)) (c.in_ok-set_drafts.ensures.only clean);
+      goes = goes_then a b d told.looks.goes went;
+      cut = tt;
+      faults = λ o k it may kept clean free. tt;
+    }
+
+pub returns-clause-count : goal.returns-clause-count
+returns-clause-count g c clean f it =
+    let b = state g.S.Store c.units_under.new.conn in
+    let d = state g.S.Store c.set_drafts.new.conn in
+    let before = early b d _ c.in_ok-set_drafts.ensures.leaves.goes.on.crash clean in
+    let long : c.len.result ≡ length c.in_ok-units.units.items = omega arith in
+    long ∙ ap length (c.in_ok-units.ensures.tells.answers before tt f it)

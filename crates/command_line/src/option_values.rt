@@ -1,0 +1,74 @@
+//! The values that words give to a command's options and files.
+ghost use Rattle.std.specs.Prelude.{◌≡◌, ◌≤◌, IfOk, codes};
+ghost use Rattle.clap.specs.Matches.{found_of};
+ghost use Rattle.clap.specs.Walk.{first_of, rows_of};
+ghost use Rattle.command_line.specs.Given.{HasNumber, HasNumberWithin, HasText, IsDay, IsNumber, IsValue};
+
+use clap::ArgMatches;
+use isad_core::{Day, Text};
+use std::alloc::{AllocError, Global};
+
+/// What was said for an option that is there.
+pub fn said<'a>(found: &ArgMatches<'a>, name: &str) -> &'a str
+    requires { HasText (rows_of (found_of found.now)) name.now }
+    ensures { IsValue (rows_of (found_of found.now)) name.now result.now }
+{
+    found.get_str(name).unwrap()
+}
+
+/// The same as a text of its own.
+pub fn text(alloc: Global, found: &ArgMatches, name: &str) -> Result<Text, AllocError>
+    requires { HasText (rows_of (found_of found.now)) name.now }
+    ensures { IfOk result (IsValue (rows_of (found_of found.now)) name.now) }
+{
+    Text::new(alloc, said(found, name))
+}
+
+/// The value of what may be left out.
+pub fn optional_text(
+    alloc: Global,
+    found: &ArgMatches,
+    name: &str,
+) -> Result<Option<Text>, AllocError>
+    ensures { IfOk result (λ o. first_of name.now (rows_of (found_of found.now)) ≡ o) }
+{
+    match found.get_str(name) {
+        Some(text) => Ok(Some(Text::new(alloc, text)?)),
+        None => Ok(None),
+    }
+}
+
+/// The value of an option that is a number.
+pub fn number(found: &ArgMatches, name: &str) -> u32
+    requires { HasNumber (rows_of (found_of found.now)) name.now }
+    ensures { IsNumber (rows_of (found_of found.now)) name.now result }
+{
+    found.get_one(name).unwrap()
+}
+
+/// The port, which is 1 or more.
+pub fn port(found: &ArgMatches) -> u16
+    requires { HasNumberWithin 1 65535 (rows_of (found_of found.now)) (codes "port") }
+    ensures value { IsNumber (rows_of (found_of found.now)) (codes "port") result }
+    ensures least { 1 ≤ result }
+{
+    found.get_one("port").unwrap()
+}
+
+/// The number of connections, which is 1 to 10000.
+pub fn connections(found: &ArgMatches) -> u32
+    requires { HasNumberWithin 1 10000 (rows_of (found_of found.now)) (codes "connections") }
+    ensures value { IsNumber (rows_of (found_of found.now)) (codes "connections") result }
+    ensures least { 1 ≤ result }
+    ensures most { result ≤ 10000 }
+{
+    found.get_one("connections").unwrap()
+}
+
+/// The day of an option, where it is one of the calendar.
+pub fn day(found: &ArgMatches, name: &str) -> Option<Day>
+    requires { HasText (rows_of (found_of found.now)) name.now }
+    ensures { IsDay (rows_of (found_of found.now)) name.now result }
+{
+    Day::parse(said(found, name))
+}

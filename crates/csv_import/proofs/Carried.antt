@@ -1,0 +1,139 @@
+-- Carrying out an import: the rows are entered, and then the outcome is judged.
+use Rattle.std.proofs.Common.{◌≡◌, ℕ, ℤ, Bool, true, false, cond, [], ◌∷◌, length, Option, Some, None, Result, Ok, Err, OnOk, refl, sym, ap, subst, ◌∙◌}
+use Rattle.std.specs.Prelude.{⊤, IfOk, IsOk, nat_lt}
+use Rattle.sqlite.specs.Effect.{Database}
+use Rattle.sqlite.specs.Held.{Held, state}
+use Rattle.sqlite.specs.State as store
+use Rattle.sqlite.specs.State.{HasCleanDisk}
+use Rattle.sqlite.specs.Tree.{Trees}
+use Rattle.sqlite_trees.specs.declared.store.Store as kept_in
+use Rattle.isad_core.specs.Limits.{most_containers}
+use Rattle.isad_core.specs.Texts.{Bytes}
+use Rattle.atom_csv.specs.FileOf.{file_of}
+use Rattle.atom_csv.specs.declared.file.File.{File}
+use Rattle.tree_core.specs.Forest.{Forest}
+use Rattle.tree_core.specs.Versions.{Version}
+use Rattle.desk_core.specs.Refusals.{first_that_holds, when}
+use Rattle.desk_core.specs.declared.refusal.Refusal.{Refusal}
+use Rattle.desk_core.specs.declared.refusal.Refusal.TheVariants.{Full}
+use Rattle.desk_store.specs.Represents.{RepresentsDesk}
+use Rattle.catalogue_core.specs.Merging.{Catalogue}
+use Rattle.catalogue_core.specs.Sources.{is_source}
+use Rattle.catalogue_statements.specs.Settings.{AreLegibleSettings}
+use Rattle.catalogue_statements.specs.Represents.{RepresentsNumbered, catalogue_trees}
+use Rattle.catalogue_statements.specs.declared.office.OfficeRow.{OfficeRow}
+use Rattle.office_core.specs.Rules.{Reply, after, gate, refusal, told}
+use Rattle.office_core.specs.SoundOffice.{HasLegibleSettings, IsSoundOffice}
+use Rattle.office_core.specs.State.{State}
+use Rattle.office_core.specs.declared.command.Command.{Command}
+use Rattle.office_core.specs.declared.command.Command.TheVariants as command
+use Rattle.office_core.proofs.KeptOffices.{office_settings}
+use Rattle.state_encoding.specs.Reading.{tables}
+use Rattle.office_tables.specs.Calls.{Answers}
+use Rattle.office_tables.specs.Step.{Goes, IsAborted, LeavesUnchanged, OnlyTouches}
+use Rattle.office_tables.specs.declared.fault.StoreFault.{StoreFault}
+use Rattle.office_tables.proofs.CallEnds.{excused_then}
+use Rattle.office_tables.proofs.Calls.{cut_then, early, goes_then, on_err_then, on_ok_then}
+use Rattle.refinement.specs.CommandSteps.{CarriesOut, CarriesOutStep}
+use Rattle.refinement.specs.Gate.{gated, unless_refused}
+use Rattle.refinement.specs.Judging.{RepresentsWhole}
+use Rattle.refinement.specs.Represents.{RepresentsState, office_of}
+use Rattle.refinement.proofs.Doings.{accepted, refused}
+use Rattle.refinement.proofs.Frames.{desk_kept}
+use Rattle.refinement.proofs.Tellings.{looked_crash}
+use Rattle.csv_import.specs.Entering.{CanEnter, RepresentsLegible, counts_of, entered}
+use Rattle.csv_import.specs.Importing.{FitsIn, HasImported, judged, told_of}
+use Rattle.csv_import.specs.declared.row_entry.Counts.{Counts}
+use Rattle.csv_import.proofs.Imports.{after_is, can_enter, entered_is, has_imported, now, refusal_is, same_desk, texts_stay, told_is}
+
+pub settings_shown : (s : State) → HasLegibleSettings s → AreLegibleSettings (office_of s)
+settings_shown s it = record { country = it.country; repo = it.repo; seats = it.seats; daily = it.daily; hands = it.hands; run_size = it.run_size; day = it.day }
+
+-- the tables can be read as those of a catalogue that takes rows
+pub shown_legible : (places : Trees → Forest ℕ → Type 0) (version : Version) (db : Database) (s : State) → IsSoundOffice s → RepresentsState places version db s → RepresentsLegible places version db (office_of s) s.catalogue
+shown_legible places version db s g it = record { tables = it.catalogue; settings = settings_shown s (office_settings s g) }
+
+-- a step that is refused for too many containers, or on which the gate has the last word
+judged_step : (places : Trees → Forest ℕ → Type 0) (version : Version) (s t : State) (asked : Command) (db : Database) → after s asked ≡ t
+    → refusal s asked ≡ first_that_holds (when (nat_lt most_containers (length t.catalogue.containers)) Full ∷ gate t ∷ []) → (r : Reply) → r ≡ judged t (told s asked) → RepresentsState places version db t → CarriesOutStep places version s asked r db
+judged_step places version s t asked db becomes last r is shown = at (nat_lt most_containers (length t.catalogue.containers)) (gate t) refl refl
+  where
+    refuse : (why : Refusal) → refusal s asked ≡ Some why → r ≡ Err why → CarriesOutStep places version s asked r db
+    refuse why some so =
+        let one = refused s asked why some in
+        record { told = so ∙ sym (ap (λ (p : State × Reply). p.1) one); represents = λ ok. absurd (let bad : IsOk (let r : Reply = Err why in r) = subst IsOk so ok in cc) }
+
+    accept : refusal s asked ≡ None → r ≡ Ok (told s asked) → CarriesOutStep places version s asked r db
+    accept none so =
+        let one = accepted s asked none in
+        record { told = so ∙ sym (ap (λ (p : State × Reply). p.1) one); represents = λ ok. subst (RepresentsState places version db) (sym (ap (λ (p : State × Reply). p.0) one ∙ becomes)) shown }
+
+    at : (many : Bool) (why : Option Refusal) → nat_lt most_containers (length t.catalogue.containers) ≡ many → gate t ≡ why → CarriesOutStep places version s asked r db
+    at true why e f =
+        refuse Full (last ∙ ap (λ (b : Bool). first_that_holds (when b Full ∷ gate t ∷ [])) e) (is ∙ ap (λ (b : Bool). cond b (Err Full) (gated t (told s asked))) e)
+    at false (Some why) e f =
+        refuse why (last ∙ (ap (λ (b : Bool). first_that_holds (when b Full ∷ gate t ∷ [])) e ∙ ap (λ w. first_that_holds (w ∷ [])) f))
+        (is ∙ (ap (λ (b : Bool). cond b (Err Full) (gated t (told s asked))) e ∙ ap (λ w. unless_refused w (told s asked)) f))
+    at false None e f =
+        accept (last ∙ (ap (λ (b : Bool). first_that_holds (when b Full ∷ gate t ∷ [])) e ∙ ap (λ w. first_that_holds (w ∷ [])) f))
+        (is ∙ (ap (λ (b : Bool). cond b (Err Full) (gated t (told s asked))) e ∙ ap (λ w. unless_refused w (told s asked)) f))
+
+if_ok_with : {X E : Type 0} (r : Result X E) (L : Type 0) (P Q : X → Type 0) → ((x : X) → L → P x → Q x) → OnOk r L → IfOk r P → IfOk r Q
+if_ok_with (Ok x) L P Q f l h = f x l h
+if_ok_with (Err e) L P Q f l h = tt
+
+module _ {S : Type 0} (g : kept_in.Ghosts S) (places : Trees → Forest ℕ → Type 0) (version : Version) (today : ℤ) (source bytes : Bytes) (file : File) (read : file_of bytes ≡ Ok file) (before : store.State) (mid after_it : Held S) (r : Result Reply StoreFault) (counts : Counts) where
+  abbrev b : store.State
+  b = state g mid
+
+  abbrev c : store.State
+  c = state g after_it
+
+  abbrev Known : State → Type 0
+  Known s = (today ≡ s.day) × (is_source source ≡ true) × FitsIn source file s
+
+  -- what entering the rows did
+  pub record HasEnteredAll : Type 0 where
+    pub represents : HasCleanDisk b → (o : OfficeRow) (k : Catalogue) → RepresentsLegible places version before.now o k → CanEnter source file.rows k → RepresentsLegible places version b.now o (entered source file.rows k)
+    pub only : HasCleanDisk b → OnlyTouches catalogue_trees before.now b.now
+    pub goes : Goes before b
+    pub counted : HasCleanDisk b → (o : OfficeRow) (k : Catalogue) → RepresentsLegible places version before.now o k → CanEnter source file.rows k → counts ≡ counts_of k.forest source file.rows
+
+  module _ (come : HasEnteredAll) where
+    shown_now : HasCleanDisk b → (s : State) → (sound : IsSoundOffice s) → (so : Known s) → RepresentsState places version before.now s → RepresentsState places version b.now (now s source bytes file read sound so.1 so.2)
+    shown_now clean s sound so it =
+        let named = so.1 in
+        let fits = so.2 in
+        let shown = come.represents clean (office_of s) s.catalogue (shown_legible places version before.now s sound it) (can_enter s source bytes file read sound named fits) in
+        record {
+          catalogue = subst (λ (k : Catalogue). RepresentsNumbered places version b.now (office_of s) k) (entered_is s source bytes file read sound named fits) shown.tables;
+          desk = subst (RepresentsDesk b.now.trees) (sym (same_desk s source bytes file read sound named fits version)) (desk_kept before.now b.now catalogue_trees (come.only clean) (tables version s).desk refl it.desk);
+          texts = texts_stay s source bytes file read sound named fits;
+        }
+
+    pub imports : Answers g (RepresentsWhole places version) (HasImported source file) mid after_it r (λ _. ⊤) (λ _ s reply. HasImported source file s → today ≡ s.day → reply ≡ judged s (told_of source file counts s))
+        → CarriesOut places version (λ s. (today ≡ s.day) × (is_source source ≡ true) × FitsIn source file s) (command.Import source bytes) before c r
+    imports tells =
+        let asked = command.Import source bytes in
+        let still = λ (clean : HasCleanDisk c). early b c _ (looked_crash r b c tells.looks tells.cut) clean in
+        record {
+          steps = λ clean s sound so it.
+              let named = so.1 in
+              let fits = so.2 in
+              let at_b = still clean in
+              let t = now s source bytes file read sound named fits in
+              let shown = shown_now at_b s sound so it in
+              let has = has_imported s source bytes file read sound named fits in
+              let counts_are = come.counted at_b (office_of s) s.catalogue (shown_legible places version before.now s sound it) (can_enter s source bytes file read sound named fits) in
+              if_ok_with r (LeavesUnchanged b c) (λ reply. HasImported source file t → today ≡ t.day → reply ≡ judged t (told_of source file counts t)) (λ reply. CarriesOutStep places version s asked reply c.now)
+              (λ reply looked is.
+              judged_step places version s t asked c.now (after_is s source bytes file read sound named fits) (refusal_is s source bytes file read sound named fits) reply
+              (is has so.0 ∙ ap (judged t) (ap (λ (n : Counts). told_of source file n t) counts_are ∙ sym (told_is s source bytes file read sound named fits)))
+              (subst (λ (db : Database). RepresentsState places version db t) (sym (looked.same clean)) shown))
+              tells.looks (tells.answers clean tt t shown);
+          goes = on_ok_then r (LeavesUnchanged b c) (Goes before c) (λ looked. goes_then before b c come.goes looked.goes) tells.looks;
+          cut = on_err_then r (IsAborted b c) (IsAborted before c) (λ cut. cut_then before b c come.goes.on cut) tells.cut;
+          faults = λ s sound so it.
+              excused_then before b c come.goes.on r tells.cut
+              (λ at_b. tells.faults tt (now s source bytes file read sound so.1 so.2) (shown_now at_b s sound so it) tt (has_imported s source bytes file read sound so.1 so.2));
+        }

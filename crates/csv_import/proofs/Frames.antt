@@ -1,0 +1,112 @@
+-- The catalogue's tables beside the places: what they show as the office's row and the next number change by themselves.
+use Rattle.std.proofs.Common.{◌≡◌, ℕ, true, not, List, Option, None, Result, OnOk, sym, subst, ◌∙◌}
+use Rattle.std.specs.Prelude.{⊤}
+use Rattle.sqlite.specs.Effect.{Database}
+use Rattle.sqlite.specs.Held.{Held, state}
+use Rattle.sqlite_trees.specs.declared.store.Store as store
+use Rattle.isad_core.specs.Texts.{Bytes}
+use Rattle.atom_csv.specs.declared.file.Row.{Row}
+use Rattle.tree_core.specs.Versions.{Version}
+use Rattle.catalogue_core.specs.Bounds.{IsKept}
+use Rattle.catalogue_core.specs.Describing.{HasPlaceFor, IsNew, KnowsItsContainers, MayDescribe, with_unit}
+use Rattle.catalogue_core.specs.RowByRow.{new_at, with_new}
+use Rattle.catalogue_core.specs.Merging.{Catalogue}
+use Rattle.catalogue_core.specs.Units.{Unit}
+use Rattle.office_tables.specs.Calls.{Updates}
+use Rattle.office_tables.specs.Step.{OnlyTouches}
+use Rattle.office_tables.specs.declared.fault.StoreFault.{StoreFault}
+use Rattle.catalogue_statements.specs.Represents.{RepresentsCatalogue, RepresentsOffice, described_trees}
+use Rattle.catalogue_statements.specs.declared.office.OfficeRow.{OfficeRow}
+use Rattle.refinement.proofs.Frames.{are_apart, untouched}
+use Rattle.catalogue_store.specs.Entering.{with_entered}
+use Rattle.csv_import.specs.Entering.{RepresentsEntering}
+use Rattle.csv_import.specs.Turns.{MayCome}
+use Rattle.csv_import.proofs.OneRow.{unit_comes}
+
+-- the catalogue with another number as the next
+abbrev pub at_next : ℕ → Catalogue → Catalogue
+at_next n c = record c { next = n }
+
+-- before a row is entered
+pub entering_of : (version : Version) (db : Database) (o : OfficeRow) (c : Catalogue) → RepresentsCatalogue version db o c → RepresentsEntering version db o c
+entering_of version db o c it = subst (λ n. RepresentsCatalogue version db o (record c { next = n })) (sym it.next) it
+
+pub kept_at : (n : ℕ) (c : Catalogue) → IsKept c → IsKept (at_next n c)
+kept_at n c it = record { places = it.places; units = it.units; boxes = it.boxes; few_boxes = it.few_boxes }
+
+pub knows_at : (n : ℕ) (c : Catalogue) → KnowsItsContainers c → KnowsItsContainers (at_next n c)
+knows_at n c it = record { apart = it.apart; known = it.known }
+
+pub describes_at : (n id : ℕ) (c : Catalogue) → MayDescribe id c → MayDescribe id (at_next n c)
+describes_at n id c it = record { knows = knows_at n c it.knows; there = it.there }
+
+pub new_at_next : (n : ℕ) (u : Unit) (c : Catalogue) → IsNew u c → IsNew u (at_next n c)
+new_at_next n u c it = record { number = it.number; origin = it.origin; whole = it.whole }
+
+-- other tables are written
+module _ (old new : Database) (touched : List ℕ) (only : OnlyTouches touched old new) where
+  pub described_kept : are_apart touched described_trees ≡ true → new.schema ≡ old.schema → (version : Version) (o p : OfficeRow) (c : Catalogue) (n : ℕ) → RepresentsOffice version new.trees p → p.next_unit ≡ n
+      → RepresentsCatalogue version old o c → RepresentsCatalogue version new p (record c { next = n })
+  described_kept apart schema version o p c n office next it =
+      let kept = untouched touched old new only described_trees apart in
+      record {
+        schema_is = schema ∙ it.schema_is;
+        office = office;
+        next = next;
+        units = record { units = it.units.units; rows = kept.0 ∙ it.units.rows; rise = it.units.rise; are = it.units.are };
+        elements = record {
+          elements = it.elements.elements;
+          rows = subst (λ rows. Rattle.office_tables.specs.Numbered.HasNumbered Rattle.catalogue_statements.specs.Rows.element_row rows it.elements.elements) (sym kept.1.0) it.elements.rows;
+          are = it.elements.are;
+          others = it.elements.others;
+        };
+        containers = kept.1.1.0 ∙ it.containers;
+        housings = record {
+          housings = it.housings.housings;
+          rows = subst (λ rows. Rattle.office_tables.specs.Numbered.HasNumbered Rattle.catalogue_statements.specs.Rows.housing_row rows it.housings.housings) (sym kept.1.1.1.0) it.housings.rows;
+          are = it.housings.are;
+          others = it.housings.others;
+        };
+      }
+
+-- a call on the catalogue's tables while rows are entered
+pub makes_entering : {S X : Type 0} (g : store.Ghosts S) (version : Version) (kept may kept_then may_then : Catalogue → Type 0) (made made_then : Catalogue → Catalogue) (touched : List ℕ) (before after : Held S) (r : Result X StoreFault)
+    → ((n : ℕ) (c : Catalogue) → may c → kept_then (at_next n c) × may_then (at_next n c)) → ((n : ℕ) (c : Catalogue) → may c → made_then (at_next n c) ≡ at_next n (made c))
+    → Updates g (RepresentsCatalogue version) kept_then before after r may_then made_then touched → Updates g (RepresentsEntering version) kept before after r may made touched
+makes_entering g version kept may kept_then may_then made made_then touched before after r serves same it =
+    let new = state g after in
+    record {
+      represents_updated = λ clean o c shown allowed.
+          subst (λ (d : Catalogue). OnOk r (RepresentsCatalogue version new.now o d)) (same o.next_unit c allowed) (it.represents_updated clean o (at_next o.next_unit c) shown (serves o.next_unit c allowed).1);
+      only = it.only;
+      goes = it.goes;
+      cut = it.cut;
+      faults = λ o c shown allowed within. (let so = serves o.next_unit c allowed in it.faults o (at_next o.next_unit c) shown so.1 so.0);
+    }
+
+-- the unit of a row, by the number that it gets
+abbrev pub unit_at : Bytes → Row → ℕ → Unit
+unit_at source row next = record { id = next; source = source; legacy = row.legacy; values = row.values; draft = not row.published; until = None }
+
+-- it is entered, wherever it stands
+pub makes_new : {S X : Type 0} (g : store.Ghosts S) (version : Version) (source : Bytes) (row : Row) (next : ℕ) (before after : Held S) (r : Result X StoreFault)
+    → ((parent : Option ℕ) → Updates g (RepresentsCatalogue version) (λ c. IsKept c × IsNew (unit_at source row next) c) before after r (HasPlaceFor parent) (with_entered parent (unit_at source row next)) described_trees)
+    → Updates g (RepresentsEntering version) (λ _. ⊤) before after r (MayCome source row next) (with_new source row) described_trees
+makes_new g version source row next before after r it =
+    let new = state g after in
+    let any = it None in
+    record {
+      represents_updated = λ clean o c shown may.
+          let parent = (new_at c source row).parent in
+          let is = unit_comes source row next c may.number in
+          subst (λ (u : Unit). OnOk r (RepresentsCatalogue version new.now o (record (with_unit parent u c) { next = o.next_unit }))) is
+          ((it parent).represents_updated clean o (at_next o.next_unit c) shown (record { knows = knows_at o.next_unit c may.place.knows; place = may.place.place }));
+      only = any.only;
+      goes = any.goes;
+      cut = any.cut;
+      faults = λ o c shown may within.
+          let parent = (new_at c source row).parent in
+          let is = unit_comes source row next c may.number in
+          (it parent).faults o (at_next o.next_unit c) shown (record { knows = knows_at o.next_unit c may.place.knows; place = may.place.place })
+          (kept_at o.next_unit c may.kept, new_at_next o.next_unit (unit_at source row next) c (subst (λ (u : Unit). IsNew u c) (sym is) may.new));
+    }

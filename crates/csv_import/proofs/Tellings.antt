@@ -1,0 +1,51 @@
+-- A call that reads, and hands on what a later call tells of what the same tables show.
+use Rattle.std.proofs.Common.{Result, Ok, Err, OnOk, OnErr}
+use Rattle.std.specs.Prelude.{IfOk}
+use Rattle.sqlite.specs.Effect.{Database}
+use Rattle.sqlite.specs.Held.{Held, state}
+use Rattle.sqlite.specs.State.{HasCleanDisk, State, Survives}
+use Rattle.sqlite_trees.specs.declared.store.Store as store
+use Rattle.office_tables.specs.Calls.{Answers}
+use Rattle.office_tables.specs.Step.{IsAborted, LeavesUnchanged}
+use Rattle.office_tables.specs.declared.fault.StoreFault.{StoreFault}
+use Rattle.office_tables.proofs.CallEnds.{excused_then}
+use Rattle.office_tables.proofs.Calls.{cut_then, early, looks_then, on_err_then, on_ok_then}
+
+looked_crash : {X E : Type 0} (r : Result X E) (a b : State) → OnOk r (LeavesUnchanged a b) → OnErr r (IsAborted a b) → Survives a b (λ _. ⊥)
+looked_crash (Ok x) a b looks cut = looks.goes.on.crash
+looked_crash (Err e) a b looks cut = cut.crash
+
+pub if_ok_then : {X E : Type 0} (r : Result X E) (P Q : X → Type 0) → ((x : X) → P x → Q x) → IfOk r P → IfOk r Q
+if_ok_then (Ok x) P Q f h = f x h
+if_ok_then (Err e) P Q f h = tt
+
+-- what the later call is told of is shown too, and is as it needs it
+pub record IsAlso {A B C D : Type 0} (represents : Database → A → B → Type 0) (may kept : B → Type 0) (others : Database → C → D → Type 0) (other_may other_kept : D → Type 0) (beside : A → B → C) (model : A → B → D) (a b : State) : Type 0 where
+  pub shown : HasCleanDisk b → (s : A) (m : B) → represents a.now s m → others b.now (beside s m) (model s m)
+  pub allowed : HasCleanDisk b → (s : A) (m : B) → represents a.now s m → may m → kept m → other_may (model s m) × other_kept (model s m)
+
+module _ {S Y A B C D : Type 0} (g : store.Ghosts S) (represents : Database → A → B → Type 0) (kept may : B → Type 0) (others : Database → C → D → Type 0) (other_kept other_may : D → Type 0) (before mid after : Held S) (r : Result Y StoreFault) where
+  abbrev a : State
+  a = state g before
+
+  abbrev b : State
+  b = state g mid
+
+  abbrev c : State
+  c = state g after
+
+  pub told_last : (beside : A → B → C) (model : A → B → D) (told : C → D → Y → Type 0) (answer : A → B → Y → Type 0) → LeavesUnchanged a b
+      → IsAlso represents may kept others other_may other_kept beside model a b
+      → (HasCleanDisk b → (s : A) (m : B) → represents a.now s m → (y : Y) → told (beside s m) (model s m) y → answer s m y)
+      → Answers g others other_kept mid after r other_may told → Answers g represents kept before after r may answer
+  told_last beside model told answer looked also means last =
+      let still = λ (clean : HasCleanDisk c). early b c _ (looked_crash r b c last.looks last.cut) clean in
+      record {
+        answers = λ clean s m shown.
+            if_ok_then r (told (beside s m) (model s m)) (answer s m) (means (still clean) s m shown) (last.answers clean (beside s m) (model s m) (also.shown (still clean) s m shown));
+        looks = on_ok_then r (LeavesUnchanged b c) (LeavesUnchanged a c) (λ on. looks_then a b c looked on) last.looks;
+        cut = on_err_then r (IsAborted b c) (IsAborted a c) (λ cut. cut_then a b c looked.goes.on cut) last.cut;
+        faults = λ s m shown so sound.
+            excused_then a b c looked.goes.on r last.cut
+            (λ at_b. (let fit = also.allowed at_b s m shown so sound in last.faults (beside s m) (model s m) (also.shown at_b s m shown) fit.0 fit.1));
+      }

@@ -1,0 +1,53 @@
+use Rattle.std.proofs.Common.{◌≡◌, arith, refl, sym, ◌∙◌}
+use Rattle.std.specs.Prelude.{⊤}
+use Rattle.sqlite.specs.Held.{state}
+use Rattle.catalogue_core.specs.GoodCatalogues.{AreGoodUnits}
+use Rattle.catalogue_core.specs.RowByRow.{number_there}
+use Rattle.csv_import.specs.Entering.{RepresentsEntering}
+use Rattle.office_tables.proofs.CallEnds.{same_fault, tells_not}
+use Rattle.office_tables.proofs.Calls.{cut_after, office_of}
+use Rattle.office_tables.specs.declared.fault.StoreFault.TheVariants as fault
+use Rattle.csv_import.proofs.OneRow.{finds_number, low_number}
+use Rattle.csv_import.proofs.numbers.number_of.Goals as goal
+
+pub known-requires : goal.known-requires
+known-requires g c = record { inside = office_of g.P.Places.version (state g.S.Store c.args.conn.now) c.requires.inside }
+
+pub returns-in_err-unit-clause-tells : goal.returns-in_err-unit-clause-tells
+returns-in_err-unit-clause-tells g c =
+    let handed = c.from_residual.ensures in
+    let e = c.in_err-unit.field-0.0 in
+    tells_not g.S.Store (RepresentsEntering g.P.Places.version) (λ _. ⊤) AreGoodUnits c.args.conn.now c.known.new.conn c.from_residual.result (λ _ k found. AreGoodUnits k → found ≡ number_there k c.args.source.now c.args.legacy.now) e
+    (same_fault c.from_residual.result e handed.0 handed.1) c.in_err-unit.ensures.tells.cut
+    (λ o k it good kept clean free. c.in_err-unit.ensures.tells.faults tt k.forest it.units tt tt clean free)
+
+pub returns-in_default-clause-tells : goal.returns-in_default-clause-tells
+returns-in_default-clause-tells g c =
+    let told = c.in_ok-unit.ensures.tells in
+    record {
+      answers = λ clean o k it good. sym c.in_default.is ∙ finds_number k c.args.source.now c.args.legacy.now c.in_ok-unit.field-0 good (told.answers clean tt k.forest it.units);
+      looks = told.looks;
+      cut = tt;
+      faults = λ o k it good kept clean free. tt;
+    }
+
+pub returns-then-unit-ge-NO_NUMBER-clause-tells : goal.returns-then-unit-ge-NO_NUMBER-clause-tells
+returns-then-unit-ge-NO_NUMBER-clause-tells g c =
+    let a = state g.S.Store c.args.conn.now in
+    let b = state g.S.Store c.known.new.conn in
+    let told = c.in_ok-unit.ensures.tells in
+    tells_not g.S.Store (RepresentsEntering g.P.Places.version) (λ _. ⊤) AreGoodUnits c.args.conn.now c.known.new.conn _ (λ _ k found. AreGoodUnits k → found ≡ number_there k c.args.source.now c.args.legacy.now) fault.Schema
+    refl (cut_after a b told.looks.goes.on)
+    (λ o k it good kept clean free.
+    let low = low_number k c.args.source.now c.args.legacy.now c.in-Some.unit good (sym c.in-Some.is ∙ finds_number k c.args.source.now c.args.legacy.now c.in_ok-unit.field-0 good (told.answers clean tt k.forest it.units)) in
+    absurd (omega (arith, low, c.if-unit-ge-NO_NUMBER.true)))
+
+pub returns-clause-tells : goal.returns-clause-tells
+returns-clause-tells g c =
+    let told = c.in_ok-unit.ensures.tells in
+    record {
+      answers = λ clean o k it good. sym c.in-Some.is ∙ finds_number k c.args.source.now c.args.legacy.now c.in_ok-unit.field-0 good (told.answers clean tt k.forest it.units);
+      looks = told.looks;
+      cut = tt;
+      faults = λ o k it good kept clean free. tt;
+    }

@@ -1,0 +1,60 @@
+use Rattle.std.proofs.Common.{◌≡◌, Some, None, sym, ◌∙◌}
+use Rattle.std.specs.Prelude.{find, map}
+use Rattle.std.specs.Option.{option_to_list}
+use Rattle.sqlite.specs.Held.{state}
+use Rattle.isad_core.specs.Levels.{rank_of}
+use Rattle.isad_core.specs.Texts.{Bytes}
+use Rattle.tree_core.specs.Forest.{nodes, path}
+use Rattle.tree_core.specs.Tops.{last_but_one}
+use Rattle.catalogue_core.specs.Merging.{Catalogue}
+use Rattle.catalogue_core.specs.Units.{has_id, is_from}
+use Rattle.catalogue_core.specs.Units.{Unit as Described}
+use Rattle.office_core.specs.ImportReply.{is_level_above, remark_if}
+use Rattle.office_core.specs.ImportReply as reply
+use Rattle.office_core.specs.declared.done.Remark.TheVariants.{LevelTooHigh}
+use Rattle.office_tables.proofs.Calls.{looks_nowhere, office_of}
+use Rattle.csv_import.specs.Remarking.{HasParent}
+use Rattle.csv_import.proofs.Remarked.{is_below, top_remark}
+use Rattle.csv_import.proofs.RightAbove.{last_number, there}
+use Rattle.csv_import.proofs.Tellings.{if_ok_then}
+use Rattle.csv_import.proofs.remarks.remark_on.Goals as goal
+
+pub returns-in-Some : goal.returns-in-Some
+returns-in-Some g c =
+    let row = c.args.row.now in
+    let parent = c.in-Some.parent in
+    let told = c.remark_below.ensures.tells in
+    let below = λ (source : Bytes) (k : Catalogue) (has : HasParent source row c.args.parent k).
+    (let unit = there k.forest source row has.its in
+    let some : last_but_one (map (λ (u : Described). u.id) (path (is_from source row.legacy) k.forest)) ≡ Some parent =
+    last_number (path (is_from source row.legacy) k.forest) ∙ (sym has.above ∙ c.in-Some.is) in
+    is_below k.forest source row unit.0 unit.1 parent has.units.ids some) in
+    record {
+      tells = λ source. record {
+        answers = λ clean o k it.
+            if_ok_then c.remark_below.result
+            (λ told. (unit : Described) → find (has_id parent) (nodes k.forest) ≡ Some unit → option_to_list told ≡ remark_if (is_level_above (rank_of row.values.level) (rank_of unit.values.level)) (LevelTooHigh row.row))
+            (λ told. HasParent source row c.args.parent k → option_to_list told ≡ reply.remark_on row.row (path (is_from source row.legacy) k.forest))
+            (λ remark is has. (let up = below source k has in is up.above up.found_above ∙ up.remarked has.its)) (told.answers clean o k it);
+        looks = told.looks;
+        cut = told.cut;
+        faults = λ o k it has kept. (let up = below source k has in told.faults o k it (up.above, up.found_above) kept);
+      };
+    }
+
+pub returns-in-None : goal.returns-in-None
+returns-in-None g c =
+    let a = state g.S.Store c.args.conn.now in
+    let row = c.args.row.now in
+    record {
+      tells = λ source. record {
+        answers = λ clean o k it has.
+            let unit = there k.forest source row has.its in
+            let none : last_but_one (map (λ (u : Described). u.id) (path (is_from source row.legacy) k.forest)) ≡ None =
+            last_number (path (is_from source row.legacy) k.forest) ∙ (sym has.above ∙ c.in-None.is) in
+            c.remark_on_top.ensures ∙ top_remark k.forest source row unit.0 unit.1 none has.its;
+        looks = looks_nowhere a (office_of g.P.Places.version a c.requires.inside);
+        cut = tt;
+        faults = λ o k it may kept clean free. tt;
+      };
+    }

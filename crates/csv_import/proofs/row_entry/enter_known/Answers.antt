@@ -1,0 +1,99 @@
+use Rattle.std.proofs.Common.{cond, refl, sym, ap, ◌∙◌}
+use Rattle.std.specs.Prelude.{⊤}
+use Rattle.sqlite.specs.Held.{state}
+use Rattle.isad_core.specs.declared.values.Values.{Values}
+use Rattle.catalogue_core.specs.Bounds.{IsKept}
+use Rattle.catalogue_core.specs.Describing.{AreWhole, MayDescribe, with_values}
+use Rattle.catalogue_core.specs.Intake.{same_values}
+use Rattle.catalogue_core.specs.Merging.{Catalogue}
+use Rattle.catalogue_core.proofs.KeptCatalogues.{all_places}
+use Rattle.catalogue_statements.specs.Represents.{described_trees}
+use Rattle.office_tables.proofs.CallEnds.{makes_not, same_fault}
+use Rattle.office_tables.proofs.Calls.{cut_after, early, office_of, still_office}
+use Rattle.office_tables.specs.declared.fault.StoreFault.TheVariants as fault
+use Rattle.csv_import.specs.Entering.{RepresentsEntering}
+use Rattle.csv_import.specs.Turns.{MayChange}
+use Rattle.csv_import.specs.declared.row_entry.Entry.TheVariants as entry
+use Rattle.csv_import.proofs.Afterwards.{makes_nothing, makes_same, makes_same_fault, makes_then}
+use Rattle.csv_import.proofs.Frames.{at_next, describes_at, kept_at, knows_at, makes_entering}
+use Rattle.csv_import.proofs.OneRow.{is_valued, not_untold, told_of_it}
+use Rattle.csv_import.proofs.SameValues.{nothing_changes}
+use Rattle.csv_import.proofs.row_entry.enter_known.Goals as goal
+
+pub values-requires-clause-inside : goal.values-requires-clause-inside
+values-requires-clause-inside g c = office_of g.P.Places.version (state g.S.Store c.args.conn.now) c.requires.inside
+
+pub enter_values-requires-clause-inside : goal.enter_values-requires-clause-inside
+enter_values-requires-clause-inside g c =
+    let a = state g.S.Store c.args.conn.now in
+    still_office a (state g.S.Store c.values.new.conn) (office_of g.P.Places.version a c.requires.inside) c.in_ok-found.ensures.tells.looks.goes
+
+pub returns-in_err-found-clause-makes : goal.returns-in_err-found-clause-makes
+returns-in_err-found-clause-makes g c =
+    let handed = c.from_residual.ensures in
+    let e = c.in_err-found.field-0.0 in
+    let told = c.in_err-found.ensures.tells in
+    makes_not g.S.Store (RepresentsEntering g.P.Places.version) (λ _. ⊤) (MayChange c.args.unit c.args.values.now) c.args.conn.now c.values.new.conn c.from_residual.result (with_values c.args.unit c.args.values.now) described_trees e
+    (same_fault c.from_residual.result e handed.0 handed.1) told.cut
+    (λ o k it may kept clean free. told.faults o (at_next o.next_unit k) (record { version = g.P.Places.version; catalogue = it; places = all_places k may.units }) (knows_at o.next_unit k may.there.knows) (kept_at o.next_unit k may.kept) clean free)
+
+pub returns-in_default-clause-makes : goal.returns-in_default-clause-makes
+returns-in_default-clause-makes g c =
+    let a = state g.S.Store c.args.conn.now in
+    let b = state g.S.Store c.values.new.conn in
+    let told = c.in_ok-found.ensures.tells in
+    makes_not g.S.Store (RepresentsEntering g.P.Places.version) (λ _. ⊤) (MayChange c.args.unit c.args.values.now) c.args.conn.now c.values.new.conn _ (with_values c.args.unit c.args.values.now) described_trees fault.Schema
+    refl (cut_after a b told.looks.goes.on)
+    (λ o k it may kept clean free.
+    not_untold k c.args.unit may.there.there (sym c.in_default.is ∙ told.answers clean o (at_next o.next_unit k) (record { version = g.P.Places.version; catalogue = it; places = all_places k may.units })))
+
+pub returns-then-are_same-clause-makes : goal.returns-then-are_same-clause-makes
+returns-then-are_same-clause-makes g c =
+    let told = c.in_ok-found.ensures.tells in
+    makes_nothing g.S.Store (RepresentsEntering g.P.Places.version) (λ _. ⊤) (MayChange c.args.unit c.args.values.now) (with_values c.args.unit c.args.values.now) described_trees c.args.conn.now c.values.new.conn told.looks entry.Same
+    (λ o k it may clean.
+    let v = is_valued k c.args.unit may.there.there in
+    let is = told_of_it k c.args.unit v.unit c.in-Some.found v.by_number (sym c.in-Some.is ∙ told.answers clean o (at_next o.next_unit k) (record { version = g.P.Places.version; catalogue = it; places = all_places k may.units })) in
+    sym (nothing_changes k c.args.unit v.unit c.args.values.now may.units may.there.knows v.by_number (ap (λ (w : Values). same_values w c.args.values.now) (sym is) ∙ (sym c.are_same.ensures ∙ c.if-are_same.true))))
+
+pub returns-then-are_same-clause-told : goal.returns-then-are_same-clause-told
+returns-then-are_same-clause-told g c clean o k it may u found =
+    let told = c.in_ok-found.ensures.tells in
+    let is = told_of_it k c.args.unit u c.in-Some.found found (sym c.in-Some.is ∙ told.answers clean o (at_next o.next_unit k) (record { version = g.P.Places.version; catalogue = it; places = all_places k may.units })) in
+    sym (ap (λ b. cond b entry.Same entry.Changed) (ap (λ (w : Values). same_values w c.args.values.now) (sym is) ∙ (sym c.are_same.ensures ∙ c.if-are_same.true)))
+
+pub returns-in_err-enter_values-clause-makes : goal.returns-in_err-enter_values-clause-makes
+returns-in_err-enter_values-clause-makes g c =
+    let represents = RepresentsEntering g.P.Places.version in
+    let handed = c.from_residual-in_err-enter_values.ensures in
+    let e = c.in_err-enter_values.field-0.0 in
+    let may = MayChange c.args.unit c.args.values.now in
+    let made = with_values c.args.unit c.args.values.now in
+    let within = λ (k : Catalogue). IsKept k × AreWhole c.args.values.now in
+    let there = MayDescribe c.args.unit in
+    makes_same_fault g.S.Store represents (λ _. ⊤) may made described_trees c.args.conn.now c.enter_values.new.conn e c.from_residual-in_err-enter_values.result
+    (same_fault c.from_residual-in_err-enter_values.result e handed.0 handed.1)
+    (makes_then g.S.Store represents (λ _. ⊤) may made described_trees c.args.conn.now c.values.new.conn c.in_ok-found.ensures.tells.looks c.enter_values.new.conn (λ _. ⊤) may made described_trees refl _
+    (makes_entering g.S.Store g.P.Places.version (λ _. ⊤) may within there made made described_trees c.values.new.conn c.enter_values.new.conn _ (λ n k allowed. ((kept_at n k allowed.kept, allowed.whole), describes_at n c.args.unit k allowed.there)) (λ n k allowed. refl) (c.in_err-enter_values.ensures.makes g.P.Places.version))
+    (λ o k it allowed clean. record { within = tt; allowed = allowed; same = refl }))
+
+pub returns-clause-makes : goal.returns-clause-makes
+returns-clause-makes g c =
+    let represents = RepresentsEntering g.P.Places.version in
+    let may = MayChange c.args.unit c.args.values.now in
+    let made = with_values c.args.unit c.args.values.now in
+    let within = λ (k : Catalogue). IsKept k × AreWhole c.args.values.now in
+    let there = MayDescribe c.args.unit in
+    makes_same g.S.Store represents (λ _. ⊤) may made described_trees c.args.conn.now c.enter_values.new.conn _ entry.Changed
+    (makes_then g.S.Store represents (λ _. ⊤) may made described_trees c.args.conn.now c.values.new.conn c.in_ok-found.ensures.tells.looks c.enter_values.new.conn (λ _. ⊤) may made described_trees refl _
+    (makes_entering g.S.Store g.P.Places.version (λ _. ⊤) may within there made made described_trees c.values.new.conn c.enter_values.new.conn _ (λ n k allowed. ((kept_at n k allowed.kept, allowed.whole), describes_at n c.args.unit k allowed.there)) (λ n k allowed. refl) (c.in_ok-enter_values.ensures.makes g.P.Places.version))
+    (λ o k it allowed clean. record { within = tt; allowed = allowed; same = refl }))
+
+pub returns-clause-told : goal.returns-clause-told
+returns-clause-told g c clean o k it may u found =
+    let b = state g.S.Store c.values.new.conn in
+    let d = state g.S.Store c.enter_values.new.conn in
+    let at_b = early b d _ (c.in_ok-enter_values.ensures.makes g.P.Places.version).goes.on.crash clean in
+    let told = c.in_ok-found.ensures.tells in
+    let is = told_of_it k c.args.unit u c.in-Some.found found (sym c.in-Some.is ∙ told.answers at_b o (at_next o.next_unit k) (record { version = g.P.Places.version; catalogue = it; places = all_places k may.units })) in
+    sym (ap (λ b. cond b entry.Same entry.Changed) (ap (λ (w : Values). same_values w c.args.values.now) (sym is) ∙ (sym c.are_same.ensures ∙ c.if-are_same.false)))

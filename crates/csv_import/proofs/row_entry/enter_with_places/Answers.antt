@@ -1,0 +1,147 @@
+use Rattle.std.proofs.Common.{◌≡◌, [], ◌∷◌, refl, sym, ap, subst, ◌∙◌, arith}
+use Rattle.std.specs.Prelude.{⊤}
+use Rattle.sqlite.specs.Held.{state}
+use Rattle.tree_core.specs.Growing.{added}
+use Rattle.catalogue_core.specs.Merging.{Catalogue}
+use Rattle.catalogue_core.proofs.KeptCatalogues.{kept_within}
+use Rattle.catalogue_statements.specs.Rows.{office_row}
+use Rattle.catalogue_statements.specs.Represents.{RepresentsNumbered, catalogue_trees, described_trees}
+use Rattle.catalogue_statements.specs.declared.office.OfficeRow.{OfficeRow}
+use Rattle.catalogue_store.specs.Arrivals.{MayJoin}
+use Rattle.office_tables.specs.Schema as tables
+use Rattle.office_tables.proofs.CallEnds.{makes_cut, makes_not, same_fault}
+use Rattle.office_tables.proofs.Calls.{early, goes_then, office_of, still, still_office}
+use Rattle.office_tables.proofs.Touching.{touched_then, touched_wider}
+use Rattle.csv_import.specs.Arriving.{BringUnits}
+use Rattle.csv_import.specs.Entering.{entered}
+use Rattle.csv_import.proofs.ComeToStand.{come_to_stand, ids, may_join}
+use Rattle.csv_import.proofs.Frames.{at_next, described_kept}
+use Rattle.csv_import.proofs.row_entry.enter_with_places.Goals as goal
+
+-- the tables before, where the next number is the catalogue's
+abbrev counted : OfficeRow → Catalogue → OfficeRow
+counted o k = record o { next_unit = k.next }
+
+pub add_all-requires-clause-inside : goal.add_all-requires-clause-inside
+add_all-requires-clause-inside g c = c.requires.inside
+
+pub enter_each-requires-clause-inside : goal.enter_each-requires-clause-inside
+enter_each-requires-clause-inside g c = still g.P.Places.version (state g.S.Store c.args.conn.now) (state g.S.Store c.add_all.new.conn) c.requires.inside c.in_ok-add_all.ensures.makes.goes
+
+pub set_next_unit-requires-clause-inside : goal.set_next_unit-requires-clause-inside
+set_next_unit-requires-clause-inside g c =
+    let a = state g.S.Store c.args.conn.now in
+    let b = state g.S.Store c.add_all.new.conn in
+    let d = state g.S.Store c.enter_each.new.conn in
+    still_office a d (office_of g.P.Places.version a c.requires.inside) (goes_then a b d c.in_ok-add_all.ensures.makes.goes c.in_ok-counts.ensures.makes.goes)
+
+pub returns-in_err-add_all-clause-makes : goal.returns-in_err-add_all-clause-makes
+returns-in_err-add_all-clause-makes g c =
+    let source = c.args.source.now in
+    let rows = c.args.rows.now in
+    let handed = c.from_residual.ensures in
+    let e = c.in_err-add_all.field-0.0 in
+    let made = c.in_err-add_all.ensures.makes in
+    makes_not g.S.Store (RepresentsNumbered g.P.Places.represents g.P.Places.version) (λ _. ⊤) (BringUnits source rows c.args.next c.args.arrivals.now) c.args.conn.now c.add_all.new.conn c.from_residual.result (entered source rows) catalogue_trees e
+    (same_fault c.from_residual.result e handed.0 handed.1) made.cut
+    (λ o k it may kept clean free.
+    let come = may.come in
+    let few = come.few_boxes in
+    made.faults tt (ids k.forest) it.shown (subst (λ l. MayJoin l (ids k.forest)) (sym may.units) (may_join source rows c.args.next k come)) (kept_within k come.units (omega (arith, few)) come.days come.legible).places clean free)
+
+pub returns-in_err-counts-clause-makes : goal.returns-in_err-counts-clause-makes
+returns-in_err-counts-clause-makes g c =
+    let a = state g.S.Store c.args.conn.now in
+    let b = state g.S.Store c.add_all.new.conn in
+    let v = g.P.Places.version in
+    let source = c.args.source.now in
+    let rows = c.args.rows.now in
+    let handed = c.from_residual-in_err-counts.ensures in
+    let e = c.in_err-counts.field-0.0 in
+    let placed = c.in_ok-add_all.ensures.makes in
+    let made = c.in_err-counts.ensures.makes in
+    makes_cut g.S.Store (RepresentsNumbered g.P.Places.represents v) (λ _. ⊤) (BringUnits source rows c.args.next c.args.arrivals.now) c.args.conn.now c.add_all.new.conn c.enter_each.new.conn c.from_residual-in_err-counts.result (entered source rows) catalogue_trees e
+    (same_fault c.from_residual-in_err-counts.result e handed.0 handed.1) placed.goes.on made.cut
+    (λ o k it may kept at_b clean free.
+    let only = placed.only at_b in
+    let first = described_kept a.now b.now (tables.link.tree ∷ []) only refl (placed.goes.schema at_b) v (counted o k) (counted o k) k k.next (only tables.office.tree refl refl ∙ it.catalogue.office) refl it.catalogue in
+    made.faults (counted o k) k first may.come tt clean free)
+
+pub returns-in_err-set_next_unit-clause-makes : goal.returns-in_err-set_next_unit-clause-makes
+returns-in_err-set_next_unit-clause-makes g c =
+    let a = state g.S.Store c.args.conn.now in
+    let b = state g.S.Store c.add_all.new.conn in
+    let d = state g.S.Store c.enter_each.new.conn in
+    let v = g.P.Places.version in
+    let source = c.args.source.now in
+    let rows = c.args.rows.now in
+    let handed = c.from_residual-in_err-set_next_unit.ensures in
+    let e = c.in_err-set_next_unit.field-0.0 in
+    let placed = c.in_ok-add_all.ensures.makes in
+    let told = c.in_ok-counts.ensures.makes in
+    makes_cut g.S.Store (RepresentsNumbered g.P.Places.represents v) (λ _. ⊤) (BringUnits source rows c.args.next c.args.arrivals.now) c.args.conn.now c.enter_each.new.conn c.set_next_unit.new.conn c.from_residual-in_err-set_next_unit.result (entered source rows) catalogue_trees e
+    (same_fault c.from_residual-in_err-set_next_unit.result e handed.0 handed.1) (goes_then a b d placed.goes told.goes).on c.in_err-set_next_unit.ensures.leaves.cut
+    (λ o k it may kept at_d clean free.
+    let at_b = early b d _ told.goes.on.crash at_d in
+    c.in_err-set_next_unit.ensures.faults v (counted o k) (told.only at_d tables.office.tree refl refl ∙ (placed.only at_b tables.office.tree refl refl ∙ it.catalogue.office)) clean free)
+
+pub returns-clause-makes : goal.returns-clause-makes
+returns-clause-makes g c =
+    let a = state g.S.Store c.args.conn.now in
+    let b = state g.S.Store c.add_all.new.conn in
+    let d = state g.S.Store c.enter_each.new.conn in
+    let e = state g.S.Store c.set_next_unit.new.conn in
+    let v = g.P.Places.version in
+    let places = g.P.Places.represents in
+    let same = g.met.P.Places.shows_same in
+    let source = c.args.source.now in
+    let rows = c.args.rows.now in
+    let placed = c.in_ok-add_all.ensures.makes in
+    let told = c.in_ok-counts.ensures.makes in
+    let wrote = c.in_ok-set_next_unit.ensures in
+    record {
+      represents_updated = λ clean o k it may.
+          let at_d = early d e _ wrote.leaves.goes.on.crash clean in
+          let at_b = early b d _ told.goes.on.crash at_d in
+          let all = come_to_stand source rows c.args.next k may.come in
+          let t = entered source rows k in
+          let only = placed.only at_b in
+          let beside = told.only at_d in
+          let stand : places b.now.trees (ids t.forest) =
+          subst (places b.now.trees) (ap (λ l. added l (ids k.forest)) may.units ∙ all.ends)
+          (placed.represents_updated at_b tt (ids k.forest) it.shown (subst (λ l. MayJoin l (ids k.forest)) (sym may.units) (may_join source rows c.args.next k may.come))) in
+          let first = described_kept a.now b.now (tables.link.tree ∷ []) only refl (placed.goes.schema at_b) v (counted o k) (counted o k) k k.next (only tables.office.tree refl refl ∙ it.catalogue.office) refl it.catalogue in
+          let second = told.represents_updated at_d (counted o k) k first may.come in
+          let number = (c.in_ok-counts.ensures.counts at_d (counted o k) k first may.come).1 in
+          let office = wrote.rows clean v (counted o k) second.office in
+          record {
+            catalogue = described_kept d.now e.now (tables.office.tree ∷ []) office.only refl (wrote.leaves.goes.schema clean) v (counted o k) (record o { next_unit = t.next }) (at_next k.next t) t.next
+                (subst (λ n. e.now.trees tables.office.tree ≡ office_row v (record o { next_unit = n }) ∷ []) number office.are) refl second;
+            shown = same d.now.trees e.now.trees (ids t.forest) (office.only tables.link.tree refl refl) (same b.now.trees d.now.trees (ids t.forest) (beside tables.link.tree refl refl) stand);
+          };
+      only = λ clean.
+          let at_d = early d e _ wrote.leaves.goes.on.crash clean in
+          let at_b = early b d _ told.goes.on.crash at_d in
+          let link = tables.link.tree ∷ [] in
+          let office = tables.office.tree ∷ [] in
+          touched_wider (tables.link.tree ∷ tables.unit.tree ∷ tables.element.tree ∷ tables.container.tree ∷ tables.housing.tree ∷ office) catalogue_trees a.now e.now refl
+          (touched_then (tables.link.tree ∷ described_trees) office a.now d.now e.now (touched_then link described_trees a.now b.now d.now (placed.only at_b) (told.only at_d)) (wrote.only clean));
+      goes = goes_then a d e (goes_then a b d placed.goes told.goes) wrote.leaves.goes;
+      cut = tt;
+      faults = λ o k it may kept clean free. tt;
+    }
+
+pub returns-clause-counts : goal.returns-clause-counts
+returns-clause-counts g c clean o k it may =
+    let a = state g.S.Store c.args.conn.now in
+    let b = state g.S.Store c.add_all.new.conn in
+    let d = state g.S.Store c.enter_each.new.conn in
+    let e = state g.S.Store c.set_next_unit.new.conn in
+    let v = g.P.Places.version in
+    let placed = c.in_ok-add_all.ensures.makes in
+    let told = c.in_ok-counts.ensures.makes in
+    let at_d = early d e _ c.in_ok-set_next_unit.ensures.leaves.goes.on.crash clean in
+    let at_b = early b d _ told.goes.on.crash at_d in
+    let only = placed.only at_b in
+    let first = described_kept a.now b.now (tables.link.tree ∷ []) only refl (placed.goes.schema at_b) v (counted o k) (counted o k) k k.next (only tables.office.tree refl refl ∙ it.catalogue.office) refl it.catalogue in
+    (c.in_ok-counts.ensures.counts at_d (counted o k) k first may.come).0

@@ -1,0 +1,129 @@
+use Rattle.std.proofs.Common.{◌≡◌, ◌+◌, ◌∷◌, drop, sym, ap, subst, ◌∙◌, arith}
+use Rattle.std.specs.Prelude.{⊤}
+use Rattle.std.specs.BTreeMap.{get_by_text}
+use Rattle.std.proofs.lemmas.List.{drop_all, drop_more}
+use Rattle.sqlite.specs.Effect.{Database}
+use Rattle.sqlite.specs.Held.{state}
+use Rattle.atom_csv.specs.declared.file.Row.{Row as RowTold}
+use Rattle.catalogue_core.specs.Bounds.{IsKept}
+use Rattle.catalogue_core.specs.GoodCatalogues.{AreGoodUnits}
+use Rattle.catalogue_statements.specs.Represents.{Represents}
+use Rattle.office_tables.specs.declared.fault.StoreFault.TheVariants as fault
+use Rattle.office_tables.proofs.CallEnds.{same_fault, tells_cut, tells_not}
+use Rattle.office_tables.proofs.Calls.{cut_after, early, looks_then, still}
+use Rattle.csv_import.specs.Planning.{plan_of}
+use Rattle.csv_import.proofs.Planned.{IsPlanned, begins, ends_faulty, ends_well, goes_known, goes_new}
+use Rattle.csv_import.proofs.row_plan.plan.Goals as goal
+use Rattle.csv_import.proofs.row_plan.plan.Goals.{in-Known, in-Fits+in_ok-remember-in-Fits}
+
+pub loop-row-init : goal.loop-row-init
+loop-row-init g c =
+    let told = c.in_ok-depths.ensures.tells in
+    record {
+      inside = still g.P.Places.version (state g.S.Store c.args.conn.now) (state g.S.Store c.depths_below_many.new.conn) c.requires.inside told.looks.goes;
+      looks = told.looks;
+      few = omega arith;
+      so_far = λ clean o k it good. begins k.forest c.args.source.now (get_by_text c.in_ok-depths.depths) c.args.rows.now (told.answers clean o k it good);
+    }
+
+pub returns-in_err-place : goal.returns-in_err-place
+returns-in_err-place g c =
+    let v = g.P.Places.version in
+    let handed = c.from_residual-in_err-place.ensures in
+    let e = c.in_err-place.field-0.0 in
+    let looks = c.loop-row.invariant.looks in
+    let told = c.in_err-place.ensures.tells in
+    record {
+      tells = tells_cut g.S.Store (Represents g.P.Places.represents v) IsKept (λ _. ⊤) c.args.conn.now c.loop-row.conn c.place.new.conn c.from_residual-in_err-place.result
+          (λ _ k told. AreGoodUnits k → told ≡ plan_of k.forest c.args.source.now c.args.rows.now) e
+          (same_fault c.from_residual-in_err-place.result e handed.0 handed.1) looks told.cut
+          (λ o k it may kept at_b clean free. told.faults o k (subst (λ (db : Database). Represents g.P.Places.represents v db o k) (sym (looks.same at_b)) it) tt kept clean free);
+    }
+
+pub returns-in_err-remember-in-Fits : goal.returns-in_err-remember-in-Fits
+returns-in_err-remember-in-Fits g c =
+    let a = state g.S.Store c.args.conn.now in
+    let b = state g.S.Store c.loop-row.conn in
+    let d = state g.S.Store c.place.new.conn in
+    let handed = c.from_residual-in_err-remember-in-Fits.ensures in
+    record {
+      tells = tells_not g.S.Store (Represents g.P.Places.represents g.P.Places.version) IsKept (λ _. ⊤) c.args.conn.now c.place.new.conn c.from_residual-in_err-remember-in-Fits.result
+          (λ _ k told. AreGoodUnits k → told ≡ plan_of k.forest c.args.source.now c.args.rows.now) fault.Memory
+          (same_fault c.from_residual-in_err-remember-in-Fits.result fault.Memory handed.0 handed.1) (cut_after a d (looks_then a b d c.loop-row.invariant.looks c.in_ok-place.ensures.tells.looks).goes.on) (λ o k it may kept clean free. tt);
+    }
+
+pub returns-in-Faulty : goal.returns-in-Faulty
+returns-in-Faulty g c =
+    let a = state g.S.Store c.args.conn.now in
+    let b = state g.S.Store c.loop-row.conn in
+    let d = state g.S.Store c.place.new.conn in
+    let looks = c.loop-row.invariant.looks in
+    let told = c.in_ok-place.ensures.tells in
+    let rows = c.args.rows.now in
+    let i = c.loop-row.row-index in
+    let item = c.row-item.result in
+    let rest : drop i rows ≡ item ∷ drop (i + 1) rows = drop_more rows i item c.loop-row-test.true ∙ ap (λ (r : RowTold). r ∷ drop (i + 1) rows) (sym c.row-item.is) in
+    record {
+      tells = record {
+        answers = λ clean o k it good.
+            let at_b = early b d _ told.looks.goes.on.crash clean in
+            let planned = subst (IsPlanned k.forest c.args.source.now (get_by_text c.loop-row.depths) c.loop-row.new rows) rest (c.loop-row.invariant.so_far at_b o k it good) in
+            let shown = subst (λ (db : Database). Represents g.P.Places.represents g.P.Places.version db o k) (sym (looks.same at_b)) it in
+            ends_faulty k.forest c.args.source.now (get_by_text c.loop-row.depths) c.loop-row.new rows (drop (i + 1) rows) item c.in-Faulty.cause planned
+            (sym c.in-Faulty.is ∙ (told.answers clean o k shown good planned.above planned.knows).0);
+        looks = looks_then a b d looks told.looks;
+        cut = tt;
+        faults = λ o k it may kept clean free. tt;
+      };
+    }
+
+pub loop-row-preserved : goal.loop-row-preserved
+loop-row-preserved g c =
+    let v = g.P.Places.version in
+    let a = state g.S.Store c.args.conn.now in
+    let b = state g.S.Store c.loop-row.conn in
+    let d = state g.S.Store c.place.new.conn in
+    let looks = c.loop-row.invariant.looks in
+    let few = c.loop-row.invariant.few in
+    let told = c.in_ok-place.ensures.tells in
+    let rows = c.args.rows.now in
+    let i = c.loop-row.row-index in
+    let item = c.row-item.result in
+    let rest : drop i rows ≡ item ∷ drop (i + 1) rows = drop_more rows i item c.loop-row-test.true ∙ ap (λ (r : RowTold). r ∷ drop (i + 1) rows) (sym c.row-item.is) in
+    record {
+      inside = still v b d c.loop-row.invariant.inside told.looks.goes;
+      looks = looks_then a b d looks told.looks;
+      few = elim c.match-branch-3.branch [
+        | in-Known w ↦ (let n = w.new-is in omega (arith, few, n))
+        | in-Fits+in_ok-remember-in-Fits w ↦ (let n = w.new-is in omega (arith, few, n))
+      ];
+      so_far = λ clean o k it good.
+          let at_b = early b d _ told.looks.goes.on.crash clean in
+          let planned = subst (IsPlanned k.forest c.args.source.now (get_by_text c.loop-row.depths) c.loop-row.new rows) rest (c.loop-row.invariant.so_far at_b o k it good) in
+          let shown = subst (λ (db : Database). Represents g.P.Places.represents g.P.Places.version db o k) (sym (looks.same at_b)) it in
+          let both = told.answers clean o k shown good planned.above planned.knows in
+          let is = both.0 in
+          elim c.match-branch-3.branch [
+            | in-Known w ↦
+                rw (w.depths-is, w.new-is)
+                (goes_known k.forest c.args.source.now (get_by_text c.loop-row.depths) (get_by_text c.place.new.depths) c.loop-row.new rows (drop (i + 1) rows) item planned both.1 (sym w.in-Known.is ∙ is))
+            | in-Fits+in_ok-remember-in-Fits w ↦
+                rw (w.depths-is, w.new-is)
+                (goes_new k.forest c.args.source.now (get_by_text c.loop-row.depths) (get_by_text c.place.new.depths) (get_by_text w.remember.new.kept) c.loop-row.new rows (drop (i + 1) rows) item w.in-Fits.below planned both.1 (sym w.in-Fits.is ∙ is) w.in_ok-remember-in-Fits.ensures)
+          ];
+    }
+
+pub returns : goal.returns
+returns g c =
+    let rows = c.args.rows.now in
+    let last = c.loop-row-test.false in
+    record {
+      tells = record {
+        answers = λ clean o k it good.
+            ends_well k.forest c.args.source.now (get_by_text c.loop-row.depths) c.loop-row.new rows
+            (subst (IsPlanned k.forest c.args.source.now (get_by_text c.loop-row.depths) c.loop-row.new rows) (drop_all c.loop-row.row-index rows (omega (arith, last))) (c.loop-row.invariant.so_far clean o k it good));
+        looks = c.loop-row.invariant.looks;
+        cut = tt;
+        faults = λ o k it may kept clean free. tt;
+      };
+    }

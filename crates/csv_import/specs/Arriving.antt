@@ -1,0 +1,39 @@
+-- The units that the rows of a file bring, each with its parent, before any is entered.
+use Rattle.std.specs.Prelude.{◌≡◌, ℕ, if◌then◌else◌, List, [], map, Option, Some, None, option_and_then}
+use Rattle.isad_core.specs.Texts.{Bytes}
+use Rattle.atom_csv.specs.declared.file.Row.{Row}
+use Rattle.tree_core.specs.Forest.{Forest}
+use Rattle.tree_core.specs.declared.arrivals.Arrival.{Arrival}
+use Rattle.catalogue_core.specs.Merging.{Catalogue, New, is_known, number_of, numbered_from}
+use Rattle.catalogue_core.specs.Units.{Unit}
+use Rattle.csv_import.specs.Planning.{new_of, or_there}
+use Rattle.csv_import.specs.Turns.{AreToCome}
+
+-- the unit of a new row, with its parent
+abbrev pub arrival_of : New → Arrival
+arrival_of new = record { unit = new.id; parent = new.parent }
+
+-- those of these new rows, in file order, where n is the next number; `above` has the new rows that stand above them in the
+-- file, the nearest first
+abbrev pub arrivals_from : Forest Unit → Bytes → ℕ → List Row → List Row → List Arrival
+arrivals_from f source n above rows = map arrival_of (numbered_from f source n above rows)
+
+-- those of the rows of a file
+abbrev pub arrivals_of : Forest Unit → Bytes → ℕ → List Row → List Arrival
+arrivals_of f source n rows = arrivals_from f source n [] (new_of f source rows)
+
+-- that of a row, unless its unit is catalogued
+abbrev pub arrival_at : Forest Unit → Bytes → ℕ → List Row → Row → Option Arrival
+arrival_at f source n above row =
+    if is_known f source row then None
+    else Some (record { unit = n; parent = option_and_then (number_of f source n above) row.parent })
+
+-- It is known what number each of the new rows above got; any other is looked for in the catalogue.
+abbrev pub KnowsNumbers : Forest Unit → Bytes → ℕ → List Row → (Bytes → Option ℕ) → Type 0
+KnowsNumbers f source n above numbers =
+    (legacy : Bytes) → number_of f source n above legacy ≡ or_there (numbers legacy) (number_of f source n [] legacy)
+
+-- the rows are to come, and these are the units that they bring
+pub record BringUnits (source : Bytes) (rows : List Row) (next : ℕ) (arrivals : List Arrival) (c : Catalogue) : Type 0 where
+  pub come : AreToCome source rows next c
+  pub units : arrivals ≡ arrivals_of c.forest source next rows

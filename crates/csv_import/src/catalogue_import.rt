@@ -1,0 +1,182 @@
+//! A file is taken into the catalogue.
+
+ghost use Rattle.std.specs.Prelude.{◌≡◌, ◌+◌, ◌&&◌, true, length, nat_le, nat_lt, Ok, ⊤};
+ghost use Rattle.sqlite.specs.Held.{state};
+ghost use Rattle.isad_core.specs.Limits.{most_containers, most_unit_numbers, most_units};
+ghost use Rattle.isad_core.specs.Texts.{Bytes};
+ghost use Rattle.atom_csv.specs.FileOf.{file_of};
+ghost use Rattle.catalogue_core.specs.Sources.{is_source};
+ghost use Rattle.office_core.specs.declared.command.Command.TheVariants as command;
+ghost use Rattle.office_tables.specs.Calls.{Answers};
+ghost use Rattle.office_tables.specs.Step.{InTransaction};
+ghost use Rattle.catalogue_statements.specs.Settings.{AreLegibleSettings};
+ghost use Rattle.catalogue_statements.specs.Represents.{RepresentsSettings};
+ghost use Rattle.refinement.specs.CommandSteps.{CarriesOut};
+ghost use Rattle.refinement.specs.Judging.{RepresentsWhole};
+ghost use Rattle.csv_import.specs.Importing.{CanBePlaced, FitsIn, HasImported, judged, told_of};
+ghost use Rattle.csv_import.specs.Importing as spec;
+
+use crate::remarks::remarks;
+use crate::row_entry::{Counts, enter_rows};
+use crate::row_plan::{Planned, plan};
+use atom_csv::{File, FileFault, read_file};
+use catalogue_store::{Office, Places, office_row};
+use isad_core::{Day, Text};
+use office_core::{Done, Refusal};
+use office_tables::StoreFault;
+use refinement::pass;
+use sqlite::{Alter, Connection};
+use std::alloc::Global;
+
+/// How many units an office has at most.
+const MOST_UNITS: u64 = 200_000;
+
+/// The last number that a unit may get.
+const LAST_UNIT_NUMBER: u64 = 100_000_000;
+
+/// How many containers an office has at most.
+const MOST_CONTAINERS: u64 = 100_000;
+
+/// Whether so many more units fit, each with a number of its own.
+fn has_space(office: &Office, new: u64) -> bool
+    ensures { result ≡ (nat_le (office.now.units + new) most_units
+        && nat_le (office.now.row.next_unit + new) (most_unit_numbers + 1)) }
+{
+    let units = office.units.saturating_add(new);
+    let next = office.row.next_unit.saturating_add(new);
+    units <= MOST_UNITS && next <= LAST_UNIT_NUMBER + 1
+}
+
+/// Whether there is room for so many more units, each with a number of its own.
+fn has_room<P: Places, S: Alter>(
+    alloc: Global,
+    conn: &mut Connection<S>,
+    new: u64,
+) -> Result<bool, StoreFault>
+    requires inside { InTransaction P.version (state S.Store conn.old) }
+    ensures tells { Answers S.Store (RepresentsSettings P.represents P.version) AreLegibleSettings conn.old conn.new result (λ _. ⊤)
+        (λ c _ room. room ≡ spec.has_room new c) }
+{
+    let office = office_row::<P, S>(alloc, conn)?;
+    Ok(has_space(&office, new))
+}
+
+/// Whether there are more containers than an office may have.
+fn has_many_containers<P: Places, S: Alter>(
+    alloc: Global,
+    conn: &mut Connection<S>,
+) -> Result<bool, StoreFault>
+    requires inside { InTransaction P.version (state S.Store conn.old) }
+    ensures tells { Answers S.Store (RepresentsSettings P.represents P.version) AreLegibleSettings conn.old conn.new result (λ _. ⊤)
+        (λ c _ many. many ≡ nat_lt most_containers (length c.containers)) }
+{
+    let office = office_row::<P, S>(alloc, conn)?;
+    Ok(office.containers > MOST_CONTAINERS)
+}
+
+/// What is told of a file whose rows were entered, unless there are too many containers now or what is out is withheld.
+fn judge<P: Places, S: Alter>(
+    alloc: Global,
+    conn: &mut Connection<S>,
+    today: Day,
+    source: &Text,
+    file: &File,
+    counts: Counts,
+) -> Result<Result<Done, Refusal>, StoreFault>
+    requires inside { InTransaction P.version (state S.Store conn.old) }
+    ensures tells { Answers S.Store (RepresentsWhole P.represents P.version) (HasImported source.now file.now) conn.old conn.new
+        result (λ _. ⊤) (λ _ s reply. HasImported source.now file.now s → today ≡ s.day
+        → reply ≡ judged s (told_of source.now file.now counts s)) }
+{
+    if has_many_containers::<P, S>(alloc, conn)? {
+        return Ok(Err(Refusal::Full));
+    }
+    let remarks = remarks::<P, S>(alloc, conn, source, file.rows.as_slice())?;
+    let done = Done::Import {
+        changed: counts.changed,
+        new: counts.new,
+        remarks,
+        same: counts.same,
+        translations: u64::from(file.translations),
+    };
+    pass::<P, S>(alloc, conn, today, done)
+}
+
+/// Takes in rows that can all be placed and for which there is room.
+fn import_rows<P: Places, S: Alter>(
+    alloc: Global,
+    conn: &mut Connection<S>,
+    today: Day,
+    source: &Text,
+    file: &File,
+) -> Result<Result<Done, Refusal>, StoreFault>
+    requires inside { InTransaction P.version (state S.Store conn.old) }
+    ensures { (bytes : Bytes) → file_of bytes ≡ Ok file.now → CarriesOut P.represents P.version
+        (λ s. (today ≡ s.day) × (is_source source.now ≡ true) × FitsIn source.now file.now s)
+        (command.Import source.now bytes) (state S.Store conn.old) (state S.Store conn.new) result }
+{
+    let counts = enter_rows::<P, S>(alloc, conn, source, file.rows.as_slice())?;
+    judge::<P, S>(alloc, conn, today, source, file, counts)
+}
+
+/// Takes in rows that can all be placed, of which so many are new, where there is room.
+fn import_placed<P: Places, S: Alter>(
+    alloc: Global,
+    conn: &mut Connection<S>,
+    today: Day,
+    source: &Text,
+    file: &File,
+    new: u64,
+) -> Result<Result<Done, Refusal>, StoreFault>
+    requires inside { InTransaction P.version (state S.Store conn.old) }
+    ensures { (bytes : Bytes) → file_of bytes ≡ Ok file.now → CarriesOut P.represents P.version
+        (λ s. (today ≡ s.day) × (is_source source.now ≡ true) × CanBePlaced source.now file.now new s)
+        (command.Import source.now bytes) (state S.Store conn.old) (state S.Store conn.new) result }
+{
+    if !has_room::<P, S>(alloc, conn, new)? {
+        return Ok(Err(Refusal::Full));
+    }
+    import_rows::<P, S>(alloc, conn, today, source, file)
+}
+
+/// Takes in a file that was read.
+fn import_read<P: Places, S: Alter>(
+    alloc: Global,
+    conn: &mut Connection<S>,
+    today: Day,
+    source: &Text,
+    file: &File,
+) -> Result<Result<Done, Refusal>, StoreFault>
+    requires inside { InTransaction P.version (state S.Store conn.old) }
+    ensures { (bytes : Bytes) → file_of bytes ≡ Ok file.now → CarriesOut P.represents P.version
+        (λ s. (today ≡ s.day) × (is_source source.now ≡ true)) (command.Import source.now bytes)
+        (state S.Store conn.old) (state S.Store conn.new) result }
+{
+    match plan::<P, S>(alloc, conn, source, file.rows.as_slice())? {
+        Planned::Fits { new } => import_placed::<P, S>(alloc, conn, today, source, file, new),
+        Planned::Faulty { row, cause } => Ok(Err(Refusal::BadFile { row, cause })),
+    }
+}
+
+/// Takes a file of a source into the catalogue: units that are there take other values, and new ones come. Where it is
+/// refused, some of it may have been entered: the caller takes back what was done. The day of the office and the name
+/// of the source are known.
+pub fn import<P: Places, S: Alter>(
+    alloc: Global,
+    conn: &mut Connection<S>,
+    today: Day,
+    source: &Text,
+    file: &[u8],
+) -> Result<Result<Done, Refusal>, StoreFault>
+    requires inside { InTransaction P.version (state S.Store conn.old) }
+    ensures { CarriesOut P.represents P.version (λ s. (today ≡ s.day) × (is_source source.now ≡ true))
+        (command.Import source.now file.now) (state S.Store conn.old) (state S.Store conn.new) result }
+{
+    match read_file(alloc, file) {
+        Ok(read) => import_read::<P, S>(alloc, conn, today, source, &read),
+        Err(fault) => match fault {
+            FileFault::Bad { row, cause } => Ok(Err(Refusal::BadFile { row, cause })),
+            FileFault::Memory => Err(StoreFault::Memory),
+        },
+    }
+}

@@ -1,0 +1,200 @@
+//! What is remarked on the rows of a file that were entered.
+
+ghost use Rattle.std.specs.Prelude.{◌≡◌, Some, find, is_some, map, IfOk, ⊤};
+ghost use Rattle.std.specs.List.{AllByRecursion, list_all};
+ghost use Rattle.std.specs.Option.{option_to_list};
+ghost use Rattle.sqlite.specs.Held.{state};
+ghost use Rattle.isad_core.specs.Levels.{rank_of};
+ghost use Rattle.isad_core.specs.Limits.{IsNumber};
+ghost use Rattle.isad_core.specs.Texts.{Bytes};
+ghost use Rattle.isad_core.specs.Values.{text_of};
+ghost use Rattle.tree_core.specs.Forest.{nodes, path};
+ghost use Rattle.catalogue_core.specs.Bounds.{IsKept};
+ghost use Rattle.catalogue_core.specs.RowByRow.{number_there};
+ghost use Rattle.catalogue_core.specs.Units.{has_id, is_from};
+ghost use Rattle.catalogue_core.specs.Units.{«Unit» as Described};
+ghost use Rattle.office_core.specs.ImportReply.{is_level_above, remark_if};
+ghost use Rattle.office_core.specs.ImportReply as reply;
+ghost use Rattle.office_core.specs.declared.done.Remark.TheVariants.{LacksEssential, LevelTooHigh};
+ghost use Rattle.office_tables.specs.Calls.{Answers};
+ghost use Rattle.office_tables.specs.Step.{InTransaction};
+ghost use Rattle.catalogue_statements.specs.Represents.{Represents};
+ghost use Rattle.csv_import.specs.Remarking.{HasEntered, HasParent, HaveParents};
+
+use crate::numbers::number_of;
+use atom_csv::Row;
+use catalogue_statements::units::levels_of;
+use catalogue_store::Places;
+use isad_core::{Element, List, Text, Values, is_blank, rank};
+use office_core::Remark;
+use office_tables::StoreFault;
+use office_tables::value::NO_NUMBER;
+use sqlite::{Alter, Connection};
+use std::alloc::Global;
+
+/// The elements that are essential for international exchange, beside the level.
+const ESSENTIAL: [Element; 5] = [
+    Element::ReferenceCode,
+    Element::Title,
+    Element::Creator,
+    Element::Dates,
+    Element::Extent,
+];
+
+/// Whether a description has a text for each of these elements.
+fn has_each(values: &Values, elements: &[Element]) -> bool
+    ensures { result ≡ list_all (λ element. is_some (text_of element values.now)) elements.now }
+{
+    elements
+        .iter()
+        .all(|element| values.text(*element).is_some())
+}
+
+/// Whether one of the essential elements is missing.
+fn lacks_essential(values: &Values) -> bool
+    ensures { result ≡ reply.lacks_essential values.now }
+{
+    is_blank(values.level.as_str()) || !has_each(values, ESSENTIAL.as_slice())
+}
+
+/// Whether a known level belongs above another known level.
+fn is_above(level: &str, other: &str) -> bool
+    ensures { result ≡ is_level_above (rank_of level.now) (rank_of other.now) }
+{
+    match (rank(level), rank(other)) {
+        (Some(rank), Some(other)) => rank < other,
+        _ => false,
+    }
+}
+
+/// Whether a level belongs above that of the unit with this number.
+fn is_too_high<P: Places, S: Alter>(
+    alloc: Global,
+    conn: &mut Connection<S>,
+    parent: u64,
+    level: &Text,
+) -> Result<bool, StoreFault>
+    requires inside { InTransaction P.version (state S.Store conn.old) }
+    requires small { IsNumber parent }
+    ensures tells { Answers S.Store (Represents P.represents P.version) IsKept conn.old conn.new result (λ _. ⊤)
+        (λ _ c high. (unit : Described) → find (has_id parent) (nodes c.forest) ≡ Some unit
+        → high ≡ is_level_above (rank_of level.now) (rank_of unit.values.level)) }
+{
+    let mut levels = levels_of(alloc, conn, parent)?;
+    let Some(above) = levels.pop() else {
+        return Ok(false);
+    };
+    Ok(is_above(level.as_str(), above.as_str()))
+}
+
+/// The remark on a row whose unit stands right below the one with this number.
+fn remark_below<P: Places, S: Alter>(
+    alloc: Global,
+    conn: &mut Connection<S>,
+    parent: u64,
+    row: &Row,
+) -> Result<Option<Remark>, StoreFault>
+    requires inside { InTransaction P.version (state S.Store conn.old) }
+    ensures tells { Answers S.Store (Represents P.represents P.version) IsKept conn.old conn.new result
+        (λ c. (unit : Described) × (find (has_id parent) (nodes c.forest) ≡ Some unit))
+        (λ _ c told. (unit : Described) → find (has_id parent) (nodes c.forest) ≡ Some unit
+        → option_to_list told ≡ remark_if (is_level_above (rank_of row.now.values.level) (rank_of unit.values.level))
+        (LevelTooHigh row.now.row)) }
+{
+    if parent >= NO_NUMBER {
+        return Err(StoreFault::Schema);
+    }
+    if is_too_high::<P, S>(alloc, conn, parent, &row.values.level)? {
+        return Ok(Some(Remark::LevelTooHigh { row: row.row }));
+    }
+    Ok(None)
+}
+
+/// The remark on a row whose unit is a top.
+fn remark_on_top(row: &Row) -> Option<Remark>
+    ensures { option_to_list result ≡ remark_if (reply.lacks_essential row.now.values) (LacksEssential row.now.row) }
+{
+    if lacks_essential(&row.values) {
+        return Some(Remark::LacksEssential { row: row.row });
+    }
+    None
+}
+
+/// The remark on a row whose unit stands right below the one with this number, or is a top.
+fn remark_on<P: Places, S: Alter>(
+    alloc: Global,
+    conn: &mut Connection<S>,
+    parent: Option<u64>,
+    row: &Row,
+) -> Result<Option<Remark>, StoreFault>
+    requires inside { InTransaction P.version (state S.Store conn.old) }
+    ensures tells { (source : Bytes) → Answers S.Store (Represents P.represents P.version) IsKept conn.old conn.new result
+        (HasParent source row.now parent) (λ _ c told. HasParent source row.now parent c
+        → option_to_list told ≡ reply.remark_on row.now.row (path (is_from source row.now.legacy) c.forest)) }
+{
+    match parent {
+        Some(parent) => remark_below::<P, S>(alloc, conn, parent, row),
+        None => Ok(remark_on_top(row)),
+    }
+}
+
+/// The units of the rows of a file from a source, in their order, after all of them were entered.
+fn units_of<P: Places, S: Alter>(
+    alloc: Global,
+    conn: &mut Connection<S>,
+    source: &Text,
+    rows: &[Row],
+) -> Result<Vec<u64>, StoreFault>
+    requires inside { InTransaction P.version (state S.Store conn.old) }
+    ensures tells { Answers S.Store (Represents P.represents P.version) IsKept conn.old conn.new result
+        (HasEntered source.now rows.now) (λ _ c units. HasEntered source.now rows.now c
+        → map Some units.items ≡ map (λ row. number_there c source.now row.legacy) rows.now) }
+    ensures small { IfOk result (λ units. AllByRecursion IsNumber units.items) }
+{
+    let mut units = Vec::new(alloc);
+    for row in rows {
+        let Some(unit) = number_of::<P, S>(alloc, conn, source, &row.legacy)? else {
+            return Err(StoreFault::Schema);
+        };
+        units.push(unit)?;
+    }
+    Ok(units)
+}
+
+/// The remarks on rows whose units stand right below those with these numbers, or are tops.
+fn remarks_below<P: Places, S: Alter>(
+    alloc: Global,
+    conn: &mut Connection<S>,
+    parents: &[Option<u64>],
+    rows: &[Row],
+) -> Result<List<Remark>, StoreFault>
+    requires inside { InTransaction P.version (state S.Store conn.old) }
+    ensures tells { (source : Bytes) → Answers S.Store (Represents P.represents P.version) IsKept conn.old conn.new result
+        (HaveParents source rows.now parents.now) (λ _ c told. HaveParents source rows.now parents.now c
+        → told ≡ reply.remarks c.forest source rows.now) }
+{
+    let mut told = List::new(alloc);
+    for (row, parent) in rows.iter().zip(parents) {
+        if let Some(remark) = remark_on::<P, S>(alloc, conn, *parent, row)? {
+            told.push(remark)?;
+        }
+    }
+    Ok(told)
+}
+
+/// The remarks on the rows of a file from a source, in their order, after all of them were entered.
+pub(crate) fn remarks<P: Places, S: Alter>(
+    alloc: Global,
+    conn: &mut Connection<S>,
+    source: &Text,
+    rows: &[Row],
+) -> Result<List<Remark>, StoreFault>
+    requires inside { InTransaction P.version (state S.Store conn.old) }
+    ensures tells { Answers S.Store (Represents P.represents P.version) IsKept conn.old conn.new result
+        (HasEntered source.now rows.now)
+        (λ _ c told. HasEntered source.now rows.now c → told ≡ reply.remarks c.forest source.now rows.now) }
+{
+    let units = units_of::<P, S>(alloc, conn, source, rows)?;
+    let parents = P::parents(alloc, conn, &units)?;
+    remarks_below::<P, S>(alloc, conn, &parents, rows)
+}

@@ -1,0 +1,275 @@
+//! The rows of a file, entered into the tables of a catalogue.
+
+ghost use Rattle.std.specs.Prelude.{◌≡◌, ◌+◌, ◌<◌, ◌≤◌, ◌^◌, [], ◌∷◌, false, find, length, None, Some, IfOk, ⊤};
+ghost use Rattle.std.specs.List.{AllByRecursion};
+ghost use Rattle.sqlite.specs.Held.{state};
+ghost use Rattle.sqlite.specs.State.{HasCleanDisk};
+ghost use Rattle.isad_core.specs.Limits.{IsNumber};
+ghost use Rattle.tree_core.specs.Forest.{nodes};
+ghost use Rattle.catalogue_core.specs.Describing.{with_values};
+ghost use Rattle.catalogue_core.specs.Intake.{same_values, unit_of};
+ghost use Rattle.catalogue_core.specs.Merging.{Catalogue};
+ghost use Rattle.catalogue_core.specs.RowByRow.{with_new};
+ghost use Rattle.catalogue_core.specs.Units.{«Unit» as Described, has_id};
+ghost use Rattle.catalogue_statements.specs.Represents.{RepresentsNumbered, catalogue_trees, described_trees};
+ghost use Rattle.catalogue_statements.specs.declared.office.OfficeRow.{OfficeRow};
+ghost use Rattle.catalogue_store.specs.Arrivals.{IsNumbered};
+ghost use Rattle.office_tables.specs.Calls.{Updates, Answers};
+ghost use Rattle.office_tables.specs.Step.{InTransaction};
+ghost use Rattle.csv_import.specs.Arriving.{BringUnits};
+ghost use Rattle.csv_import.specs.Entering.{CanEnter, RepresentsEntering, RepresentsLegible, counts_of, entered};
+ghost use Rattle.csv_import.specs.Turns.{AreToCome, IsTurn, MayChange, MayCome, boxes_named, counted, entry_of};
+
+use crate::arrivals::arrivals;
+use crate::numbers::number_of;
+use atom_csv::Row;
+use catalogue_statements::office::{office_rows, set_next_unit};
+use catalogue_store::{NewUnit, Places, enter_unit, enter_values, values as values_of};
+use isad_core::{Text, Values};
+use office_tables::StoreFault;
+use sqlite::{Alter, Connection};
+use std::alloc::Global;
+use tree_core::Arrival;
+
+/// The numbers of units stay far below this one.
+const LAST_NUMBER: u64 = 1 << 62;
+
+/// How many rows of a file changed a unit, made one, or left one as it was.
+#[derive(Clone, Copy, Debug, PartialEq, Eq)]
+pub struct Counts {
+    pub changed: u64,
+    pub new: u64,
+    pub same: u64,
+}
+
+/// What became of a row.
+#[derive(Clone, Copy)]
+enum Entry {
+    /// Its unit took other values.
+    Changed,
+    /// It made a unit.
+    New,
+    /// Its unit had its values.
+    Same,
+}
+
+/// Whether these are the same values.
+fn are_same(some: &Values, others: &Values) -> bool
+    ensures { result ≡ same_values some.now others.now }
+{
+    some == others
+}
+
+/// Gives a unit the values of its row, where they differ.
+fn enter_known<P: Places, S: Alter>(
+    alloc: Global,
+    conn: &mut Connection<S>,
+    unit: u64,
+    values: &Values,
+) -> Result<Entry, StoreFault>
+    requires inside { InTransaction P.version (state S.Store conn.old) }
+    requires small { IsNumber unit }
+    ensures makes { Updates S.Store (RepresentsEntering P.version) (λ _. ⊤) conn.old conn.new result
+        (MayChange unit values.now) (with_values unit values.now) described_trees }
+    ensures told { HasCleanDisk (state S.Store conn.new) → (o : OfficeRow) (c : Catalogue)
+        → RepresentsEntering P.version (state S.Store conn.old).now o c → MayChange unit values.now c
+        → (u : Described) → find (has_id unit) (nodes c.forest) ≡ Some u
+        → IfOk result (λ entry. entry ≡ entry_of (Some u) values.now) }
+{
+    let Some(found) = values_of(alloc, conn, unit)? else {
+        return Err(StoreFault::Schema);
+    };
+    if are_same(&found.values, values) {
+        return Ok(Entry::Same);
+    }
+    enter_values(alloc, conn, unit, values)?;
+    Ok(Entry::Changed)
+}
+
+/// Makes the unit of a row.
+fn enter_new<P: Places, S: Alter>(
+    alloc: Global,
+    conn: &mut Connection<S>,
+    source: &Text,
+    next: u64,
+    row: &Row,
+) -> Result<Entry, StoreFault>
+    requires inside { InTransaction P.version (state S.Store conn.old) }
+    requires small { IsNumber next }
+    ensures makes { Updates S.Store (RepresentsEntering P.version) (λ _. ⊤) conn.old conn.new result
+        (MayCome source.now row.now next) (with_new source.now row.now) described_trees }
+    ensures told { IfOk result (λ entry. entry ≡ entry_of None row.now.values) }
+{
+    let unit = NewUnit {
+        id: next,
+        source,
+        legacy: &row.legacy,
+        values: &row.values,
+        draft: !row.published,
+    };
+    enter_unit(alloc, conn, &unit)?;
+    Ok(Entry::New)
+}
+
+/// Enters a row, whose unit takes its values, or comes with the next number.
+fn enter_row<P: Places, S: Alter>(
+    alloc: Global,
+    conn: &mut Connection<S>,
+    source: &Text,
+    next: u64,
+    row: &Row,
+) -> Result<Entry, StoreFault>
+    requires inside { InTransaction P.version (state S.Store conn.old) }
+    requires small { IsNumber next }
+    ensures makes { Updates S.Store (RepresentsEntering P.version) (λ _. ⊤) conn.old conn.new result
+        (IsTurn source.now row.now next) (entered source.now (row.now ∷ [])) described_trees }
+    ensures told { HasCleanDisk (state S.Store conn.new) → (o : OfficeRow) (c : Catalogue)
+        → RepresentsEntering P.version (state S.Store conn.old).now o c → IsTurn source.now row.now next c
+        → IfOk result (λ entry. entry ≡ entry_of (unit_of c.forest source.now row.now) row.now.values) }
+{
+    let found = number_of::<P, S>(alloc, conn, source, &row.legacy)?;
+    match found {
+        Some(unit) => enter_known::<P, S>(alloc, conn, unit, &row.values),
+        None => enter_new::<P, S>(alloc, conn, source, next, row),
+    }
+}
+
+/// The counts with one row more.
+fn count(counts: Counts, became: Entry) -> Counts
+    requires changed { counts.changed + 1 < 2 ^ 64 }
+    requires new { counts.new + 1 < 2 ^ 64 }
+    requires same { counts.same + 1 < 2 ^ 64 }
+    ensures { result ≡ counted became counts }
+{
+    match became {
+        Entry::Changed => Counts {
+            changed: counts.changed + 1,
+            ..counts
+        },
+        Entry::New => Counts {
+            new: counts.new + 1,
+            ..counts
+        },
+        Entry::Same => Counts {
+            same: counts.same + 1,
+            ..counts
+        },
+    }
+}
+
+/// Enters rows one after another, where this is the next number. The places of new units have been
+/// entered, or will be.
+fn enter_each<P: Places, S: Alter>(
+    alloc: Global,
+    conn: &mut Connection<S>,
+    source: &Text,
+    next: u64,
+    rows: &[Row],
+) -> Result<Counts, StoreFault>
+    requires inside { InTransaction P.version (state S.Store conn.old) }
+    requires room { next + length rows.now < 2 ^ 63 }
+    ensures makes { Updates S.Store (RepresentsEntering P.version) (λ _. ⊤) conn.old conn.new result
+        (AreToCome source.now rows.now next) (entered source.now rows.now) described_trees }
+    ensures counts { HasCleanDisk (state S.Store conn.new) → (o : OfficeRow) (c : Catalogue)
+        → RepresentsEntering P.version (state S.Store conn.old).now o c → AreToCome source.now rows.now next c
+        → IfOk result (λ counts. (counts ≡ counts_of c.forest source.now rows.now)
+        × (next + counts.new ≡ (entered source.now rows.now c).next)) }
+    ensures few { IfOk result (λ counts. counts.new ≤ length rows.now) }
+{
+    let mut counts = Counts {
+        changed: 0,
+        new: 0,
+        same: 0,
+    };
+    for row in rows {
+        let became = enter_row::<P, S>(alloc, conn, source, next + counts.new, row)?;
+        counts = count(counts, became);
+    }
+    Ok(counts)
+}
+
+/// The number of the next new unit.
+fn next_number<P: Places, S: Alter>(
+    alloc: Global,
+    conn: &mut Connection<S>,
+) -> Result<u64, StoreFault>
+    requires inside { InTransaction P.version (state S.Store conn.old) }
+    ensures tells { Answers S.Store (RepresentsLegible P.represents P.version) (λ _. ⊤) conn.old conn.new result (λ _. ⊤)
+        (λ _ c next. next ≡ c.next) }
+{
+    let mut found = office_rows(alloc, conn)?;
+    let Some(office) = found.pop() else {
+        return Err(StoreFault::Schema);
+    };
+    Ok(office.next_unit)
+}
+
+/// No memory holds so many rows or containers. Fewer can be numbered on top of those that an office
+/// has.
+const MOST_HELD: u64 = 1 << 61;
+
+/// Whether the rows name more containers than any memory holds.
+fn name_too_many(rows: &[Row]) -> bool
+    ensures { result ≡ false → boxes_named rows.now < 2 ^ 61 }
+{
+    let mut named: u64 = 0;
+    for row in rows {
+        let more = row.values.boxes.len() as u64;
+        if more >= MOST_HELD - named {
+            return true;
+        }
+        named += more;
+    }
+    false
+}
+
+/// Enters rows, and the places of the units that they bring, all at once. This is the next number.
+fn enter_with_places<P: Places, S: Alter>(
+    alloc: Global,
+    conn: &mut Connection<S>,
+    source: &Text,
+    next: u64,
+    rows: &[Row],
+    arrivals: &[Arrival],
+) -> Result<Counts, StoreFault>
+    requires inside { InTransaction P.version (state S.Store conn.old) }
+    requires room { next + length rows.now < 2 ^ 63 }
+    requires numbered { AllByRecursion IsNumbered arrivals.now }
+    ensures makes { Updates S.Store (RepresentsNumbered P.represents P.version) (λ _. ⊤) conn.old conn.new result
+        (BringUnits source.now rows.now next arrivals.now) (entered source.now rows.now) catalogue_trees }
+    ensures counts { HasCleanDisk (state S.Store conn.new) → (o : OfficeRow) (c : Catalogue)
+        → RepresentsNumbered P.represents P.version (state S.Store conn.old).now o c
+        → BringUnits source.now rows.now next arrivals.now c
+        → IfOk result (λ counts. counts ≡ counts_of c.forest source.now rows.now) }
+{
+    P::add_all(alloc, conn, arrivals)?;
+    let counts = enter_each::<P, S>(alloc, conn, source, next, rows)?;
+    set_next_unit(conn, next + counts.new)?;
+    Ok(counts)
+}
+
+/// Enters the rows of a file from a source, one after another: the unit of a row takes its values, or comes with the
+/// next number.
+pub(crate) fn enter_rows<P: Places, S: Alter>(
+    alloc: Global,
+    conn: &mut Connection<S>,
+    source: &Text,
+    rows: &[Row],
+) -> Result<Counts, StoreFault>
+    requires inside { InTransaction P.version (state S.Store conn.old) }
+    ensures makes { Updates S.Store (RepresentsLegible P.represents P.version) (λ _. ⊤) conn.old conn.new result
+        (CanEnter source.now rows.now) (entered source.now rows.now) catalogue_trees }
+    ensures counts { HasCleanDisk (state S.Store conn.new) → (o : OfficeRow) (c : Catalogue)
+        → RepresentsLegible P.represents P.version (state S.Store conn.old).now o c → CanEnter source.now rows.now c
+        → IfOk result (λ counts. counts ≡ counts_of c.forest source.now rows.now) }
+{
+    if name_too_many(rows) || rows.len() as u64 >= MOST_HELD {
+        return Err(StoreFault::Memory);
+    }
+    let next = next_number::<P, S>(alloc, conn)?;
+    if next >= LAST_NUMBER {
+        return Err(StoreFault::Schema);
+    }
+    let arrivals = arrivals::<P, S>(alloc, conn, source, next, rows)?;
+    enter_with_places::<P, S>(alloc, conn, source, next, rows, &arrivals)
+}

@@ -1,0 +1,147 @@
+//! What is known of a file's rows before any is entered.
+
+ghost use Rattle.std.specs.Prelude.{◌≡◌, List, ⊤};
+ghost use Rattle.std.specs.BTreeMap.{get_by_text};
+ghost use Rattle.sqlite.specs.Held.{state};
+ghost use Rattle.atom_csv.specs.declared.file.Row.{«Row» as RowTold};
+ghost use Rattle.catalogue_core.specs.Bounds.{IsKept};
+ghost use Rattle.catalogue_core.specs.GoodCatalogues.{AreGoodUnits};
+ghost use Rattle.catalogue_core.specs.Merging.{depth_under};
+ghost use Rattle.office_tables.specs.Calls.{Answers};
+ghost use Rattle.office_tables.specs.Step.{InTransaction};
+ghost use Rattle.catalogue_statements.specs.Represents.{Represents};
+ghost use Rattle.csv_import.specs.Planning.{KnowsDepths, at_depth, placing_of, plan_of};
+
+use crate::ancestor_depths::depths_below_many;
+use crate::legacy::{ByLegacy, remember};
+use crate::paths::path_of;
+use atom_csv::Row;
+use catalogue_store::{Places, known};
+use isad_core::Text;
+use office_tables::StoreFault;
+use sqlite::{Alter, Connection};
+use std::alloc::Global;
+
+/// Why a row cannot be placed: its parent is not there.
+const NO_PARENT: u8 = 11;
+
+/// Why a row cannot be placed: it would lie too deep.
+const TOO_DEEP: u8 = 12;
+
+/// How many units may stand above one another, the lowest among them.
+const MOST_DEEP: u64 = 64;
+
+/// What can be told of the rows of a file before any is entered.
+#[derive(Clone, Copy)]
+pub(crate) enum Planned {
+    /// All of them can be placed, and so many are new.
+    Fits { new: u64 },
+    /// The first that cannot be placed, and why.
+    Faulty { row: u32, cause: u8 },
+}
+
+/// What becomes of a row.
+#[derive(Clone, Copy)]
+enum Placing {
+    /// Its unit is catalogued.
+    Known,
+    /// It is new, and one right below it would lie so deep.
+    Fits { below: u64 },
+    /// It cannot be placed, and why.
+    Faulty { cause: u8 },
+}
+
+/// How deep a new row lies, where a top is 1; none where its parent is not there. Of a parent that is catalogued the path
+/// is asked for once, as many rows of a file may have the same parent.
+fn depth_of<P: Places, S: Alter>(
+    alloc: Global,
+    conn: &mut Connection<S>,
+    source: &Text,
+    depths: &mut ByLegacy,
+    row: &Row,
+) -> Result<Option<u64>, StoreFault>
+    requires inside { InTransaction P.version (state S.Store conn.old) }
+    ensures tells { Answers S.Store (Represents P.represents P.version) IsKept conn.old conn.new result (λ _. ⊤)
+        (λ _ c depth. AreGoodUnits c
+        → (above : List RowTold) → KnowsDepths c.forest source.now above (get_by_text depths.old)
+        → (depth ≡ depth_under c.forest source.now row.now.parent above)
+        × KnowsDepths c.forest source.now above (get_by_text depths.new)) }
+{
+    let Some(parent) = &row.parent else {
+        return Ok(Some(1));
+    };
+    if let Some(depth) = depths.get(parent.as_str()) {
+        return Ok(Some(*depth));
+    }
+    let path = path_of::<P, S>(alloc, conn, source, parent)?;
+    if path.is_empty() {
+        return Ok(None);
+    }
+    let depth = path.len() as u64 + 1;
+    remember(depths, alloc, parent, depth)?;
+    Ok(Some(depth))
+}
+
+/// What becomes of a new row that lies so deep.
+fn placed(depth: Option<u64>) -> Placing
+    ensures { result ≡ at_depth depth }
+{
+    match depth {
+        None => Placing::Faulty { cause: NO_PARENT },
+        Some(depth) if depth > MOST_DEEP => Placing::Faulty { cause: TOO_DEEP },
+        Some(depth) => Placing::Fits { below: depth + 1 },
+    }
+}
+
+/// What becomes of a row below the new rows above it.
+fn place<P: Places, S: Alter>(
+    alloc: Global,
+    conn: &mut Connection<S>,
+    source: &Text,
+    depths: &mut ByLegacy,
+    row: &Row,
+) -> Result<Placing, StoreFault>
+    requires inside { InTransaction P.version (state S.Store conn.old) }
+    ensures tells { Answers S.Store (Represents P.represents P.version) IsKept conn.old conn.new result (λ _. ⊤)
+        (λ _ c placing. AreGoodUnits c
+        → (above : List RowTold) → KnowsDepths c.forest source.now above (get_by_text depths.old)
+        → (placing ≡ placing_of c.forest source.now above row.now)
+        × KnowsDepths c.forest source.now above (get_by_text depths.new)) }
+{
+    if known(alloc, conn, source, &row.legacy)?.is_some() {
+        return Ok(Placing::Known);
+    }
+    let depth = depth_of::<P, S>(alloc, conn, source, depths, row)?;
+    Ok(placed(depth))
+}
+
+/// Which row of a file from a source cannot be placed, or how many are new. Nothing is entered.
+pub(crate) fn plan<P: Places, S: Alter>(
+    alloc: Global,
+    conn: &mut Connection<S>,
+    source: &Text,
+    rows: &[Row],
+) -> Result<Planned, StoreFault>
+    requires inside { InTransaction P.version (state S.Store conn.old) }
+    ensures tells { Answers S.Store (Represents P.represents P.version) IsKept conn.old conn.new result (λ _. ⊤)
+        (λ _ c told. AreGoodUnits c → told ≡ plan_of c.forest source.now rows.now) }
+{
+    let mut depths = depths_below_many::<P, S>(alloc, conn, source, rows)?;
+    let mut new = 0;
+    for row in rows {
+        match place::<P, S>(alloc, conn, source, &mut depths, row)? {
+            Placing::Known => {}
+            Placing::Fits { below } => {
+                remember(&mut depths, alloc, &row.legacy, below)?;
+                new += 1;
+            }
+            Placing::Faulty { cause } => {
+                return Ok(Planned::Faulty {
+                    row: row.row,
+                    cause,
+                });
+            }
+        }
+    }
+    Ok(Planned::Fits { new })
+}

@@ -1,3 +1,0 @@
-pub mod Readers
-pub mod Checks
-pub mod Judging

@@ -1,0 +1,65 @@
+use Rattle.std.proofs.Common.{◌≡◌, true, false, nat_eq, Option, Err, sym, subst, ◌∙◌}
+use Rattle.sqlite.specs.Held.{state}
+use Rattle.desk_core.specs.declared.refusal.Refusal.TheVariants.{OrderNotWaiting, UnknownOrder}
+use Rattle.desk_store.specs.Orders.{IsThere, order_with, state_number}
+use Rattle.desk_store.specs.declared.orders.PlacedOrder.{PlacedOrder}
+use Rattle.office_core.specs.declared.command.Command.TheVariants as command
+use Rattle.state_encoding.specs.Reading.{tables}
+use Rattle.state_encoding.proofs.LegibleRows.{desk_legible}
+use Rattle.office_tables.proofs.CallEnds.{same_fault}
+use Rattle.office_tables.proofs.Calls.{office_of}
+use Rattle.refinement.proofs.Doings.{does_after, does_not, does_refuse}
+use Rattle.refinement.proofs.OrderRows.{not_placed, was_placed}
+use Rattle.desk_commands.proofs.Cancelled.{not_waiting, unknown_order, waits_or_not}
+use Rattle.desk_commands.proofs.cancellation.cancel.Goals as goal
+
+pub order-requires : goal.order-requires
+order-requires g c = record { inside = office_of g.P.Places.version (state g.S.Store c.args.conn.now) c.requires.inside }
+
+pub returns-in_err-placed : goal.returns-in_err-placed
+returns-in_err-placed g c =
+    let a = state g.S.Store c.args.conn.now in
+    let b = state g.S.Store c.order.new.conn in
+    let told = c.in_err-placed.ensures.tells in
+    let e = c.from_residual.ensures in
+    does_not g.P.Places.represents g.P.Places.version _ (command.Cancel c.args.number) a b c.from_residual.result c.in_err-placed.field-0.0
+    (same_fault c.from_residual.result c.in_err-placed.field-0.0 e.0 e.1) told.cut
+    (λ s sound so it clean free. told.faults tt (tables g.P.Places.version s).desk it.desk tt (desk_legible g.P.Places.version s sound) clean free)
+
+pub returns-in_default : goal.returns-in_default
+returns-in_default g c =
+    let a = state g.S.Store c.args.conn.now in
+    let b = state g.S.Store c.order.new.conn in
+    let told = c.in_ok-placed.ensures.tells in
+    does_refuse g.P.Places.represents g.P.Places.version _ (command.Cancel c.args.number) a b (Err UnknownOrder) told.looks
+    (λ clean s sound so it. unknown_order g.P.Places.represents g.P.Places.version s c.args.number b.now
+    (not_placed s g.P.Places.version c.args.number
+    (subst (λ (found : Option PlacedOrder). IsThere (order_with c.args.number (tables g.P.Places.version s).desk) found) c.in_default.is (told.answers clean tt (tables g.P.Places.version s).desk it.desk))))
+
+pub returns-then-not-is_waiting : goal.returns-then-not-is_waiting
+returns-then-not-is_waiting g c =
+    let a = state g.S.Store c.args.conn.now in
+    let b = state g.S.Store c.order.new.conn in
+    let told = c.in_ok-placed.ensures.tells in
+    let placed = c.in-Some.placed in
+    let no : nat_eq (state_number placed.state) 1 ≡ false = sym c.is_waiting.ensures ∙ c.if-not-is_waiting.true in
+    does_refuse g.P.Places.represents g.P.Places.version _ (command.Cancel c.args.number) a b (Err OrderNotWaiting) told.looks
+    (λ clean s sound so it.
+    let there = was_placed s g.P.Places.version c.args.number placed
+    (subst (λ (found : Option PlacedOrder). IsThere (order_with c.args.number (tables g.P.Places.version s).desk) found) c.in-Some.is (told.answers clean tt (tables g.P.Places.version s).desk it.desk)) in
+    not_waiting g.P.Places.represents g.P.Places.version s c.args.number b.now there.known (waits_or_not g.P.Places.represents g.P.Places.version s c.args.number placed.state there.state ∙ no))
+
+pub returns : goal.returns
+returns g c =
+    let a = state g.S.Store c.args.conn.now in
+    let b = state g.S.Store c.order.new.conn in
+    let d = state g.S.Store c.end_waiting.new.conn in
+    let told = c.in_ok-placed.ensures.tells in
+    let placed = c.in-Some.placed in
+    let yes : nat_eq (state_number placed.state) 1 ≡ true = sym c.is_waiting.ensures ∙ c.if-not-is_waiting.false in
+    does_after g.P.Places.represents g.P.Places.version _ (command.Cancel c.args.number) _ a b d c.end_waiting.result told.looks
+    (λ clean s sound so it.
+    let there = was_placed s g.P.Places.version c.args.number placed
+    (subst (λ (found : Option PlacedOrder). IsThere (order_with c.args.number (tables g.P.Places.version s).desk) found) c.in-Some.is (told.answers clean tt (tables g.P.Places.version s).desk it.desk)) in
+    waits_or_not g.P.Places.represents g.P.Places.version s c.args.number placed.state there.state ∙ yes)
+    c.end_waiting.ensures

@@ -1,0 +1,96 @@
+use Rattle.std.proofs.Common.{ℕ, ◌<◌, ◌^◌, List, ◌∷◌, [], take, get_or, refl, sym, subst, arith}
+use Rattle.std.specs.List.{AllByRecursion}
+use Rattle.std.proofs.lemmas.List.{take_more, take_all}
+use Rattle.sqlite.specs.Held.{state}
+use Rattle.isad_core.specs.Limits.{IsNumber}
+use Rattle.desk_core.specs.DeskRows.{HoldingRow}
+use Rattle.desk_store.specs.Represents.{IsLegible, RepresentsDesk, RepresentsDeskAlone}
+use Rattle.office_tables.specs.Schema as tables
+use Rattle.office_tables.specs.declared.fault.StoreFault.TheVariants as fault
+use Rattle.office_tables.proofs.CallEnds.{makes_not, same_fault}
+use Rattle.office_tables.proofs.Calls.{cut_after, cut_then, early, goes_nowhere, goes_then, still_office}
+use Rattle.office_tables.proofs.Causes.{cause_then, still_unlimited}
+use Rattle.office_tables.proofs.Touching.{nothing_touched, touched_again}
+use Rattle.desk_commands.specs.Moving.{with_all_placed}
+use Rattle.desk_commands.proofs.MovedAll.{all_taken, each_of, legible_all, one_more_placed}
+use Rattle.desk_commands.proofs.container_moves.move_all.Goals as goal
+
+pub loop-container-init : goal.loop-container-init
+loop-container-init g c =
+    let a = state g.S.Store c.args.conn.now in
+    record {
+      inside = c.requires.inside;
+      goes = goes_nowhere a c.requires.inside;
+      only = λ clean. nothing_touched (tables.holding.tree ∷ []) a.now;
+      so_far = λ clean d shown. shown;
+    }
+
+pub set_place-requires : goal.set_place-requires
+set_place-requires g c =
+    let a = state g.S.Store c.args.conn.now in
+    let b = state g.S.Store c.loop-container.conn in
+    record { inside = still_office a b c.loop-container.invariant.inside c.loop-container.invariant.goes; number = omega (arith, c.if-container-ge-NO_NUMBER.false); known = c.requires.known }
+
+pub loop-container-preserved : goal.loop-container-preserved
+loop-container-preserved g c =
+    let a = state g.S.Store c.args.conn.now in
+    let b = state g.S.Store c.loop-container.conn in
+    let d = state g.S.Store c.set_place.new.conn in
+    let before = c.loop-container.invariant in
+    let made = c.in_ok-set_place.ensures.makes in
+    let cs = c.args.containers.now in
+    let i = c.loop-container.container-index in
+    record {
+      inside = before.inside;
+      goes = goes_then a b d before.goes made.goes;
+      only = λ clean. touched_again (tables.holding.tree ∷ []) a.now b.now d.now (before.only (early b d _ made.goes.on.crash clean)) (made.only clean);
+      so_far = λ clean m shown.
+          subst (λ (l : List ℕ). RepresentsDesk d.now.trees (with_all_placed c.args.place l m)) (sym (take_more cs i 0 c.loop-container-test.true))
+          (subst (λ (rows : List HoldingRow). RepresentsDesk d.now.trees (record m { holdings = rows })) (sym (one_more_placed c.args.place (take i cs) (get_or cs i 0) m.holdings))
+          (made.represents_updated clean tt (with_all_placed c.args.place (take i cs) m) (before.so_far (early b d _ made.goes.on.crash clean) m shown) tt));
+    }
+
+pub returns-then-container-ge-NO_NUMBER : goal.returns-then-container-ge-NO_NUMBER
+returns-then-container-ge-NO_NUMBER g c =
+    let a = state g.S.Store c.args.conn.now in
+    let b = state g.S.Store c.loop-container.conn in
+    record {
+      makes = makes_not g.S.Store RepresentsDeskAlone IsLegible (λ _. AllByRecursion IsNumber c.args.containers.now) c.args.conn.now c.loop-container.conn _ (with_all_placed c.args.place c.args.containers.now) (tables.holding.tree ∷ []) fault.Schema refl
+          (cut_after a b c.loop-container.invariant.goes.on)
+          (λ s d shown low kept clean free.
+          let small : get_or c.args.containers.now c.loop-container.container-index 0 < 2 ^ 63 = each_of IsNumber c.args.containers.now c.loop-container.container-index 0 low c.loop-container-test.true in
+          absurd (omega (arith, small, c.if-container-ge-NO_NUMBER.true)));
+    }
+
+pub returns-in_err-set_place : goal.returns-in_err-set_place
+returns-in_err-set_place g c =
+    let a = state g.S.Store c.args.conn.now in
+    let b = state g.S.Store c.loop-container.conn in
+    let d = state g.S.Store c.set_place.new.conn in
+    let before = c.loop-container.invariant in
+    let made = c.in_err-set_place.ensures.makes in
+    let e = c.from_residual.ensures in
+    let cs = c.args.containers.now in
+    let i = c.loop-container.container-index in
+    record {
+      makes = makes_not g.S.Store RepresentsDeskAlone IsLegible (λ _. AllByRecursion IsNumber cs) c.args.conn.now c.set_place.new.conn c.from_residual.result (with_all_placed c.args.place cs) (tables.holding.tree ∷ []) c.in_err-set_place.field-0.0
+          (same_fault c.from_residual.result c.in_err-set_place.field-0.0 e.0 e.1) (cut_then a b d before.goes.on made.cut)
+          (λ s m shown low kept clean free.
+          let at_b = early b d _ made.cut.crash clean in
+          cause_then a b d before.goes.on at_b _
+          (made.faults tt (with_all_placed c.args.place (take i cs) m) (before.so_far at_b m shown) tt (legible_all c.args.place (take i cs) m (all_taken IsNumber i cs low) kept) clean (still_unlimited a b before.goes.on free)));
+    }
+
+pub returns : goal.returns
+returns g c =
+    record {
+      makes = record {
+        represents_updated = λ clean s d shown low.
+            subst (λ (l : List ℕ). RepresentsDesk (state g.S.Store c.loop-container.conn).now.trees (with_all_placed c.args.place l d)) (take_all c.loop-container.container-index c.args.containers.now (omega (arith, c.loop-container-test.false)))
+            (c.loop-container.invariant.so_far clean d shown);
+        only = c.loop-container.invariant.only;
+        goes = c.loop-container.invariant.goes;
+        cut = tt;
+        faults = λ s d shown low kept clean free. tt;
+      };
+    }

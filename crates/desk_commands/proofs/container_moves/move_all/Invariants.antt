@@ -1,0 +1,18 @@
+use Rattle.std.proofs.Common.{[], ◌∷◌, take}
+use Rattle.sqlite.specs.Held.{state}
+use Rattle.sqlite.specs.State.{HasCleanDisk}
+use Rattle.desk_core.specs.DeskRows.{Desk}
+use Rattle.desk_store.specs.Represents.{RepresentsDesk}
+use Rattle.office_tables.specs.Schema as tables
+use Rattle.office_tables.specs.Step.{Goes, InOffice, OnlyTouches}
+use Rattle.desk_commands.specs.Moving.{with_all_placed}
+use Rattle.desk_commands.proofs.container_moves.move_all.Given as goal
+
+abbrev pub invariant-loop-container : goal.invariant-loop-container
+invariant-loop-container g l = record {
+  inside : InOffice (state g.S.Store l.initial.conn);
+  goes : Goes (state g.S.Store l.initial.conn) (state g.S.Store l.conn);
+  only : HasCleanDisk (state g.S.Store l.conn) → OnlyTouches (tables.holding.tree ∷ []) (state g.S.Store l.initial.conn).now (state g.S.Store l.conn).now;
+  so_far : HasCleanDisk (state g.S.Store l.conn) → (d : Desk) → RepresentsDesk (state g.S.Store l.initial.conn).now.trees d
+      → RepresentsDesk (state g.S.Store l.conn).now.trees (with_all_placed l.place (take l.container-index l.containers) d);
+}

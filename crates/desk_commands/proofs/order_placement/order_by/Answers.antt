@@ -1,0 +1,39 @@
+use Rattle.std.proofs.Common.{sym, ◌∙◌}
+use Rattle.sqlite.specs.Held.{state}
+use Rattle.office_core.specs.declared.command.Command.TheVariants as command
+use Rattle.office_tables.proofs.CallEnds.{same_fault}
+use Rattle.office_tables.proofs.Calls.{still}
+use Rattle.refinement.proofs.Doings.{does_after, does_not}
+use Rattle.refinement.proofs.Judged.{judged_now}
+use Rattle.desk_commands.proofs.Ordered.{number_of_open, open_with_number}
+use Rattle.desk_commands.proofs.order_placement.order_by.Goals as goal
+
+pub returns-in_err-is_open : goal.returns-in_err-is_open
+returns-in_err-is_open g c =
+    let a = state g.S.Store c.args.conn.now in
+    let b = state g.S.Store c.is_open_to.new.conn in
+    let told = c.in_err-is_open.ensures.tells in
+    let e = c.from_residual.ensures in
+    does_not g.P.Places.represents g.P.Places.version _ (command.Order c.args.ticket c.args.container) a b c.from_residual.result c.in_err-is_open.field-0.0
+    (same_fault c.from_residual.result c.in_err-is_open.field-0.0 e.0 e.1) told.cut
+    (λ s sound so it clean free. told.faults tt s it tt (judged_now s sound) clean free)
+
+pub decide-requires : goal.decide-requires
+decide-requires g c =
+    let a = state g.S.Store c.args.conn.now in
+    let b = state g.S.Store c.is_open_to.new.conn in
+    record {
+      inside = still g.P.Places.version a b c.requires.inside c.in_ok-is_open.ensures.tells.looks.goes;
+      small = c.requires.small;
+      known = λ yes. number_of_open c.in_ok-is_open.is_open c.args.container (sym c.is_open_with_number.ensures ∙ yes);
+    }
+
+pub returns : goal.returns
+returns g c =
+    let a = state g.S.Store c.args.conn.now in
+    let b = state g.S.Store c.is_open_to.new.conn in
+    let d = state g.S.Store c.decide.new.conn in
+    let told = c.in_ok-is_open.ensures.tells in
+    does_after g.P.Places.represents g.P.Places.version _ (command.Order c.args.ticket c.args.container) _ a b d c.decide.result told.looks
+    (λ clean s sound so it. (so.0, so.1, so.2, c.is_open_with_number.ensures ∙ open_with_number s sound c.args.ticket c.args.container c.in_ok-is_open.is_open (told.answers clean tt s it (judged_now s sound) so.0)))
+    c.decide.ensures

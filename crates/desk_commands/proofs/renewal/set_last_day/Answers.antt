@@ -1,0 +1,35 @@
+use Rattle.sqlite.specs.Held.{state}
+use Rattle.office_core.specs.declared.command.Command.TheVariants as command
+use Rattle.state_encoding.specs.Reading.{tables}
+use Rattle.state_encoding.proofs.LegibleRows.{desk_legible}
+use Rattle.office_tables.proofs.CallEnds.{same_fault}
+use Rattle.office_tables.proofs.Calls.{office_of}
+use Rattle.refinement.proofs.Doings.{does_not}
+use Rattle.desk_commands.proofs.Renewed.{renews}
+use Rattle.desk_commands.proofs.renewal.set_last_day.Goals as goal
+
+pub renew-requires : goal.renew-requires
+renew-requires g c = record { inside = office_of g.P.Places.version (state g.S.Store c.args.conn.now) c.requires.inside; small = c.requires.small }
+
+pub returns-in_err-renew : goal.returns-in_err-renew
+returns-in_err-renew g c =
+    let a = state g.S.Store c.args.conn.now in
+    let b = state g.S.Store c.renew.new.conn in
+    let made = c.in_err-renew.ensures.makes in
+    let e = c.from_residual.ensures in
+    does_not g.P.Places.represents g.P.Places.version _ (command.Renew c.args.ticket c.args.until) a b c.from_residual.result c.in_err-renew.field-0.0
+    (same_fault c.from_residual.result c.in_err-renew.field-0.0 e.0 e.1) made.cut
+    (λ s sound so it clean free. made.faults tt (tables g.P.Places.version s).desk it.desk tt (desk_legible g.P.Places.version s sound) clean free)
+
+pub returns : goal.returns
+returns g c =
+    let a = state g.S.Store c.args.conn.now in
+    let b = state g.S.Store c.renew.new.conn in
+    let made = c.in_ok-renew.ensures.makes in
+    record {
+      steps = λ clean s sound so it. renews g.P.Places.version s c.args.ticket c.args.until g.P.Places.represents g.met.P.Places.shows_same a.now b.now so it (made.goes.schema clean) (made.only clean)
+          (made.represents_updated clean tt (tables g.P.Places.version s).desk it.desk tt);
+      goes = made.goes;
+      cut = tt;
+      faults = λ s sound so it clean free. tt;
+    }

@@ -1,0 +1,46 @@
+use Rattle.sqlite.specs.Held.{state}
+use Rattle.office_core.specs.declared.command.Command.TheVariants as command
+use Rattle.state_encoding.specs.Reading.{tables}
+use Rattle.state_encoding.proofs.LegibleRows.{desk_legible}
+use Rattle.office_tables.proofs.CallEnds.{same_fault}
+use Rattle.office_tables.proofs.Calls.{office_of}
+use Rattle.refinement.specs.Gate.{OthersAreOpen}
+use Rattle.refinement.proofs.Doings.{does_not}
+use Rattle.refinement.proofs.Passing.{passed_where}
+use Rattle.desk_commands.proofs.Revoked.{gate_is_left, judged, revokes_near, represents}
+use Rattle.desk_commands.proofs.revocation.take_back.Goals as goal
+use Rattle.std.proofs.Common.{refl}
+use Rattle.office_core.specs.declared.done.Done.TheVariants as done
+
+pub revoke-requires : goal.revoke-requires
+revoke-requires g c = record {
+  inside = office_of g.P.Places.version (state g.S.Store c.args.conn.now) c.requires.inside;
+  small = c.requires.small;
+  known = c.requires.known;
+}
+
+pub returns-in_err-revoke : goal.returns-in_err-revoke
+returns-in_err-revoke g c =
+    let a = state g.S.Store c.args.conn.now in
+    let b = state g.S.Store c.revoke.new.conn in
+    let made = c.in_err-revoke.ensures.makes in
+    let e = c.from_residual.ensures in
+    does_not g.P.Places.represents g.P.Places.version _ (command.Revoke c.args.ticket c.args.unit) a b c.from_residual.result c.in_err-revoke.field-0.0
+    (same_fault c.from_residual.result c.in_err-revoke.field-0.0 e.0 e.1) made.cut
+    (λ s sound so it clean free. made.faults tt (tables g.P.Places.version s).desk it.desk tt (desk_legible g.P.Places.version s sound) clean free)
+
+pub returns : goal.returns
+returns g c =
+    let a = state g.S.Store c.args.conn.now in
+    let b = state g.S.Store c.revoke.new.conn in
+    let made = c.in_ok-revoke.ensures.makes in
+    passed_where g.S.Store g.P.Places.represents g.P.Places.version _ (command.Revoke c.args.ticket c.args.unit) c.args.today (done.Revoke c.args.unit) a c.revoke.new.conn c.pass_near.new.conn c.pass_near.result (OthersAreOpen c.args.unit)
+    (record {
+      represents = λ clean s sound so it. represents s sound c.args.ticket c.args.unit g.P.Places.represents g.met.P.Places.shows_same g.P.Places.version a.now b.now it (made.goes.schema clean) (made.only clean)
+          (made.represents_updated clean tt (tables g.P.Places.version s).desk it.desk tt);
+      judged = λ s sound so. judged s sound c.args.ticket c.args.unit;
+      day = λ s so. so.0;
+      last = λ s so. gate_is_left s c.args.ticket c.args.unit so.1;
+      tells = λ clean s so it. refl;
+    })
+    (λ s sound so. revokes_near s sound c.args.ticket c.args.unit) made.goes c.pass_near.ensures.tells

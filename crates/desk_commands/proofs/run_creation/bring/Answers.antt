@@ -1,0 +1,99 @@
+use Rattle.std.proofs.Common.{ℕ, List, ◌∷◌, [], refl, sym, subst, ◌∙◌}
+use Rattle.std.specs.List.{AllByRecursion}
+use Rattle.sqlite.specs.Held.{state}
+use Rattle.isad_core.specs.Limits.{IsNumber}
+use Rattle.desk_core.specs.declared.reader.Place.TheVariants.{Desk}
+use Rattle.desk_store.specs.Runs.{TakesEachOnce, next_run, with_run}
+use Rattle.desk_store.specs.Represents.{RepresentsDesk}
+use Rattle.office_core.specs.declared.command.Command.TheVariants as command
+use Rattle.state_encoding.specs.Reading.{tables}
+use Rattle.state_encoding.proofs.LegibleRows.{desk_legible}
+use Rattle.office_tables.specs.Schema as schema
+use Rattle.office_tables.proofs.CallEnds.{same_fault}
+use Rattle.office_tables.proofs.Calls.{cut_then, early, goes_then, office_of, still_office}
+use Rattle.office_tables.proofs.Causes.{cause_then, still_unlimited}
+use Rattle.office_tables.proofs.Touching.{touched_again, touched_wider}
+use Rattle.refinement.proofs.Doings.{does_not}
+use Rattle.desk_commands.specs.Moving.{with_all_placed}
+use Rattle.desk_commands.proofs.Fetched.{taken_once}
+use Rattle.desk_commands.proofs.RunMade.{legible_run, runs_out, runs_with, small_containers, today_legible}
+use Rattle.desk_commands.proofs.run_creation.bring.Goals as goal
+
+pub record_run-requires : goal.record_run-requires
+record_run-requires g c = record { inside = office_of g.P.Places.version (state g.S.Store c.args.conn.now) c.requires.inside; lines = c.requires.numbers }
+
+pub move_all-requires : goal.move_all-requires
+move_all-requires g c =
+    let a = state g.S.Store c.args.conn.now in
+    let b = state g.S.Store c.record_run.new.conn in
+    record { inside = still_office a b (office_of g.P.Places.version a c.requires.inside) c.in_ok-run.ensures.makes.goes; known = tt }
+
+pub returns-in_err-run : goal.returns-in_err-run
+returns-in_err-run g c =
+    let a = state g.S.Store c.args.conn.now in
+    let b = state g.S.Store c.record_run.new.conn in
+    let made = c.in_err-run.ensures.makes in
+    let e = c.from_residual.ensures in
+    does_not g.P.Places.represents g.P.Places.version _ command.Run a b c.from_residual.result c.in_err-run.field-0.0
+    (same_fault c.from_residual.result c.in_err-run.field-0.0 e.0 e.1) made.cut
+    (λ s sound so it clean free. made.faults tt (tables g.P.Places.version s).desk it.desk
+    (subst TakesEachOnce (sym so.1) (taken_once g.P.Places.version s sound)) (desk_legible g.P.Places.version s sound) clean free)
+
+pub returns-in_default : goal.returns-in_default
+returns-in_default g c =
+    let b = state g.S.Store c.record_run.new.conn in
+    let made = c.in_ok-run.ensures in
+    record {
+      steps = λ clean s sound so it. runs_out g.P.Places.version s sound g.P.Places.represents b.now c.args.due.now so.1 so.2
+          (sym c.in_default.is ∙ made.number clean (tables g.P.Places.version s).desk it.desk);
+      goes = made.makes.goes;
+      cut = tt;
+      faults = λ s sound so it clean free. tt;
+    }
+
+pub returns-in_err-move_all : goal.returns-in_err-move_all
+returns-in_err-move_all g c =
+    let v = g.P.Places.version in
+    let a = state g.S.Store c.args.conn.now in
+    let b = state g.S.Store c.record_run.new.conn in
+    let d = state g.S.Store c.move_all.new.conn in
+    let made = c.in_ok-run.ensures.makes in
+    let moved = c.in_err-move_all.ensures.makes in
+    let e = c.from_residual-in_err-move_all.ensures in
+    does_not g.P.Places.represents v _ command.Run a d c.from_residual-in_err-move_all.result c.in_err-move_all.field-0.0
+    (same_fault c.from_residual-in_err-move_all.result c.in_err-move_all.field-0.0 e.0 e.1) (cut_then a b d made.goes.on moved.cut)
+    (λ s sound so it clean free.
+    let desk = (tables v s).desk in
+    let at_b = early b d _ moved.cut.crash clean in
+    cause_then a b d made.goes.on at_b _
+    (moved.faults tt (with_run (next_run desk) c.args.today c.args.due.now desk)
+    (made.represents_updated at_b tt desk it.desk (subst TakesEachOnce (sym so.1) (taken_once v s sound)))
+    (subst (AllByRecursion IsNumber) (sym c.requires.theirs) (small_containers c.args.due.now c.requires.numbers))
+    (legible_run (next_run desk) c.args.today c.args.due.now desk (today_legible v s sound c.args.today so.0) (desk_legible v s sound))
+    clean (still_unlimited a b made.goes.on free)))
+
+pub returns : goal.returns
+returns g c =
+    let v = g.P.Places.version in
+    let a = state g.S.Store c.args.conn.now in
+    let b = state g.S.Store c.record_run.new.conn in
+    let d = state g.S.Store c.move_all.new.conn in
+    let made = c.in_ok-run.ensures.makes in
+    let moved = c.in_ok-move_all.ensures.makes in
+    let touched = schema.run.tree ∷ schema.run_line.tree ∷ schema.holding.tree ∷ [] in
+    let goes = goes_then a b d made.goes moved.goes in
+    record {
+      steps = λ clean s sound so it.
+          let desk = (tables v s).desk in
+          let at_b = early b d _ moved.goes.on.crash clean in
+          let put = with_run (next_run desk) c.args.today c.args.due.now desk in
+          runs_with v s sound g.P.Places.represents g.met.P.Places.shows_same a.now d.now c.args.today c.args.due.now c.in-Some.run' so.0 so.1 so.2
+          (sym c.in-Some.is ∙ c.in_ok-run.ensures.number at_b desk it.desk) it (goes.schema clean)
+          (touched_again touched a.now b.now d.now (touched_wider (schema.run.tree ∷ schema.run_line.tree ∷ []) touched a.now b.now refl (made.only at_b)) (touched_wider (schema.holding.tree ∷ []) touched b.now d.now refl (moved.only clean)))
+          (subst (λ (l : List ℕ). RepresentsDesk d.now.trees (with_all_placed Desk l put)) c.requires.theirs
+          (moved.represents_updated clean tt put (made.represents_updated at_b tt desk it.desk (subst TakesEachOnce (sym so.1) (taken_once v s sound)))
+          (subst (AllByRecursion IsNumber) (sym c.requires.theirs) (small_containers c.args.due.now c.requires.numbers))));
+      goes = goes;
+      cut = tt;
+      faults = λ s sound so it clean free. tt;
+    }

@@ -1,0 +1,101 @@
+use Rattle.std.proofs.Common.{◌≡◌, ◌≤◌, cond, [], ◌∷◌, ◌++◌, length, filter, take, get_or, sym, ap, subst, ◌∙◌, arith}
+use Rattle.std.specs.Prelude.{⊤}
+use Rattle.std.proofs.lemmas.List.{append-nil, take_all}
+use Rattle.std.proofs.lemmas.List.Elements.{filter_more}
+use Rattle.sqlite.specs.Held.{state}
+use Rattle.desk_store.proofs.ToldCalls.{ends_full, ends_not, ends_well, shown_on}
+use Rattle.desk_store.specs.declared.holdings.FirstOrder.{FirstOrder}
+use Rattle.office_core.specs.State.{opens}
+use Rattle.office_tables.proofs.CallEnds.{same_fault}
+use Rattle.office_tables.proofs.Calls.{early, looks_then, still}
+use Rattle.office_tables.specs.declared.fault.StoreFault.TheVariants.{Memory}
+use Rattle.refinement.specs.Judging.{CanBeJudged, RepresentsWhole}
+use Rattle.desk_commands.specs.Running.{due_of}
+use Rattle.desk_commands.proofs.Fetched.{enough, one_more_fits}
+use Rattle.desk_commands.proofs.run_creation.due.Goals.{then-branch+in_ok-push, else-branch}
+use Rattle.desk_commands.proofs.run_creation.due.Goals as goal
+
+pub returns-in_err-is_open_to : goal.returns-in_err-is_open_to
+returns-in_err-is_open_to g c =
+    let v = g.P.Places.version in
+    let e = c.from_residual.ensures in
+    let told = c.in_err-is_open_to.ensures.tells in
+    record {
+      tells = ends_not (RepresentsWhole g.P.Places.represents v) CanBeJudged (λ _. ⊤) g.S.Store c.args.conn.now c.loop-order.conn c.is_open_to.new.conn (λ _ s due. CanBeJudged s → c.args.today ≡ s.day → due.items ≡ due_of s c.args.most c.args.waiting.now)
+          c.loop-order.invariant.looks c.in_err-is_open_to.field-0.0 told.cut
+          (λ s it may judged clean free. told.faults tt s it tt judged clean free)
+          c.from_residual.result (same_fault c.from_residual.result c.in_err-is_open_to.field-0.0 e.0 e.1);
+    }
+
+pub returns-in_err-push : goal.returns-in_err-push
+returns-in_err-push g c =
+    let a = state g.S.Store c.args.conn.now in
+    let b = state g.S.Store c.loop-order.conn in
+    let d = state g.S.Store c.is_open_to.new.conn in
+    let e = c.from_residual-in_err-push.ensures in
+    record {
+      tells = ends_full (RepresentsWhole g.P.Places.represents g.P.Places.version) CanBeJudged (λ _. ⊤) g.S.Store c.args.conn.now c.args.conn.now c.is_open_to.new.conn _ (looks_then a b d c.loop-order.invariant.looks c.in_ok-is_open_to.ensures.tells.looks)
+          c.from_residual-in_err-push.result (same_fault c.from_residual-in_err-push.result Memory e.0 e.1);
+    }
+
+pub loop-order-preserved : goal.loop-order-preserved
+loop-order-preserved g c =
+    let v = g.P.Places.version in
+    let a = state g.S.Store c.args.conn.now in
+    let b = state g.S.Store c.loop-order.conn in
+    let d = state g.S.Store c.is_open_to.new.conn in
+    let looks = c.loop-order.invariant.looks in
+    let told = c.in_ok-is_open_to.ensures.tells in
+    let none : FirstOrder = record { container = 0; order = 0; ticket = 0 } in
+    let ws = c.args.waiting.now in
+    let i = c.loop-order.order-index in
+    let x = get_or ws i none in
+    let so_far = c.loop-order.due.items in
+    let few = c.loop-order.invariant.few in
+    record {
+      inside = still v b d c.loop-order.invariant.inside told.looks.goes;
+      looks = looks_then a b d looks told.looks;
+      few = elim c.if-branch.branch [
+        | then-branch+in_ok-push w ↦
+            let room = c.if-len-most.false in
+            one_more_fits so_far _ x c.args.most (ap (λ v. v.items) w.due-is ∙ w.in_ok-push.ensures.items) (omega (arith, room))
+        | else-branch w ↦ let same = ap (λ v. length v.items) w.due-is in omega (arith, same, few)
+      ];
+      so_far = λ clean s judged it day.
+          let before = early b d _ told.looks.goes.on.crash clean in
+          let at_b = shown_on (RepresentsWhole g.P.Places.represents v) a b looks before s it in
+          let yes = told.answers clean tt s at_b judged day in
+          let so = c.loop-order.invariant.so_far before s judged it day in
+          let more = sym (filter_more (λ (o : FirstOrder). opens s o.ticket o.container) ws i none c.loop-order-test.true) in
+          let added = ap (λ l. l ++ cond (opens s x.ticket x.container) (x ∷ []) []) so ∙ more in
+          elim c.if-branch.branch [
+            | then-branch+in_ok-push w ↦ ap (λ v. v.items) w.due-is ∙ w.in_ok-push.ensures.items ∙ ap (λ b. so_far ++ cond b (x ∷ []) []) (sym w.if-branch.true ∙ yes) ∙ added
+            | else-branch w ↦ ap (λ v. v.items) w.due-is ∙ sym (append-nil so_far) ∙ ap (λ b. so_far ++ cond b (x ∷ []) []) (sym w.if-branch.false ∙ yes) ∙ added
+          ];
+    }
+
+pub returns-then-len-most : goal.returns-then-len-most
+returns-then-len-most g c =
+    let few = c.loop-order.invariant.few in
+    let many = c.if-len-most.true in
+    record {
+      tells = ends_well (RepresentsWhole g.P.Places.represents g.P.Places.version) CanBeJudged (λ _. ⊤) g.S.Store c.args.conn.now c.args.conn.now c.loop-order.conn _ c.loop-order.invariant.looks _
+          (λ clean s it judged day.
+          let so = c.loop-order.invariant.so_far clean s judged it day in
+          let test = λ (o : FirstOrder). opens s o.ticket o.container in
+          let full : length (filter test (take c.loop-order.order-index c.args.waiting.now)) ≡ c.args.most = ap length (sym so) ∙ (omega (arith, few, many)) in
+          so ∙ sym (enough test c.loop-order.order-index c.args.waiting.now) ∙ ap (λ n. take n (filter test c.args.waiting.now)) full);
+    }
+
+pub returns : goal.returns
+returns g c =
+    let few = c.loop-order.invariant.few in
+    let past = c.loop-order-test.false in
+    record {
+      tells = ends_well (RepresentsWhole g.P.Places.represents g.P.Places.version) CanBeJudged (λ _. ⊤) g.S.Store c.args.conn.now c.args.conn.now c.loop-order.conn _ c.loop-order.invariant.looks _
+          (λ clean s it judged day.
+          let test = λ (o : FirstOrder). opens s o.ticket o.container in
+          let so = c.loop-order.invariant.so_far clean s judged it day
+          ∙ ap (filter test) (take_all c.loop-order.order-index c.args.waiting.now (omega (arith, past))) in
+          so ∙ sym (take_all c.args.most (filter test c.args.waiting.now) (subst (λ l. length l ≤ c.args.most) so few)));
+    }

@@ -1,0 +1,48 @@
+use Rattle.std.proofs.Common.{ℕ, List, Ok, sym, subst, ◌∙◌}
+use Rattle.std.specs.List.{AllByRecursion}
+use Rattle.sqlite.specs.Held.{state}
+use Rattle.isad_core.specs.Limits.{IsNumber}
+use Rattle.desk_core.specs.declared.reader.Place.TheVariants.{Shelf}
+use Rattle.desk_store.specs.Represents.{RepresentsDesk}
+use Rattle.office_core.specs.declared.command.Command.TheVariants as command
+use Rattle.office_core.specs.declared.done.Done.TheVariants as done
+use Rattle.state_encoding.specs.Reading.{tables}
+use Rattle.state_encoding.proofs.LegibleRows.{desk_legible}
+use Rattle.office_tables.proofs.CallEnds.{same_fault}
+use Rattle.office_tables.proofs.Calls.{office_of}
+use Rattle.refinement.specs.CommandSteps.{CarriesOutStep}
+use Rattle.refinement.proofs.Doings.{does_not}
+use Rattle.desk_commands.specs.Moving.{with_all_placed}
+use Rattle.desk_commands.proofs.Reshelved.{reshelves, small_idle}
+use Rattle.desk_commands.proofs.shelf_return.shelve.Goals as goal
+
+pub move_all-requires-clause-inside : goal.move_all-requires-clause-inside
+move_all-requires-clause-inside g c = office_of g.P.Places.version (state g.S.Store c.args.conn.now) c.requires.inside
+
+pub returns-in_err-move_all : goal.returns-in_err-move_all
+returns-in_err-move_all g c =
+    let a = state g.S.Store c.args.conn.now in
+    let b = state g.S.Store c.move_all.new.conn in
+    let made = c.in_err-move_all.ensures.makes in
+    let e = c.from_residual.ensures in
+    does_not g.P.Places.represents g.P.Places.version _ command.Reshelve a b c.from_residual.result c.in_err-move_all.field-0.0
+    (same_fault c.from_residual.result c.in_err-move_all.field-0.0 e.0 e.1) made.cut
+    (λ s sound so it clean free. made.faults tt (tables g.P.Places.version s).desk it.desk
+    (subst (AllByRecursion IsNumber) (sym (c.deref.ensures.value ∙ so.0)) (small_idle g.P.Places.version s sound)) (desk_legible g.P.Places.version s sound) clean free)
+
+pub returns : goal.returns
+returns g c =
+    let a = state g.S.Store c.args.conn.now in
+    let b = state g.S.Store c.move_all.new.conn in
+    let made = c.in_ok-move_all.ensures.makes in
+    record {
+      steps = λ clean s sound so it.
+          let is = c.deref.ensures.value ∙ so.0 in
+          subst (λ (l : List ℕ). CarriesOutStep g.P.Places.represents g.P.Places.version s command.Reshelve (Ok (done.Reshelve l)) b.now) (sym so.0)
+          (reshelves g.P.Places.version s sound g.P.Places.represents g.met.P.Places.shows_same a.now b.now so.1 it (made.goes.schema clean) (made.only clean)
+          (subst (λ (l : List ℕ). RepresentsDesk b.now.trees (with_all_placed Shelf l (tables g.P.Places.version s).desk)) is
+          (made.represents_updated clean tt (tables g.P.Places.version s).desk it.desk (subst (AllByRecursion IsNumber) (sym is) (small_idle g.P.Places.version s sound)))));
+      goes = made.goes;
+      cut = tt;
+      faults = λ s sound so it clean free. tt;
+    }

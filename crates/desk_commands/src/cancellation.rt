@@ -1,0 +1,57 @@
+//! An order that waits is cancelled.
+
+ghost use Rattle.std.specs.Prelude.{◌≡◌, nat_eq, true, ⊤};
+ghost use Rattle.sqlite.specs.Held.{state};
+ghost use Rattle.isad_core.specs.Limits.{IsNumber};
+ghost use Rattle.desk_store.specs.Orders.{state_number};
+ghost use Rattle.office_core.specs.State.{waits};
+ghost use Rattle.office_core.specs.declared.command.Command.TheVariants as command;
+ghost use Rattle.office_tables.specs.Step.{InTransaction};
+ghost use Rattle.refinement.specs.CommandSteps.{CarriesOut};
+
+use catalogue_store::Places;
+use desk_store::{OrderState, end_order, order};
+use office_core::{Done, Refusal};
+use office_tables::StoreFault;
+use sqlite::{Alter, Connection};
+use std::alloc::Global;
+
+/// Whether an order in this state waits.
+fn is_waiting(state: OrderState) -> bool
+    ensures { result ≡ nat_eq (state_number state) 1 }
+{
+    matches!(state, OrderState::Waiting)
+}
+
+/// Cancels an order that is known to wait.
+fn end_waiting<P: Places, S: Alter>(
+    conn: &mut Connection<S>,
+    order: u64,
+) -> Result<Result<Done, Refusal>, StoreFault>
+    requires inside { InTransaction P.version (state S.Store conn.old) }
+    requires number { IsNumber order }
+    ensures { CarriesOut P.represents P.version (λ s. waits s order ≡ true) (command.Cancel order) (state S.Store conn.old)
+        (state S.Store conn.new) result }
+{
+    end_order(conn, order, OrderState::Cancelled)?;
+    Ok(Ok(Done::Cancel { order }))
+}
+
+/// Cancels an order, where it was placed and waits.
+pub fn cancel<P: Places, S: Alter>(
+    alloc: Global,
+    conn: &mut Connection<S>,
+    number: u64,
+) -> Result<Result<Done, Refusal>, StoreFault>
+    requires inside { InTransaction P.version (state S.Store conn.old) }
+    ensures { CarriesOut P.represents P.version (λ _. ⊤) (command.Cancel number) (state S.Store conn.old)
+        (state S.Store conn.new) result }
+{
+    let Some(placed) = order(alloc, conn, number)? else {
+        return Ok(Err(Refusal::UnknownOrder));
+    };
+    if !is_waiting(placed.state) {
+        return Ok(Err(Refusal::OrderNotWaiting));
+    }
+    end_waiting::<P, S>(conn, number)
+}

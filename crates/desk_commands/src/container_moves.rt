@@ -1,0 +1,59 @@
+//! Containers go from one place to another.
+
+ghost use Rattle.std.specs.Prelude.{[], ◌∷◌, IfSome, ⊤};
+ghost use Rattle.std.specs.List.{AllByRecursion};
+ghost use Rattle.sqlite.specs.Held.{state};
+ghost use Rattle.isad_core.specs.Limits.{IsNumber};
+ghost use Rattle.desk_store.specs.Holdings.{by_order};
+ghost use Rattle.desk_store.specs.Represents.{IsLegible, RepresentsDeskAlone};
+ghost use Rattle.office_tables.specs.Calls.{Updates};
+ghost use Rattle.office_tables.specs.Schema as tables;
+ghost use Rattle.office_tables.specs.Step.{InOffice};
+ghost use Rattle.desk_commands.specs.Moving.{handed_over, with_all_placed};
+
+use desk_core::Place;
+use desk_store::{OrderState, end_order, set_place};
+use office_tables::StoreFault;
+use office_tables::value::NO_NUMBER;
+use sqlite::{Alter, Connection};
+
+/// Brings a container to another place, and its order into the state that goes with it.
+pub(crate) fn hand_over<S: Alter>(
+    conn: &mut Connection<S>,
+    container: u64,
+    place: Place,
+    order: u64,
+    next: OrderState,
+) -> Result<(), StoreFault>
+    requires inside { InOffice (state S.Store conn.old) }
+    requires number { IsNumber container }
+    requires known { IfSome (by_order place) IsNumber }
+    requires small { IsNumber order }
+    ensures makes { Updates S.Store RepresentsDeskAlone IsLegible conn.old conn.new result (λ _. ⊤)
+        (handed_over container place order next) (tables.orders.tree ∷ tables.holding.tree ∷ []) }
+{
+    end_order(conn, order, next)?;
+    set_place(conn, container, place)
+}
+
+/// Brings these containers to one place, one after the other.
+pub(crate) fn move_all<S: Alter>(
+    conn: &mut Connection<S>,
+    containers: &[u64],
+    place: Place,
+) -> Result<(), StoreFault>
+    requires inside { InOffice (state S.Store conn.old) }
+    requires known { IfSome (by_order place) IsNumber }
+    ensures makes { Updates S.Store RepresentsDeskAlone IsLegible conn.old conn.new result
+        (λ _. AllByRecursion IsNumber containers.now) (with_all_placed place containers.now)
+        (tables.holding.tree ∷ []) }
+{
+    for container in containers {
+        let container = *container;
+        if container >= NO_NUMBER {
+            return Err(StoreFault::Schema);
+        }
+        set_place(conn, container, place)?;
+    }
+    Ok(())
+}

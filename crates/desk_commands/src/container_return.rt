@@ -1,0 +1,56 @@
+//! A container comes back from its reader.
+
+ghost use Rattle.std.specs.Prelude.{◌≡◌, ⊤};
+ghost use Rattle.sqlite.specs.Held.{state};
+ghost use Rattle.isad_core.specs.Limits.{IsNumber};
+ghost use Rattle.desk_core.specs.declared.reader.Place.TheVariants.{Out};
+ghost use Rattle.office_core.specs.declared.command.Command.TheVariants as command;
+ghost use Rattle.office_tables.specs.Step.{InTransaction};
+ghost use Rattle.refinement.specs.CommandSteps.{CarriesOut};
+
+use crate::container_moves::hand_over;
+use catalogue_store::Places;
+use desk_core::Place;
+use desk_store::{OrderState, queue};
+use office_core::{Done, Refusal};
+use office_tables::StoreFault;
+use office_tables::value::NO_NUMBER;
+use sqlite::{Alter, Connection};
+use std::alloc::Global;
+
+/// Takes a container back to the desk that is known to be out with this order.
+fn take_back<P: Places, S: Alter>(
+    conn: &mut Connection<S>,
+    container: u64,
+    order: u64,
+) -> Result<Result<Done, Refusal>, StoreFault>
+    requires inside { InTransaction P.version (state S.Store conn.old) }
+    requires number { IsNumber container }
+    ensures { CarriesOut P.represents P.version (λ s. s.place container ≡ Out order) (command.Return container)
+        (state S.Store conn.old) (state S.Store conn.new) result }
+{
+    if order >= NO_NUMBER {
+        return Err(StoreFault::Schema);
+    }
+    hand_over(conn, container, Place::Desk, order, OrderState::Done)?;
+    Ok(Ok(Done::Return { order }))
+}
+
+/// Takes a container back to the desk, where it is known and out.
+pub fn return_container<P: Places, S: Alter>(
+    alloc: Global,
+    conn: &mut Connection<S>,
+    container: u64,
+) -> Result<Result<Done, Refusal>, StoreFault>
+    requires inside { InTransaction P.version (state S.Store conn.old) }
+    ensures { CarriesOut P.represents P.version (λ _. ⊤) (command.Return container) (state S.Store conn.old)
+        (state S.Store conn.new) result }
+{
+    let Some(found) = queue(alloc, conn, container)? else {
+        return Ok(Err(Refusal::UnknownContainer));
+    };
+    let Place::Out(order) = found.place else {
+        return Ok(Err(Refusal::NotIssued));
+    };
+    take_back::<P, S>(conn, container, order)
+}

@@ -1,0 +1,154 @@
+//! A container is given to a reader.
+
+ghost use Rattle.std.specs.Prelude.{◌≡◌, None, Some, IfOk, option_map, slice_get};
+ghost use Rattle.std.specs.Result.{result_err};
+ghost use Rattle.sqlite.specs.Held.{state};
+ghost use Rattle.isad_core.specs.Limits.{IsNumber};
+ghost use Rattle.desk_core.specs.Checks.{issue_checks};
+ghost use Rattle.desk_core.specs.Decisions.{issue_facts};
+ghost use Rattle.desk_core.specs.Refusals.{first_that_holds};
+ghost use Rattle.desk_store.specs.declared.reader_summary.ReaderCard.{ReaderCard as Card};
+ghost use Rattle.desk_store.specs.declared.orders.WaitingOrder.{WaitingOrder as Waiter};
+ghost use Rattle.office_core.specs.Rules.{refusal};
+ghost use Rattle.office_core.specs.Words.{first as first_of};
+ghost use Rattle.office_core.specs.declared.command.Command.TheVariants as command;
+ghost use Rattle.office_tables.specs.Step.{InTransaction};
+ghost use Rattle.refinement.specs.Allowed.{limits_of};
+ghost use Rattle.refinement.specs.CommandSteps.{CarriesOut};
+ghost use Rattle.desk_commands.specs.Lending.{IsQueuedFor, asked_for};
+
+use crate::container_moves::hand_over;
+use catalogue_store::Places;
+use desk_core::{AtDesk, Limits, Place, Reader, may_issue};
+use desk_store::{OrderState, ReaderCard, WaitingOrder, queue, reader};
+use isad_core::Day;
+use office_core::{Done, Refusal};
+use office_tables::StoreFault;
+use office_tables::value::NO_NUMBER;
+use refinement::is_open_to;
+use sqlite::{Alter, Connection};
+use std::alloc::Global;
+
+/// A container that is known: where it is, and which order waits first for it.
+#[derive(Debug, Clone, Copy, PartialEq, Eq)]
+struct Wanted {
+    container: u64,
+    place: Place,
+    head: Option<WaitingOrder>,
+}
+
+/// The reader of a card, where there is one.
+fn holder_of(card: &Option<ReaderCard>) -> Option<Reader>
+    ensures { result ≡ option_map (λ (c : Card). c.reader) card.now }
+{
+    card.as_ref().map(|card| card.reader)
+}
+
+/// The ticket of an order, where there is one.
+fn ticket_of(head: Option<WaitingOrder>) -> Option<u64>
+    ensures { result ≡ option_map (λ (w : Waiter). w.ticket) head }
+{
+    head.map(|head| head.ticket)
+}
+
+/// The order that may be lent, or why the container may not be given to the ticket.
+fn decide(
+    wanted: Wanted,
+    is_open: bool,
+    ticket: u64,
+    who: Option<Reader>,
+    today: Day,
+    limits: &Limits,
+) -> Result<u64, Refusal>
+    ensures refused { result_err result
+        ≡ first_that_holds (issue_checks
+        (issue_facts (Some (asked_for wanted.place wanted.head is_open)) ticket who today limits.now)) }
+    ensures order { IfOk result (λ order. option_map (λ (w : Waiter). w.order) wanted.head ≡ Some order) }
+{
+    let asked = AtDesk {
+        place: wanted.place,
+        head: ticket_of(wanted.head),
+        is_open,
+    };
+    may_issue(Some(&asked), ticket, who.as_ref(), today, limits)?;
+    match wanted.head {
+        Some(head) => Ok(head.order),
+        None => Err(Refusal::NotFirst),
+    }
+}
+
+/// Gives a container out that is known to be free to go, with the first order that waits for it.
+fn lend<P: Places, S: Alter>(
+    conn: &mut Connection<S>,
+    container: u64,
+    ticket: u64,
+    order: u64,
+) -> Result<Result<Done, Refusal>, StoreFault>
+    requires inside { InTransaction P.version (state S.Store conn.old) }
+    requires number { IsNumber container }
+    ensures { CarriesOut P.represents P.version (λ s. (refusal s (command.Issue container ticket) ≡ None)
+        × (first_of (s.queue container) ≡ Some order)) (command.Issue container ticket) (state S.Store conn.old)
+        (state S.Store conn.new) result }
+{
+    if order >= NO_NUMBER {
+        return Err(StoreFault::Schema);
+    }
+    hand_over(conn, container, Place::Out(order), order, OrderState::Out)?;
+    Ok(Ok(Done::Issue { order }))
+}
+
+/// Gives a container to a reader that is known to be such.
+fn issue_known<P: Places, S: Alter>(
+    alloc: Global,
+    conn: &mut Connection<S>,
+    today: Day,
+    limits: &Limits,
+    ticket: u64,
+    wanted: Wanted,
+) -> Result<Result<Done, Refusal>, StoreFault>
+    requires inside { InTransaction P.version (state S.Store conn.old) }
+    requires number { IsNumber wanted.container }
+    ensures { CarriesOut P.represents P.version (λ s. (today ≡ s.day) × (limits.now ≡ limits_of s)
+        × IsQueuedFor s wanted.container wanted.place wanted.head) (command.Issue wanted.container ticket)
+        (state S.Store conn.old) (state S.Store conn.new) result }
+{
+    let card = reader(alloc, conn, ticket, today)?;
+    let who = holder_of(&card);
+    let is_open = is_open_to::<P, S>(alloc, conn, wanted.container, ticket, today)?;
+    match decide(wanted, is_open, ticket, who, today, limits) {
+        Ok(order) => lend::<P, S>(conn, wanted.container, ticket, order),
+        Err(why) => Ok(Err(why)),
+    }
+}
+
+/// The order that waits first.
+fn head_of(waiting: &[WaitingOrder]) -> Option<WaitingOrder>
+    ensures { result ≡ slice_get waiting.now 0 }
+{
+    waiting.first().copied()
+}
+
+/// Gives a container to a reader, where it is at the desk and open to him, his is the first order that waits for it,
+/// and he sits and has not too much.
+pub fn issue<P: Places, S: Alter>(
+    alloc: Global,
+    conn: &mut Connection<S>,
+    today: Day,
+    limits: &Limits,
+    container: u64,
+    ticket: u64,
+) -> Result<Result<Done, Refusal>, StoreFault>
+    requires inside { InTransaction P.version (state S.Store conn.old) }
+    ensures { CarriesOut P.represents P.version (λ s. (today ≡ s.day) × (limits.now ≡ limits_of s))
+        (command.Issue container ticket) (state S.Store conn.old) (state S.Store conn.new) result }
+{
+    let Some(found) = queue(alloc, conn, container)? else {
+        return Ok(Err(Refusal::UnknownContainer));
+    };
+    let wanted = Wanted {
+        container,
+        place: found.place,
+        head: head_of(found.waiting.as_slice()),
+    };
+    issue_known::<P, S>(alloc, conn, today, limits, ticket, wanted)
+}

@@ -1,0 +1,56 @@
+//! A new day begins.
+
+ghost use Rattle.std.specs.Prelude.{◌≡◌, false, int_lt, true};
+ghost use Rattle.std.specs.List.{list_any};
+ghost use Rattle.sqlite.specs.Held.{state};
+ghost use Rattle.office_core.specs.State.{containers, is_out};
+ghost use Rattle.office_core.specs.Words.{is_empty};
+ghost use Rattle.office_core.specs.declared.command.Command.TheVariants as command;
+ghost use Rattle.office_tables.specs.Step.{InTransaction};
+ghost use Rattle.refinement.specs.CommandSteps.{CarriesOut};
+
+use catalogue_store::Places;
+use desk_store::{Loan, issued, open_day};
+use isad_core::Day;
+use office_core::{Done, Refusal};
+use office_tables::StoreFault;
+use sqlite::{Alter, Connection};
+use std::alloc::Global;
+
+/// Whether there is no loan.
+fn are_none(loans: &[Loan]) -> bool
+    ensures { result ≡ is_empty loans.now }
+{
+    loans.is_empty()
+}
+
+/// Begins a later day, where nothing is out.
+fn begin_day<P: Places, S: Alter>(
+    conn: &mut Connection<S>,
+    day: Day,
+) -> Result<Result<Done, Refusal>, StoreFault>
+    requires inside { InTransaction P.version (state S.Store conn.old) }
+    ensures { CarriesOut P.represents P.version
+        (λ s. (int_lt s.day day ≡ true) × (list_any (is_out s) (containers s) ≡ false)) (command.OpenDay day)
+        (state S.Store conn.old) (state S.Store conn.new) result }
+{
+    open_day(conn, day)?;
+    Ok(Ok(Done::OpenDay { day }))
+}
+
+/// Begins another day, which is known to be later.
+pub fn open<P: Places, S: Alter>(
+    alloc: Global,
+    conn: &mut Connection<S>,
+    day: Day,
+) -> Result<Result<Done, Refusal>, StoreFault>
+    requires inside { InTransaction P.version (state S.Store conn.old) }
+    ensures { CarriesOut P.represents P.version (λ s. int_lt s.day day ≡ true) (command.OpenDay day)
+        (state S.Store conn.old) (state S.Store conn.new) result }
+{
+    let loans = issued(alloc, conn)?;
+    if !are_none(&loans) {
+        return Ok(Err(Refusal::StillIssued));
+    }
+    begin_day::<P, S>(conn, day)
+}

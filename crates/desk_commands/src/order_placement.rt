@@ -1,0 +1,144 @@
+//! Containers are ordered.
+
+ghost use Rattle.std.specs.Prelude.{◌≡◌, ◌&&◌, ◌^◌, true, nat_eq, nat_lt};
+ghost use Rattle.std.specs.List.{list_any};
+ghost use Rattle.sqlite.specs.Held.{state};
+ghost use Rattle.isad_core.specs.Limits.{IsNumber};
+ghost use Rattle.desk_store.specs.declared.reader_summary.LiveOrder.{LiveOrder as Live};
+ghost use Rattle.office_core.specs.State.{opens};
+ghost use Rattle.office_core.specs.declared.command.Command.TheVariants as command;
+ghost use Rattle.office_tables.specs.Step.{InTransaction};
+ghost use Rattle.refinement.specs.Allowed.{limits_of};
+ghost use Rattle.refinement.specs.CommandSteps.{CarriesOut};
+ghost use Rattle.desk_commands.specs.Placing.{IsCardOf, MayOrder, ask_of};
+
+use catalogue_store::Places;
+use desk_core::{Ask, Limits, may_order};
+use desk_store::{LiveOrder, ReaderCard, append_order, reader};
+use isad_core::Day;
+use office_core::{Done, Refusal};
+use office_tables::StoreFault;
+use office_tables::value::NO_NUMBER;
+use refinement::is_open_to;
+use sqlite::{Alter, Connection};
+use std::alloc::Global;
+
+/// Whether one of these orders is for the container.
+fn is_for_one(live: &[LiveOrder], container: u64) -> bool
+    ensures { result ≡ list_any (λ (order : Live). nat_eq container order.container) live.now }
+{
+    live.iter().any(|order| container == order.container)
+}
+
+/// What an order for the container is decided by, besides the reader.
+fn ask(card: &ReaderCard, container: u64, is_open: bool) -> Ask
+    ensures { result ≡ ask_of card.now container is_open }
+{
+    Ask {
+        is_open,
+        already: is_for_one(card.live.as_slice(), container),
+        placed: card.placed,
+        orders: card.orders,
+    }
+}
+
+/// Places an order that may be placed, under the number after the last.
+fn append<P: Places, S: Alter>(
+    conn: &mut Connection<S>,
+    today: Day,
+    ticket: u64,
+    container: u64,
+    order: u64,
+) -> Result<Result<Done, Refusal>, StoreFault>
+    requires inside { InTransaction P.version (state S.Store conn.old) }
+    requires number { IsNumber order }
+    requires small { IsNumber ticket }
+    requires known { IsNumber container }
+    ensures { CarriesOut P.represents P.version (λ s. MayOrder s ticket container order today)
+        (command.Order ticket container) (state S.Store conn.old) (state S.Store conn.new) result }
+{
+    append_order(conn, order, ticket, container, today)?;
+    Ok(Ok(Done::Order { order }))
+}
+
+/// Places an order, where the reader may place it. Whether the container is open to him is known.
+fn decide<P: Places, S: Alter>(
+    conn: &mut Connection<S>,
+    today: Day,
+    limits: &Limits,
+    card: &ReaderCard,
+    ticket: u64,
+    container: u64,
+    is_open: bool,
+) -> Result<Result<Done, Refusal>, StoreFault>
+    requires inside { InTransaction P.version (state S.Store conn.old) }
+    requires small { IsNumber ticket }
+    requires known { is_open ≡ true → IsNumber container }
+    ensures { CarriesOut P.represents P.version (λ s. (today ≡ s.day) × (limits.now ≡ limits_of s)
+        × IsCardOf P.version s ticket card.now × (is_open ≡ opens s ticket container))
+        (command.Order ticket container) (state S.Store conn.old) (state S.Store conn.new) result }
+{
+    match may_order(
+        Some(&card.reader),
+        today,
+        &ask(card, container, is_open),
+        limits,
+    ) {
+        Ok(()) => append::<P, S>(conn, today, ticket, container, card.orders + 1),
+        Err(why) => Ok(Err(why)),
+    }
+}
+
+/// Whether the container is open, and has a number that a table keeps: what is open has one.
+fn is_open_with_number(container: u64, is_open: bool) -> bool
+    ensures { result ≡ (is_open && nat_lt container (2 ^ 63)) }
+{
+    is_open && container < NO_NUMBER
+}
+
+/// Places an order of the reader with this card, where he may place it.
+fn order_by<P: Places, S: Alter>(
+    alloc: Global,
+    conn: &mut Connection<S>,
+    today: Day,
+    limits: &Limits,
+    card: &ReaderCard,
+    ticket: u64,
+    container: u64,
+) -> Result<Result<Done, Refusal>, StoreFault>
+    requires inside { InTransaction P.version (state S.Store conn.old) }
+    requires small { IsNumber ticket }
+    ensures { CarriesOut P.represents P.version
+        (λ s. (today ≡ s.day) × (limits.now ≡ limits_of s) × IsCardOf P.version s ticket card.now)
+        (command.Order ticket container) (state S.Store conn.old) (state S.Store conn.new) result }
+{
+    let is_open = is_open_to::<P, S>(alloc, conn, container, ticket, today)?;
+    decide::<P, S>(
+        conn,
+        today,
+        limits,
+        card,
+        ticket,
+        container,
+        is_open_with_number(container, is_open),
+    )
+}
+
+/// A ticket orders a container that is open to its reader.
+pub fn order<P: Places, S: Alter>(
+    alloc: Global,
+    conn: &mut Connection<S>,
+    today: Day,
+    limits: &Limits,
+    ticket: u64,
+    container: u64,
+) -> Result<Result<Done, Refusal>, StoreFault>
+    requires inside { InTransaction P.version (state S.Store conn.old) }
+    ensures { CarriesOut P.represents P.version (λ s. (today ≡ s.day) × (limits.now ≡ limits_of s))
+        (command.Order ticket container) (state S.Store conn.old) (state S.Store conn.new) result }
+{
+    let Some(card) = reader(alloc, conn, ticket, today)? else {
+        return Ok(Err(Refusal::UnknownTicket));
+    };
+    order_by::<P, S>(alloc, conn, today, limits, &card, ticket, container)
+}

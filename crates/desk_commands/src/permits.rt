@@ -1,0 +1,133 @@
+//! Permits for closed units are granted.
+
+ghost use Rattle.std.specs.Prelude.{◌≡◌, ◌&&◌, true, ⊤, not, is_some, length, nat_le};
+ghost use Rattle.sqlite.specs.Held.{state};
+ghost use Rattle.isad_core.specs.Limits.{IsNumber, most_permits};
+ghost use Rattle.catalogue_core.specs.Finding.{has_unit};
+ghost use Rattle.office_core.specs.State.{is_ticket};
+ghost use Rattle.office_core.specs.declared.command.Command.TheVariants as command;
+ghost use Rattle.office_tables.specs.Step.{InTransaction};
+ghost use Rattle.refinement.specs.CommandSteps.{CarriesOut};
+ghost use Rattle.desk_commands.specs.Permitting.{MayPermit, later_of, until_for};
+
+use catalogue_store::{Places, is_unit};
+use desk_store::{Permit, grant, permits, reader};
+use isad_core::Day;
+use office_core::{Done, Refusal};
+use office_tables::StoreFault;
+use sqlite::{Alter, Connection};
+use std::alloc::Global;
+
+/// How many permits a ticket may have.
+const MOST_PERMITS: usize = 100;
+
+/// The last day of the permit for a unit, where there is one.
+pub(crate) fn last_day(held: &[Permit], unit: u64) -> Option<Day>
+    ensures { result ≡ until_for unit held.now }
+{
+    held.iter()
+        .find(|permit| permit.unit == unit)
+        .map(|permit| permit.until)
+}
+
+/// The later of the day to which there is a permit, and of the day that is asked.
+fn later(held: Option<Day>, asked: Day) -> Day
+    ensures { result ≡ later_of held asked }
+{
+    match held {
+        Some(day) if asked < day => day,
+        _ => asked,
+    }
+}
+
+/// Whether the ticket has no permit for the unit, and as many for others as it may have.
+fn is_full(held: &[Permit], unit: u64) -> bool
+    ensures { result ≡ (not (is_some (until_for unit held.now)) && nat_le most_permits (length held.now)) }
+{
+    last_day(held, unit).is_none() && held.len() >= MOST_PERMITS
+}
+
+/// Gives a permit that may be given. It is to the day that then stands.
+fn give<P: Places, S: Alter>(
+    conn: &mut Connection<S>,
+    ticket: u64,
+    unit: u64,
+    asked: Day,
+    until: Day,
+) -> Result<Result<Done, Refusal>, StoreFault>
+    requires inside { InTransaction P.version (state S.Store conn.old) }
+    requires small { IsNumber ticket }
+    requires known { IsNumber unit }
+    ensures { CarriesOut P.represents P.version (λ s. MayPermit s ticket unit asked until)
+        (command.Permit ticket unit asked) (state S.Store conn.old) (state S.Store conn.new) result }
+{
+    grant(conn, ticket, unit, until)?;
+    Ok(Ok(Done::Permit {
+        ticket,
+        unit,
+        until,
+    }))
+}
+
+/// Gives a permit, where the ticket has one for the unit or may have one more. The ticket and the unit are there.
+fn give_within<P: Places, S: Alter>(
+    alloc: Global,
+    conn: &mut Connection<S>,
+    ticket: u64,
+    unit: u64,
+    asked: Day,
+) -> Result<Result<Done, Refusal>, StoreFault>
+    requires inside { InTransaction P.version (state S.Store conn.old) }
+    requires small { IsNumber ticket }
+    requires known { IsNumber unit }
+    ensures { CarriesOut P.represents P.version
+        (λ s. (is_ticket s ticket ≡ true) × (has_unit s.catalogue.forest unit ≡ true))
+        (command.Permit ticket unit asked) (state S.Store conn.old) (state S.Store conn.new) result }
+{
+    let held = permits(alloc, conn, ticket)?;
+    if is_full(&held, unit) {
+        return Ok(Err(Refusal::Full));
+    }
+    let until = later(last_day(&held, unit), asked);
+    give::<P, S>(conn, ticket, unit, asked, until)
+}
+
+/// Gives a permit for a unit that may be there or not. The ticket is there.
+fn give_for<P: Places, S: Alter>(
+    alloc: Global,
+    conn: &mut Connection<S>,
+    ticket: u64,
+    unit: u64,
+    asked: Day,
+) -> Result<Result<Done, Refusal>, StoreFault>
+    requires inside { InTransaction P.version (state S.Store conn.old) }
+    requires small { IsNumber ticket }
+    ensures { CarriesOut P.represents P.version (λ s. is_ticket s ticket ≡ true) (command.Permit ticket unit asked)
+        (state S.Store conn.old) (state S.Store conn.new) result }
+{
+    let there = is_unit::<P, S>(alloc, conn, unit)?;
+    if !there {
+        return Ok(Err(Refusal::UnknownUnit));
+    }
+    give_within::<P, S>(alloc, conn, ticket, unit, asked)
+}
+
+/// Gives a ticket a permit for a unit to a day, unless it has one to a later day.
+pub fn permit<P: Places, S: Alter>(
+    alloc: Global,
+    conn: &mut Connection<S>,
+    today: Day,
+    ticket: u64,
+    unit: u64,
+    until: Day,
+) -> Result<Result<Done, Refusal>, StoreFault>
+    requires inside { InTransaction P.version (state S.Store conn.old) }
+    ensures { CarriesOut P.represents P.version (λ _. ⊤) (command.Permit ticket unit until)
+        (state S.Store conn.old) (state S.Store conn.new) result }
+{
+    let card = reader(alloc, conn, ticket, today)?;
+    if card.is_none() {
+        return Ok(Err(Refusal::UnknownTicket));
+    }
+    give_for::<P, S>(alloc, conn, ticket, unit, until)
+}

@@ -1,0 +1,33 @@
+//! A reader gets a ticket.
+
+ghost use Rattle.std.specs.Prelude.{◌≡◌, true, IsUtf8, ⊤};
+ghost use Rattle.sqlite.specs.Held.{state};
+ghost use Rattle.office_core.specs.Rules.{is_name};
+ghost use Rattle.office_core.specs.declared.command.Command.TheVariants as command;
+ghost use Rattle.office_tables.specs.Step.{InTransaction};
+ghost use Rattle.refinement.specs.CommandSteps.{CarriesOut};
+
+use catalogue_store::Places;
+use desk_store::add_reader;
+use isad_core::{Day, Text};
+use office_core::{Done, Refusal};
+use office_tables::StoreFault;
+use sqlite::{Alter, Connection};
+
+/// Gives a reader the next ticket. The name is known to be one.
+pub fn register<P: Places, S: Alter>(
+    conn: &mut Connection<S>,
+    name: &Text,
+    until: Day,
+) -> Result<Result<Done, Refusal>, StoreFault>
+    requires inside { InTransaction P.version (state S.Store conn.old) }
+    requires named { is_name name.now ≡ true }
+    requires text { IsUtf8 name.now }
+    ensures { CarriesOut P.represents P.version (λ _. ⊤) (command.Register name.now until) (state S.Store conn.old)
+        (state S.Store conn.new) result }
+{
+    let Some(ticket) = add_reader(conn, name, until)? else {
+        return Ok(Err(Refusal::Full));
+    };
+    Ok(Ok(Done::Register { ticket }))
+}

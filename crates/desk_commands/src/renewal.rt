@@ -1,0 +1,50 @@
+//! A ticket gets another last day.
+
+ghost use Rattle.std.specs.Prelude.{◌≡◌, ◌<◌, ◌^◌, true, ⊤};
+ghost use Rattle.sqlite.specs.Held.{state};
+ghost use Rattle.office_core.specs.State.{is_ticket};
+ghost use Rattle.office_core.specs.declared.command.Command.TheVariants as command;
+ghost use Rattle.office_tables.specs.Step.{InTransaction};
+ghost use Rattle.refinement.specs.CommandSteps.{CarriesOut};
+
+use catalogue_store::Places;
+use desk_store::{reader, renew};
+use isad_core::Day;
+use office_core::{Done, Refusal};
+use office_tables::StoreFault;
+use sqlite::{Alter, Connection};
+use std::alloc::Global;
+
+/// Writes the last day of a ticket that was given.
+fn set_last_day<P: Places, S: Alter>(
+    conn: &mut Connection<S>,
+    ticket: u64,
+    until: Day,
+) -> Result<Result<Done, Refusal>, StoreFault>
+    requires inside { InTransaction P.version (state S.Store conn.old) }
+    requires small { ticket < 2 ^ 63 }
+    ensures { CarriesOut P.represents P.version (λ s. is_ticket s ticket ≡ true) (command.Renew ticket until)
+        (state S.Store conn.old) (state S.Store conn.new) result }
+{
+    renew(conn, ticket, until)?;
+    Ok(Ok(Done::Renew { ticket }))
+}
+
+/// Gives a ticket another last day, where the ticket was given.
+pub fn renew_ticket<P: Places, S: Alter>(
+    alloc: Global,
+    conn: &mut Connection<S>,
+    today: Day,
+    ticket: u64,
+    until: Day,
+) -> Result<Result<Done, Refusal>, StoreFault>
+    requires inside { InTransaction P.version (state S.Store conn.old) }
+    ensures { CarriesOut P.represents P.version (λ _. ⊤) (command.Renew ticket until) (state S.Store conn.old)
+        (state S.Store conn.new) result }
+{
+    let card = reader(alloc, conn, ticket, today)?;
+    if card.is_none() {
+        return Ok(Err(Refusal::UnknownTicket));
+    }
+    set_last_day::<P, S>(conn, ticket, until)
+}

@@ -1,0 +1,101 @@
+//! Permits for closed units are taken back.
+
+ghost use Rattle.std.specs.Prelude.{◌≡◌, true};
+ghost use Rattle.sqlite.specs.Held.{state};
+ghost use Rattle.isad_core.specs.Limits.{IsNumber};
+ghost use Rattle.catalogue_core.specs.Finding.{has_unit};
+ghost use Rattle.office_core.specs.State.{is_ticket};
+ghost use Rattle.office_core.specs.declared.command.Command.TheVariants as command;
+ghost use Rattle.office_tables.specs.Step.{InTransaction};
+ghost use Rattle.refinement.specs.CommandSteps.{CarriesOut};
+ghost use Rattle.desk_commands.specs.Revoking.{HasPermit};
+
+use crate::permits::last_day;
+use catalogue_store::{Places, is_unit};
+use desk_store::{permits, reader, revoke};
+use isad_core::Day;
+use office_core::{Done, Refusal};
+use office_tables::StoreFault;
+use refinement::pass_near;
+use sqlite::{Alter, Connection};
+use std::alloc::Global;
+
+/// Takes back a permit that is there, unless it is for what the reader has in his hands.
+fn take_back<P: Places, S: Alter>(
+    alloc: Global,
+    conn: &mut Connection<S>,
+    today: Day,
+    ticket: u64,
+    unit: u64,
+) -> Result<Result<Done, Refusal>, StoreFault>
+    requires inside { InTransaction P.version (state S.Store conn.old) }
+    requires small { IsNumber ticket }
+    requires known { IsNumber unit }
+    ensures { CarriesOut P.represents P.version (λ s. (today ≡ s.day) × HasPermit s ticket unit) (command.Revoke ticket unit)
+        (state S.Store conn.old) (state S.Store conn.new) result }
+{
+    revoke(conn, ticket, unit)?;
+    pass_near::<P, S>(alloc, conn, today, unit, Done::Revoke { unit })
+}
+
+/// Takes back a permit that may be there or not. The ticket and the unit are there.
+fn take_back_held<P: Places, S: Alter>(
+    alloc: Global,
+    conn: &mut Connection<S>,
+    today: Day,
+    ticket: u64,
+    unit: u64,
+) -> Result<Result<Done, Refusal>, StoreFault>
+    requires inside { InTransaction P.version (state S.Store conn.old) }
+    requires small { IsNumber ticket }
+    requires known { IsNumber unit }
+    ensures { CarriesOut P.represents P.version
+        (λ s. (today ≡ s.day) × (is_ticket s ticket ≡ true) × (has_unit s.catalogue.forest unit ≡ true))
+        (command.Revoke ticket unit) (state S.Store conn.old) (state S.Store conn.new) result }
+{
+    let held = permits(alloc, conn, ticket)?;
+    let until = last_day(&held, unit);
+    if until.is_none() {
+        return Ok(Err(Refusal::NoPermit));
+    }
+    take_back::<P, S>(alloc, conn, today, ticket, unit)
+}
+
+/// Takes back a permit for a unit that may be there or not. The ticket is there.
+fn take_back_for<P: Places, S: Alter>(
+    alloc: Global,
+    conn: &mut Connection<S>,
+    today: Day,
+    ticket: u64,
+    unit: u64,
+) -> Result<Result<Done, Refusal>, StoreFault>
+    requires inside { InTransaction P.version (state S.Store conn.old) }
+    requires small { IsNumber ticket }
+    ensures { CarriesOut P.represents P.version (λ s. (today ≡ s.day) × (is_ticket s ticket ≡ true))
+        (command.Revoke ticket unit) (state S.Store conn.old) (state S.Store conn.new) result }
+{
+    let there = is_unit::<P, S>(alloc, conn, unit)?;
+    if !there {
+        return Ok(Err(Refusal::UnknownUnit));
+    }
+    take_back_held::<P, S>(alloc, conn, today, ticket, unit)
+}
+
+/// Takes a ticket's permit for a unit back, unless its reader has in his hands what only the permit opens to him.
+pub fn revoke_permit<P: Places, S: Alter>(
+    alloc: Global,
+    conn: &mut Connection<S>,
+    today: Day,
+    ticket: u64,
+    unit: u64,
+) -> Result<Result<Done, Refusal>, StoreFault>
+    requires inside { InTransaction P.version (state S.Store conn.old) }
+    ensures { CarriesOut P.represents P.version (λ s. today ≡ s.day) (command.Revoke ticket unit)
+        (state S.Store conn.old) (state S.Store conn.new) result }
+{
+    let card = reader(alloc, conn, ticket, today)?;
+    if card.is_none() {
+        return Ok(Err(Refusal::UnknownTicket));
+    }
+    take_back_for::<P, S>(alloc, conn, today, ticket, unit)
+}

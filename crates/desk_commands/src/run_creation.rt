@@ -1,0 +1,136 @@
+//! A run brings containers to the desk.
+
+ghost use Rattle.std.specs.Prelude.{◌≡◌, false, map, IfOk, ⊤};
+ghost use Rattle.std.specs.List.{AllByRecursion, list_all};
+ghost use Rattle.sqlite.specs.Held.{state};
+ghost use Rattle.desk_store.specs.Runs.{IsNumbered};
+ghost use Rattle.desk_store.specs.declared.holdings.FirstOrder.{FirstOrder as Taken};
+ghost use Rattle.office_core.specs.Words.{is_empty};
+ghost use Rattle.office_core.specs.declared.command.Command.TheVariants as command;
+ghost use Rattle.office_tables.specs.Calls.{Answers};
+ghost use Rattle.office_tables.specs.Step.{InTransaction};
+ghost use Rattle.refinement.specs.Allowed.{limits_of};
+ghost use Rattle.refinement.specs.CommandSteps.{CarriesOut};
+ghost use Rattle.refinement.specs.Judging.{CanBeJudged, RepresentsWhole};
+ghost use Rattle.desk_commands.specs.Running.{due_of, has_numbers, taken_by};
+
+use crate::container_moves::move_all;
+use catalogue_store::Places;
+use desk_core::{Limits, Place};
+use desk_store::{FirstOrder, candidates, record_run};
+use isad_core::Day;
+use office_core::{Done, Refusal};
+use office_tables::StoreFault;
+use office_tables::value::NO_NUMBER;
+use refinement::is_open_to;
+use sqlite::{Alter, Connection};
+use std::alloc::{AllocError, Global};
+
+/// Of these orders those whose containers are open to their readers, as many as a run takes.
+fn due<P: Places, S: Alter>(
+    alloc: Global,
+    conn: &mut Connection<S>,
+    today: Day,
+    most: u32,
+    waiting: &[FirstOrder],
+) -> Result<Vec<FirstOrder>, StoreFault>
+    requires inside { InTransaction P.version (state S.Store conn.old) }
+    ensures tells { Answers S.Store (RepresentsWhole P.represents P.version) CanBeJudged conn.old conn.new result (λ _. ⊤)
+        (λ _ s due. CanBeJudged s → today ≡ s.day → due.items ≡ due_of s most waiting.now) }
+{
+    let mut due = Vec::new(alloc);
+    for order in waiting {
+        let order = *order;
+        if due.len() >= most as usize {
+            return Ok(due);
+        }
+        if is_open_to::<P, S>(alloc, conn, order.container, order.ticket, today)? {
+            due.push(order)?;
+        }
+    }
+    Ok(due)
+}
+
+/// Whether no order is due.
+fn are_none(due: &[FirstOrder]) -> bool
+    ensures { result ≡ is_empty due.now }
+{
+    due.is_empty()
+}
+
+/// Whether the numbers of these orders are such as a table keeps.
+fn are_kept(due: &[FirstOrder]) -> bool
+    ensures { result ≡ list_all has_numbers due.now }
+{
+    due.iter().all(|o| o.container < NO_NUMBER && o.order < NO_NUMBER && o.ticket < NO_NUMBER)
+}
+
+/// The containers of these orders.
+fn containers_of(alloc: Global, due: &[FirstOrder]) -> Result<Vec<u64>, AllocError>
+    ensures { IfOk result (λ all. all.items ≡ map (λ (o : Taken). o.container) due.now) }
+{
+    due.iter().map(|order| order.container).collect(alloc)
+}
+
+/// Records a run that takes these orders, and brings their containers to the desk.
+fn bring<P: Places, S: Alter>(
+    conn: &mut Connection<S>,
+    today: Day,
+    due: &[FirstOrder],
+    containers: &[u64],
+) -> Result<Result<Done, Refusal>, StoreFault>
+    requires inside { InTransaction P.version (state S.Store conn.old) }
+    requires numbers { AllByRecursion IsNumbered due.now }
+    requires theirs { containers.now ≡ map (λ (o : Taken). o.container) due.now }
+    ensures { CarriesOut P.represents P.version
+        (λ s. (today ≡ s.day) × (due.now ≡ taken_by P.version s) × (is_empty due.now ≡ false)) command.Run
+        (state S.Store conn.old) (state S.Store conn.new) result }
+{
+    let Some(run) = record_run(conn, today, due)? else {
+        return Ok(Err(Refusal::Full));
+    };
+    move_all(conn, containers, Place::Desk)?;
+    Ok(Ok(Done::Run {
+        run,
+        taken: due.len() as u64,
+    }))
+}
+
+/// Brings the containers to the desk of the orders that are known to be those that are due.
+fn bring_due<P: Places, S: Alter>(
+    alloc: Global,
+    conn: &mut Connection<S>,
+    today: Day,
+    due: &[FirstOrder],
+) -> Result<Result<Done, Refusal>, StoreFault>
+    requires inside { InTransaction P.version (state S.Store conn.old) }
+    ensures { CarriesOut P.represents P.version
+        (λ s. (today ≡ s.day) × (due.now ≡ taken_by P.version s) × (is_empty due.now ≡ false)) command.Run
+        (state S.Store conn.old) (state S.Store conn.new) result }
+{
+    if !are_kept(due) {
+        return Err(StoreFault::Schema);
+    }
+    let containers = containers_of(alloc, due)?;
+    bring::<P, S>(conn, today, due, &containers)
+}
+
+/// Makes a run: the first orders for the containers on the shelf, those that are open to their readers, the earliest
+/// first and as many as a run takes. Their containers go to the desk.
+pub fn fetch<P: Places, S: Alter>(
+    alloc: Global,
+    conn: &mut Connection<S>,
+    today: Day,
+    limits: &Limits,
+) -> Result<Result<Done, Refusal>, StoreFault>
+    requires inside { InTransaction P.version (state S.Store conn.old) }
+    ensures { CarriesOut P.represents P.version (λ s. (today ≡ s.day) × (limits.now ≡ limits_of s)) command.Run
+        (state S.Store conn.old) (state S.Store conn.new) result }
+{
+    let waiting = candidates(alloc, conn)?;
+    let due = due::<P, S>(alloc, conn, today, limits.run, &waiting)?;
+    if are_none(&due) {
+        return Ok(Err(Refusal::NothingToMove));
+    }
+    bring_due::<P, S>(alloc, conn, today, &due)
+}

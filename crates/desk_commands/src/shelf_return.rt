@@ -1,0 +1,58 @@
+//! Containers that nobody waits for go back to the shelf.
+
+ghost use Rattle.std.specs.Prelude.{◌≡◌, false, ⊤};
+ghost use Rattle.sqlite.specs.Held.{state};
+ghost use Rattle.office_core.specs.State.{idle};
+ghost use Rattle.office_core.specs.Words.{is_empty};
+ghost use Rattle.office_core.specs.declared.command.Command.TheVariants as command;
+ghost use Rattle.office_tables.specs.Step.{InTransaction};
+ghost use Rattle.refinement.specs.CommandSteps.{CarriesOut};
+
+use crate::container_moves::move_all;
+use catalogue_store::Places;
+use desk_core::{Place, pick_reshelve};
+use desk_store::at_desk;
+use isad_core::List;
+use office_core::{Done, Refusal};
+use office_tables::StoreFault;
+use sqlite::{Alter, Connection};
+use std::alloc::Global;
+
+/// Whether there is no container.
+fn are_none(containers: &[u64]) -> bool
+    ensures { result ≡ is_empty containers.now }
+{
+    containers.is_empty()
+}
+
+/// Brings the containers back to the shelf that are known to be those that nobody waits for.
+fn shelve<P: Places, S: Alter>(
+    conn: &mut Connection<S>,
+    containers: Vec<u64>,
+) -> Result<Result<Done, Refusal>, StoreFault>
+    requires inside { InTransaction P.version (state S.Store conn.old) }
+    ensures { CarriesOut P.represents P.version (λ s. (containers.items ≡ idle s) × (is_empty (idle s) ≡ false)) command.Reshelve
+        (state S.Store conn.old) (state S.Store conn.new) result }
+{
+    move_all(conn, &containers, Place::Shelf)?;
+    Ok(Ok(Done::Reshelve {
+        containers: List(containers),
+    }))
+}
+
+/// Brings the containers at the desk back to the shelf that nobody waits for.
+pub fn reshelve<P: Places, S: Alter>(
+    alloc: Global,
+    conn: &mut Connection<S>,
+) -> Result<Result<Done, Refusal>, StoreFault>
+    requires inside { InTransaction P.version (state S.Store conn.old) }
+    ensures { CarriesOut P.represents P.version (λ _. ⊤) command.Reshelve (state S.Store conn.old) (state S.Store conn.new)
+        result }
+{
+    let told = at_desk(alloc, conn)?;
+    let idle = pick_reshelve(alloc, &told)?;
+    if are_none(&idle) {
+        return Ok(Err(Refusal::NothingToMove));
+    }
+    shelve::<P, S>(conn, idle)
+}

@@ -1,0 +1,46 @@
+-- The desk's rows as they were read, and what they are held against, as the definitions of the desk's causes have them.
+use Rattle.std.specs.Prelude.{◌≡◌, ℕ, true, length, nat_eq}
+use Rattle.std.specs.List.{list_any}
+use Rattle.isad_core.specs.Words.{are_numbered_from}
+use Rattle.desk_core.specs.DeskCauses as causes
+use Rattle.desk_core.specs.DeskRows as desk
+use Rattle.desk_core.specs.declared.consistency.context.Around.{Around}
+use Rattle.desk_core.specs.declared.consistency.rows.HoldingRow.{HoldingRow}
+use Rattle.desk_core.specs.declared.consistency.rows.OrderRow.{OrderRow}
+use Rattle.desk_core.specs.declared.consistency.rows.PermitRow.{PermitRow}
+use Rattle.desk_core.specs.declared.consistency.rows.RunLineRow.{RunLineRow}
+use Rattle.desk_core.specs.declared.consistency.rows.RunRow.{RunRow}
+use Rattle.desk_core.specs.declared.consistency.rows.SeatRow.{SeatRow}
+
+-- ---- rows
+
+abbrev pub seat_row : SeatRow → desk.SeatRow
+seat_row row = record { seat = row.seat; ticket = row.ticket }
+
+abbrev pub order_row : OrderRow → desk.OrderRow
+order_row row = record { id = row.id; ticket = row.ticket; container = row.container; day = row.day; state = row.state }
+
+abbrev pub holding_row : HoldingRow → desk.HoldingRow
+holding_row row = record { container = row.container; place = row.place; held_by = row.held_by }
+
+abbrev pub run_row : RunRow → desk.RunRow
+run_row row = record { id = row.id; day = row.day }
+
+abbrev pub run_line_row : RunLineRow → desk.RunLineRow
+run_line_row row = record { run = row.run; container = row.container; order_no = row.order_no; ticket = row.ticket }
+
+abbrev pub permit_row : PermitRow → desk.PermitRow
+permit_row row = record { ticket = row.ticket; unit = row.unit; until = row.until }
+
+-- ---- what they are held against
+
+-- It says the settings, the day, the units, the containers and the number of readers, who have the tickets from 1 on.
+pub record Surrounds (s : Around) (a : causes.Around) (d : desk.Desk) : Type 0 where
+  pub seats : a.seats ≡ s.seats
+  pub daily : a.daily ≡ s.daily
+  pub run_size : a.run_size ≡ s.run_size
+  pub day : a.day ≡ s.day
+  pub units : (n : ℕ) → a.is_unit n ≡ list_any (nat_eq n) s.units
+  pub containers : (n : ℕ) → a.is_container n ≡ list_any (nat_eq n) s.containers
+  pub tickets : are_numbered_from (λ (row : desk.ReaderRow). row.ticket) 1 d.readers ≡ true
+  pub readers : length d.readers ≡ s.readers

@@ -1,9 +1,0 @@
-pub mod Tests
-pub mod Counts
-pub mod NumberedRows
-pub mod SortedKeys
-pub mod FitReaders
-pub mod FitOrders
-pub mod FitHoldings
-pub mod FitRuns
-pub mod Tallies

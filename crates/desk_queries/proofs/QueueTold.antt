@@ -1,0 +1,72 @@
+-- What is told of a container is what the rules tell of it.
+use Rattle.std.proofs.Common.{◌≡◌, ℕ, false, List, [], ◌∷◌, map, filter, Option, Some, None, refl, sym, ap, subst, ◌∙◌}
+use Rattle.std.specs.Prelude.{codes, filter_map, option_map}
+use Rattle.serde_json.specs.Data.{Data, string}
+use Rattle.serde_json.specs.Written.{has_float}
+use Rattle.std.proofs.lemmas.Simd.{map-map}
+use Rattle.isad_core.specs.declared.values.BoxKey.{BoxKey}
+use Rattle.tree_core.specs.Versions.{Version}
+use Rattle.desk_core.specs.DeskRows.{OrderRow}
+use Rattle.desk_core.specs.declared.refusal.Refusal.TheVariants.{UnknownContainer}
+use Rattle.desk_core.specs.declared.reader.Place.{Place}
+use Rattle.desk_core.specs.declared.reader.Place.TheVariants.{Shelf, Desk, Out}
+use Rattle.desk_store.specs.Orders.{queue_of}
+use Rattle.desk_store.specs.Stacks.{IsQueued, box_with}
+use Rattle.desk_store.specs.declared.orders.WaitingOrder.{WaitingOrder}
+use Rattle.desk_store.specs.declared.queues.ContainerQueue.{ContainerQueue}
+use Rattle.office_core.specs.Json.{count, fields, list, or_null}
+use Rattle.office_core.specs.Queries.{answer, known_json, place_name, queue_json, waiting_json}
+use Rattle.office_core.specs.declared.query.Query.TheVariants as query
+use Rattle.office_core.specs.SoundOffice.{IsSoundOffice}
+use Rattle.office_core.specs.State.{State, order_out}
+use Rattle.office_core.specs.Words.{numbered}
+use Rattle.state_encoding.specs.DeskShown.{order_rows}
+use Rattle.state_encoding.specs.Reading.{tables}
+use Rattle.refinement.proofs.QueuesShown.{place_shown, told_queue, waits_in}
+use Rattle.refinement.proofs.StacksShown.{box_row, stacks_of}
+use Rattle.desk_queries.specs.Told.{queue_data, waiting_data}
+use Rattle.desk_queries.proofs.Lists.{no_float}
+
+-- none of it is a number with a fraction
+pub queue_whole : (c : ℕ) (q : ContainerQueue) → has_float (queue_data c q) ≡ false
+queue_whole c q = at q.place
+  where
+    waiting : has_float (list (map waiting_data q.waiting)) ≡ false
+    waiting = no_float waiting_data (λ w. refl) q.waiting
+
+    at : (p : Place) → has_float (queue_data c (record q { place = p })) ≡ false
+    at Shelf = rw waiting refl
+    at Desk = rw waiting refl
+    at (Out o) = rw waiting refl
+
+module _ (version : Version) (s : State) (sound : IsSoundOffice s) (c : ℕ) where
+  waiting_told : map waiting_data (queue_of c (tables version s).desk) ≡ filter_map (waiting_json s) (s.queue c)
+  waiting_told =
+      map-map waiting_data (λ (o : OrderRow). (let w : WaitingOrder = record { order = o.id; ticket = o.ticket } in w)) (filter (waits_in c) (order_rows s))
+      ∙ sym (told_queue s (λ o order. waiting_data (record { order = o; ticket = order.ticket })) sound.sound.desk c)
+
+  pub queue_told : (found : Option ContainerQueue) → IsQueued c (stacks_of version s) (box_with c (stacks_of version s)) found
+      → option_map (queue_data c) found ≡ option_map (queue_json s c) (numbered s.catalogue.containers c)
+  queue_told found is = at (numbered s.catalogue.containers c) found (subst (λ (box : Option (ℕ × BoxKey)). IsQueued c (stacks_of version s) box found) (box_row version s c) is)
+    where
+      at : (box : Option BoxKey) (found : Option ContainerQueue) → IsQueued c (stacks_of version s) (option_map (λ (b : BoxKey). (let x : ℕ × BoxKey = (c, b) in x)) box) found
+          → option_map (queue_data c) found ≡ option_map (queue_json s c) box
+      at None found is = ap (option_map (queue_data c)) is
+      at (Some box) None is = absurd is
+      at (Some box) (Some q) is =
+          ap (λ n. Some (queue_data c (record q { name = n }))) is.name
+          ∙ ap (λ (p : Place). Some (queue_data c (record { name = box.name; place = p; waiting = q.waiting }))) (place_shown s sound.sound.desk c q.place is.place)
+          ∙ ap (λ (w : List WaitingOrder). Some (queue_data c (record { name = box.name; place = s.place c; waiting = w }))) is.waiting
+          ∙ ap
+          (λ (l : List Data). Some (fields
+          ((codes "container", count c)
+          ∷ (codes "name", string box.name)
+          ∷ (codes "out", or_null (option_map count (order_out (s.place c))))
+          ∷ (codes "place", string (place_name (s.place c)))
+          ∷ (codes "waiting", list l)
+          ∷ [])))
+          waiting_told
+
+  pub queue_answer : (found : Option ContainerQueue) → IsQueued c (stacks_of version s) (box_with c (stacks_of version s)) found
+      → known_json UnknownContainer (option_map (queue_data c) found) ≡ answer s (query.Queue c)
+  queue_answer found is = ap (known_json UnknownContainer) (queue_told found is)

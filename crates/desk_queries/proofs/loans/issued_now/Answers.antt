@@ -1,0 +1,45 @@
+use Rattle.std.proofs.Common.{List, map, refl, ap, ◌∙◌}
+use Rattle.sqlite.specs.Held.{state}
+use Rattle.desk_store.specs.declared.holdings.Loan.{Loan}
+use Rattle.office_core.specs.Json.{list}
+use Rattle.office_core.specs.declared.query.Answer.TheVariants.{Json}
+use Rattle.office_core.specs.declared.query.Query.TheVariants as query
+use Rattle.state_encoding.specs.Reading.{tables}
+use Rattle.state_encoding.proofs.LegibleRows.{desk_legible}
+use Rattle.office_tables.proofs.CallEnds.{same_fault}
+use Rattle.office_tables.proofs.Calls.{office_of}
+use Rattle.serde_json.specs.Written.{compact_text}
+use Rattle.refinement.proofs.Answerings.{answers_by, answers_not}
+use Rattle.desk_queries.specs.Told.{loan_data}
+use Rattle.desk_queries.proofs.IssuedTold.{issued_told}
+use Rattle.desk_queries.proofs.Lists.{no_float}
+use Rattle.desk_queries.proofs.loans.issued_now.Goals as goal
+
+pub issued-requires : goal.issued-requires
+issued-requires g c = record { inside = office_of g.P.Places.version (state g.S.Store c.args.conn.now) c.requires.inside }
+
+pub returns-in_err-loans : goal.returns-in_err-loans
+returns-in_err-loans g c =
+    let v = g.P.Places.version in
+    let a = state g.S.Store c.args.conn.now in
+    let b = state g.S.Store c.issued.new.conn in
+    let told = c.in_err-loans.ensures.tells in
+    let e = c.from_residual.ensures in
+    answers_not g.P.Places.represents v query.IssuedNow a b c.from_residual.result c.in_err-loans.field-0.0
+    (same_fault c.from_residual.result c.in_err-loans.field-0.0 e.0 e.1) told.cut
+    (λ s sound it clean free. told.faults tt (tables v s).desk it.desk tt (desk_legible v s sound) clean free)
+
+pub list_text-requires : goal.list_text-requires
+list_text-requires g c = record { whole = no_float loan_data (λ loan. refl) c.deref.result.now }
+
+pub returns : goal.returns
+returns g c =
+    let v = g.P.Places.version in
+    let a = state g.S.Store c.args.conn.now in
+    let b = state g.S.Store c.issued.new.conn in
+    let told = c.in_ok-loans.ensures.tells in
+    answers_by g.P.Places.represents v query.IssuedNow a b (Json c.in_ok-text.text) told.looks
+    (λ clean s sound it.
+    ap Json c.in_ok-text.ensures
+    ∙ ap (λ (l : List Loan). Json (compact_text (list (map loan_data l)))) (c.deref.ensures.value ∙ told.answers clean tt (tables v s).desk it.desk)
+    ∙ ap (λ l. Json (compact_text (list l))) (issued_told s v))

@@ -1,0 +1,80 @@
+use Rattle.std.proofs.Common.{List, map, refl, sym, ap, ◌∙◌}
+use Rattle.sqlite.specs.Held.{state}
+use Rattle.desk_core.specs.declared.refusal.Refusal.TheVariants.{UnknownTicket}
+use Rattle.desk_store.specs.declared.reader_permits.Permit.{Permit}
+use Rattle.office_core.specs.Json.{list}
+use Rattle.office_core.specs.declared.query.Answer.TheVariants.{Json, Unknown}
+use Rattle.office_core.specs.declared.query.Query.TheVariants as query
+use Rattle.state_encoding.specs.Reading.{tables}
+use Rattle.state_encoding.proofs.LegibleRows.{desk_legible}
+use Rattle.office_tables.proofs.CallEnds.{same_fault}
+use Rattle.office_tables.proofs.Calls.{early, looks_then, office_of, still_office}
+use Rattle.serde_json.specs.Written.{compact_text}
+use Rattle.refinement.proofs.Answerings.{answers_by, answers_not, still_shown, stops_later}
+use Rattle.desk_queries.specs.Told.{permit_data}
+use Rattle.desk_queries.proofs.Lists.{no_float}
+use Rattle.desk_queries.proofs.PermitsTold.{has_ticket, known_ticket, no_ticket, permits_told}
+use Rattle.desk_queries.proofs.permits.reader_permits.Goals as goal
+
+pub is_registered-requires : goal.is_registered-requires
+is_registered-requires g c = record { inside = office_of g.P.Places.version (state g.S.Store c.args.conn.now) c.requires.inside }
+
+pub returns-in_err-known : goal.returns-in_err-known
+returns-in_err-known g c =
+    let v = g.P.Places.version in
+    let a = state g.S.Store c.args.conn.now in
+    let b = state g.S.Store c.is_registered.new.conn in
+    let told = c.in_err-known.ensures.tells in
+    let e = c.from_residual.ensures in
+    answers_not g.P.Places.represents v (query.ReaderPermits c.args.ticket) a b c.from_residual.result c.in_err-known.field-0.0
+    (same_fault c.from_residual.result c.in_err-known.field-0.0 e.0 e.1) told.cut
+    (λ s sound it clean free. told.faults tt (tables v s).desk it.desk tt (desk_legible v s sound) clean free)
+
+pub returns-then-not-known : goal.returns-then-not-known
+returns-then-not-known g c =
+    let v = g.P.Places.version in
+    let a = state g.S.Store c.args.conn.now in
+    let b = state g.S.Store c.is_registered.new.conn in
+    let told = c.in_ok-known.ensures.tells in
+    answers_by g.P.Places.represents v (query.ReaderPermits c.args.ticket) a b (Unknown UnknownTicket) told.looks
+    (λ clean s sound it.
+    no_ticket v s sound c.args.ticket (sym (known_ticket v s sound c.args.ticket) ∙ sym (told.answers clean tt (tables v s).desk it.desk) ∙ c.if-not-known.true))
+
+pub permits-requires : goal.permits-requires
+permits-requires g c =
+    let a = state g.S.Store c.args.conn.now in
+    let b = state g.S.Store c.is_registered.new.conn in
+    record { inside = still_office a b (office_of g.P.Places.version a c.requires.inside) c.in_ok-known.ensures.tells.looks.goes }
+
+pub returns-in_err-granted : goal.returns-in_err-granted
+returns-in_err-granted g c =
+    let v = g.P.Places.version in
+    let a = state g.S.Store c.args.conn.now in
+    let b = state g.S.Store c.is_registered.new.conn in
+    let z = state g.S.Store c.permits.new.conn in
+    let told = c.in_err-granted.ensures.tells in
+    let e = c.from_residual-in_err-granted.ensures in
+    stops_later g.P.Places.represents v (query.ReaderPermits c.args.ticket) a b z c.from_residual-in_err-granted.result c.in_err-granted.field-0.0
+    (same_fault c.from_residual-in_err-granted.result c.in_err-granted.field-0.0 e.0 e.1) c.in_ok-known.ensures.tells.looks told.cut
+    (λ s sound it clean free. told.faults tt (tables v s).desk it.desk tt (desk_legible v s sound) clean free)
+
+pub list_text-requires : goal.list_text-requires
+list_text-requires g c = record { whole = no_float permit_data (λ permit. refl) c.deref.result.now }
+
+pub returns : goal.returns
+returns g c =
+    let v = g.P.Places.version in
+    let a = state g.S.Store c.args.conn.now in
+    let b = state g.S.Store c.is_registered.new.conn in
+    let z = state g.S.Store c.permits.new.conn in
+    let first = c.in_ok-known.ensures.tells in
+    let told = c.in_ok-granted.ensures.tells in
+    let t = c.args.ticket in
+    answers_by g.P.Places.represents v (query.ReaderPermits t) a z (Json c.in_ok-text.text) (looks_then a b z first.looks told.looks)
+    (λ clean s sound it.
+    let at_b = early b z _ told.looks.goes.on.crash clean in
+    let at = still_shown g.P.Places.represents v a b first.looks at_b s it in
+    ap Json c.in_ok-text.ensures
+    ∙ ap (λ (l : List Permit). Json (compact_text (list (map permit_data l)))) c.deref.ensures.value
+    ∙ ap (λ l. Json (compact_text (list l))) (permits_told v s sound t c.in_ok-granted.granted.items (told.answers clean tt (tables v s).desk at.desk))
+    ∙ has_ticket v s sound t (sym (known_ticket v s sound t) ∙ sym (first.answers at_b tt (tables v s).desk it.desk) ∙ c.if-not-known.false))

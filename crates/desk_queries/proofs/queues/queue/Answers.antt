@@ -1,0 +1,52 @@
+use Rattle.std.proofs.Common.{Option, sym, ap, ◌∙◌}
+use Rattle.std.specs.Prelude.{option_map}
+use Rattle.sqlite.specs.Held.{state}
+use Rattle.desk_core.specs.declared.refusal.Refusal.TheVariants.{UnknownContainer}
+use Rattle.desk_store.specs.declared.queues.ContainerQueue.{ContainerQueue}
+use Rattle.office_core.specs.Queries.{known_json}
+use Rattle.office_core.specs.declared.query.Answer.TheVariants.{Json, Unknown}
+use Rattle.office_core.specs.declared.query.Query.TheVariants as query
+use Rattle.office_tables.proofs.CallEnds.{same_fault}
+use Rattle.office_tables.proofs.Calls.{office_of}
+use Rattle.refinement.proofs.Answerings.{answers_by, answers_not}
+use Rattle.refinement.proofs.StacksShown.{legible_stacks, shows_stacks, stacks_of}
+use Rattle.desk_queries.specs.Told.{queue_data}
+use Rattle.desk_queries.proofs.QueueTold.{queue_answer}
+use Rattle.desk_queries.proofs.queues.queue.Goals as goal
+
+pub queue-requires : goal.queue-requires
+queue-requires g c = record { inside = office_of g.P.Places.version (state g.S.Store c.args.conn.now) c.requires.inside }
+
+pub returns-in_err-found : goal.returns-in_err-found
+returns-in_err-found g c =
+    let v = g.P.Places.version in
+    let a = state g.S.Store c.args.conn.now in
+    let b = state g.S.Store c.queue.new.conn in
+    let told = c.in_err-found.ensures.tells in
+    let e = c.from_residual.ensures in
+    answers_not g.P.Places.represents v (query.Queue c.args.container) a b c.from_residual.result c.in_err-found.field-0.0
+    (same_fault c.from_residual.result c.in_err-found.field-0.0 e.0 e.1) told.cut
+    (λ s sound it clean free. told.faults tt (stacks_of v s) (shows_stacks v s g.P.Places.represents a.now sound it) tt (legible_stacks v s sound) clean free)
+
+pub returns-in_default : goal.returns-in_default
+returns-in_default g c =
+    let v = g.P.Places.version in
+    let a = state g.S.Store c.args.conn.now in
+    let b = state g.S.Store c.queue.new.conn in
+    let told = c.in_ok-found.ensures.tells in
+    answers_by g.P.Places.represents v (query.Queue c.args.container) a b (Unknown UnknownContainer) told.looks
+    (λ clean s sound it.
+    ap (λ (q : Option ContainerQueue). known_json UnknownContainer (option_map (queue_data c.args.container) q)) (sym c.in_default.is)
+    ∙ queue_answer v s sound c.args.container c.in_ok-found.field-0 (told.answers clean tt (stacks_of v s) (shows_stacks v s g.P.Places.represents a.now sound it)))
+
+pub returns : goal.returns
+returns g c =
+    let v = g.P.Places.version in
+    let a = state g.S.Store c.args.conn.now in
+    let b = state g.S.Store c.queue.new.conn in
+    let told = c.in_ok-found.ensures.tells in
+    answers_by g.P.Places.represents v (query.Queue c.args.container) a b (Json c.in_ok-text.text) told.looks
+    (λ clean s sound it.
+    ap Json c.in_ok-text.ensures
+    ∙ ap (λ (q : Option ContainerQueue). known_json UnknownContainer (option_map (queue_data c.args.container) q)) (sym c.in-Some.is)
+    ∙ queue_answer v s sound c.args.container c.in_ok-found.field-0 (told.answers clean tt (stacks_of v s) (shows_stacks v s g.P.Places.represents a.now sound it)))

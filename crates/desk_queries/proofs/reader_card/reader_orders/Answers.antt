@@ -1,0 +1,53 @@
+use Rattle.std.proofs.Common.{Option, sym, ap, ◌∙◌}
+use Rattle.std.specs.Prelude.{option_map}
+use Rattle.sqlite.specs.Held.{state}
+use Rattle.desk_core.specs.declared.refusal.Refusal.TheVariants.{UnknownTicket}
+use Rattle.desk_store.specs.declared.reader_summary.ReaderCard.{ReaderCard}
+use Rattle.office_core.specs.Queries.{known_json}
+use Rattle.office_core.specs.declared.query.Answer.TheVariants.{Json, Unknown}
+use Rattle.office_core.specs.declared.query.Query.TheVariants as query
+use Rattle.state_encoding.specs.Reading.{tables}
+use Rattle.state_encoding.proofs.LegibleRows.{desk_legible}
+use Rattle.office_tables.proofs.CallEnds.{same_fault}
+use Rattle.office_tables.proofs.Calls.{office_of}
+use Rattle.refinement.proofs.Answerings.{answers_by, answers_not}
+use Rattle.desk_queries.specs.Told.{card_data}
+use Rattle.desk_queries.proofs.CardTold.{card_answer}
+use Rattle.desk_queries.proofs.reader_card.reader_orders.Goals as goal
+
+pub reader-requires : goal.reader-requires
+reader-requires g c = record { inside = office_of g.P.Places.version (state g.S.Store c.args.conn.now) c.requires.inside }
+
+pub returns-in_err-card : goal.returns-in_err-card
+returns-in_err-card g c =
+    let v = g.P.Places.version in
+    let a = state g.S.Store c.args.conn.now in
+    let b = state g.S.Store c.reader.new.conn in
+    let told = c.in_err-card.ensures.tells in
+    let e = c.from_residual.ensures in
+    answers_not g.P.Places.represents v (query.ReaderOrders c.args.ticket) a b c.from_residual.result c.in_err-card.field-0.0
+    (same_fault c.from_residual.result c.in_err-card.field-0.0 e.0 e.1) told.cut
+    (λ s sound it clean free. told.faults tt (tables v s).desk it.desk tt (desk_legible v s sound) clean free)
+
+pub returns-in_default : goal.returns-in_default
+returns-in_default g c =
+    let v = g.P.Places.version in
+    let a = state g.S.Store c.args.conn.now in
+    let b = state g.S.Store c.reader.new.conn in
+    let told = c.in_ok-card.ensures.tells in
+    answers_by g.P.Places.represents v (query.ReaderOrders c.args.ticket) a b (Unknown UnknownTicket) told.looks
+    (λ clean s sound it.
+    ap (λ (card : Option ReaderCard). known_json UnknownTicket (option_map card_data card)) (sym c.in_default.is)
+    ∙ card_answer v s sound c.args.ticket c.args.today c.in_ok-card.field-0 (told.answers clean tt (tables v s).desk it.desk))
+
+pub returns : goal.returns
+returns g c =
+    let v = g.P.Places.version in
+    let a = state g.S.Store c.args.conn.now in
+    let b = state g.S.Store c.reader.new.conn in
+    let told = c.in_ok-card.ensures.tells in
+    answers_by g.P.Places.represents v (query.ReaderOrders c.args.ticket) a b (Json c.in_ok-text.text) told.looks
+    (λ clean s sound it.
+    ap Json c.in_ok-text.ensures
+    ∙ ap (λ (card : Option ReaderCard). known_json UnknownTicket (option_map card_data card)) (sym c.in-Some.is)
+    ∙ card_answer v s sound c.args.ticket c.args.today c.in_ok-card.field-0 (told.answers clean tt (tables v s).desk it.desk))

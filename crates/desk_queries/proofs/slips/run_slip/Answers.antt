@@ -1,0 +1,49 @@
+use Rattle.std.proofs.Common.{sym, ap, ◌∙◌}
+use Rattle.sqlite.specs.Held.{state}
+use Rattle.desk_core.specs.Slips.{slip}
+use Rattle.desk_core.specs.declared.refusal.Refusal.TheVariants.{UnknownRun}
+use Rattle.office_core.specs.declared.query.Answer.TheVariants.{Text, Unknown}
+use Rattle.office_core.specs.declared.query.Query.TheVariants as query
+use Rattle.office_tables.proofs.CallEnds.{same_fault}
+use Rattle.office_tables.proofs.Calls.{office_of}
+use Rattle.refinement.proofs.Answerings.{answers_by, answers_not}
+use Rattle.refinement.proofs.StacksShown.{legible_stacks, shows_stacks, stacks_of}
+use Rattle.desk_queries.proofs.RunTold.{lines_known, run_told, told_slip}
+use Rattle.desk_queries.proofs.slips.run_slip.Goals as goal
+
+pub run-requires : goal.run-requires
+run-requires g c = record { inside = office_of g.P.Places.version (state g.S.Store c.args.conn.now) c.requires.inside }
+
+pub returns-in_err-brought : goal.returns-in_err-brought
+returns-in_err-brought g c =
+    let v = g.P.Places.version in
+    let a = state g.S.Store c.args.conn.now in
+    let b = state g.S.Store c.run.new.conn in
+    let told = c.in_err-brought.ensures.tells in
+    let e = c.from_residual.ensures in
+    answers_not g.P.Places.represents v (query.RunSlip c.args.run) a b c.from_residual.result c.in_err-brought.field-0.0
+    (same_fault c.from_residual.result c.in_err-brought.field-0.0 e.0 e.1) told.cut
+    (λ s sound it clean free. told.faults tt (stacks_of v s) (shows_stacks v s g.P.Places.represents a.now sound it) (lines_known v s sound c.args.run) (legible_stacks v s sound) clean free)
+
+pub returns-in_default : goal.returns-in_default
+returns-in_default g c =
+    let v = g.P.Places.version in
+    let a = state g.S.Store c.args.conn.now in
+    let b = state g.S.Store c.run.new.conn in
+    let told = c.in_ok-brought.ensures.tells in
+    answers_by g.P.Places.represents v (query.RunSlip c.args.run) a b (Unknown UnknownRun) told.looks
+    (λ clean s sound it.
+    ap (told_slip c.args.run) (sym c.in_default.is)
+    ∙ run_told v s sound c.args.run c.in_ok-brought.field-0 (told.answers clean tt (stacks_of v s) (shows_stacks v s g.P.Places.represents a.now sound it)))
+
+pub returns : goal.returns
+returns g c =
+    let v = g.P.Places.version in
+    let a = state g.S.Store c.args.conn.now in
+    let b = state g.S.Store c.run.new.conn in
+    let told = c.in_ok-brought.ensures.tells in
+    answers_by g.P.Places.represents v (query.RunSlip c.args.run) a b (Text c.in_ok-text.text.items) told.looks
+    (λ clean s sound it.
+    ap Text (c.in_ok-text.ensures ∙ ap (slip c.args.run c.in-Some.brought.day) c.as_slice.ensures)
+    ∙ ap (told_slip c.args.run) (sym c.in-Some.is)
+    ∙ run_told v s sound c.args.run c.in_ok-brought.field-0 (told.answers clean tt (stacks_of v s) (shows_stacks v s g.P.Places.represents a.now sound it)))

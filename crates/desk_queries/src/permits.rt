@@ -1,0 +1,45 @@
+//! The permits of a ticket.
+
+ghost use Rattle.sqlite.specs.Held.{state};
+ghost use Rattle.office_core.specs.declared.query.Query.TheVariants as query;
+ghost use Rattle.office_tables.specs.Step.{InTransaction};
+ghost use Rattle.refinement.specs.QueryAnswers.{AnswersQuery};
+
+use crate::json_values::{Told, day_value, list_text};
+use catalogue_store::Places;
+use desk_store::{Permit, is_registered, permits};
+use office_core::{Answer, Refusal};
+use office_tables::StoreFault;
+use serde_json::{Value, json};
+use sqlite::{Alter, Connection};
+use std::alloc::{AllocError, Global};
+
+impl Told for Permit {
+    ghost use Rattle.desk_queries.specs.Told.{permit_data};
+
+    ghost told = { permit_data };
+
+    fn value(&self, alloc: Global) -> Result<Value, AllocError> {
+        let until = day_value(alloc, self.until)?;
+        json!(in alloc; {"unit": self.unit, "until": until})
+    }
+}
+
+/// The permits of a ticket, by their units.
+pub fn reader_permits<P: Places, S: Alter>(
+    alloc: Global,
+    conn: &mut Connection<S>,
+    ticket: u64,
+) -> Result<Answer, StoreFault>
+    requires inside { InTransaction P.version (state S.Store conn.old) }
+    ensures { AnswersQuery P.represents P.version (query.ReaderPermits ticket) (state S.Store conn.old)
+        (state S.Store conn.new) result }
+{
+    let known = is_registered(alloc, conn, ticket)?;
+    if !known {
+        return Ok(Answer::Unknown(Refusal::UnknownTicket));
+    }
+    let granted = permits(alloc, conn, ticket)?;
+    let text = list_text(alloc, &granted)?;
+    Ok(Answer::Json(text))
+}

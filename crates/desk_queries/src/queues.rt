@@ -1,0 +1,97 @@
+//! Where a container is, and who waits for it.
+
+ghost use Rattle.std.specs.Prelude.{◌≡◌, option_map, IfOk};
+ghost use Rattle.serde_json.specs.View.{view};
+ghost use Rattle.serde_json.specs.Written.{compact_text};
+ghost use Rattle.sqlite.specs.Held.{state};
+ghost use Rattle.office_core.specs.Json.{count, or_null};
+ghost use Rattle.office_core.specs.Queries.{place_name};
+ghost use Rattle.office_core.specs.State.{order_out};
+ghost use Rattle.office_core.specs.declared.query.Query.TheVariants as query;
+ghost use Rattle.office_tables.specs.Step.{InTransaction};
+ghost use Rattle.refinement.specs.QueryAnswers.{AnswersQuery};
+ghost use Rattle.desk_queries.specs.Told.{queue_data};
+
+use crate::json_values::{Told, text_of, values_of};
+use catalogue_store::Places;
+use desk_core::Place;
+use desk_store::{ContainerQueue, WaitingOrder};
+use isad_core::List;
+use office_core::{Answer, Refusal};
+use office_tables::StoreFault;
+use serde_json::{Value, json};
+use sqlite::{Alter, Connection};
+use std::alloc::{AllocError, Global};
+
+impl Told for WaitingOrder {
+    ghost use Rattle.desk_queries.specs.Told.{waiting_data};
+
+    ghost told = { waiting_data };
+
+    fn value(&self, alloc: Global) -> Result<Value, AllocError> {
+        json!(in alloc; {"order": self.order, "ticket": self.ticket})
+    }
+}
+
+/// The order that a container is out with, where it is out.
+fn out_value(place: Place) -> Value
+    ensures { view result ≡ or_null (option_map count (order_out place)) }
+{
+    match place {
+        Place::Out(order) => Value::from(order),
+        _ => Value::Null,
+    }
+}
+
+/// The name of a place.
+fn name_of(place: Place) -> &'static str
+    ensures { result.now ≡ place_name place }
+{
+    match place {
+        Place::Shelf => "shelf",
+        Place::Desk => "desk",
+        Place::Out(_) => "out",
+    }
+}
+
+/// What is told of a container.
+fn queue_value(alloc: Global, container: u64, queue: &ContainerQueue) -> Result<Value, AllocError>
+    ensures { IfOk result (λ v. view v ≡ queue_data container queue.now) }
+{
+    let waiting = values_of(alloc, queue.waiting.as_slice())?;
+    let out = out_value(queue.place);
+    let place = name_of(queue.place);
+    let name = queue.name.as_str();
+    json!(in alloc; {
+        "container": container,
+        "name": name,
+        "out": out,
+        "place": place,
+        "waiting": waiting
+    })
+}
+
+/// The same as bytes.
+fn queue_text(alloc: Global, container: u64, queue: &ContainerQueue) -> Result<List<u8>, AllocError>
+    ensures { IfOk result (λ text. text ≡ compact_text (queue_data container queue.now)) }
+{
+    let value = queue_value(alloc, container, queue)?;
+    text_of(alloc, &value)
+}
+
+/// Where a container is, and who waits for it.
+pub fn queue<P: Places, S: Alter>(
+    alloc: Global,
+    conn: &mut Connection<S>,
+    container: u64,
+) -> Result<Answer, StoreFault>
+    requires inside { InTransaction P.version (state S.Store conn.old) }
+    ensures { AnswersQuery P.represents P.version (query.Queue container) (state S.Store conn.old)
+        (state S.Store conn.new) result }
+{
+    let Some(found) = desk_store::queue(alloc, conn, container)? else {
+        return Ok(Answer::Unknown(Refusal::UnknownContainer));
+    };
+    let text = queue_text(alloc, container, &found)?;
+    Ok(Answer::Json(text))
+}

@@ -1,0 +1,165 @@
+//! What is told of a command, as JSON.
+
+ghost use Rattle.std.specs.Prelude.{◌≡◌, [], ◌∷◌, codes, map, IfOk};
+ghost use Rattle.serde_json.specs.View.{view};
+ghost use Rattle.office_core.specs.Json.{count, date, done_json, fields, list, refusal_json, reply_json, reply_text};
+ghost use Rattle.office_core.specs.declared.done.Done.TheVariants as done;
+
+use crate::json_values::{Told, day_value, text_of, values_of};
+use isad_core::{Day, List};
+use office_core::{Done, Refusal, Remark};
+use serde_json::{Value, json};
+use std::alloc::{AllocError, Global};
+
+impl Told for u64 {
+    ghost use Rattle.office_core.specs.Json.{count};
+
+    ghost told = { count };
+
+    fn value(&self, _alloc: Global) -> Result<Value, AllocError> {
+        Ok(Value::from(*self))
+    }
+}
+
+impl Told for Remark {
+    ghost use Rattle.office_core.specs.Json.{remark_json};
+
+    ghost told = { remark_json };
+
+    fn value(&self, alloc: Global) -> Result<Value, AllocError> {
+        match self {
+            Remark::LevelTooHigh { row } => json!(in alloc; {"kind": 1_u32, "row": *row}),
+            Remark::LacksEssential { row } => json!(in alloc; {"kind": 2_u32, "row": *row}),
+        }
+    }
+}
+
+/// A number under a key.
+fn numbered(alloc: Global, key: &str, number: u64) -> Result<Value, AllocError>
+    ensures { IfOk result (λ v. view v ≡ fields ((key.now, count number) ∷ [])) }
+{
+    json!(in alloc; {key: number})
+}
+
+/// A list of numbers under a key.
+fn listed(alloc: Global, key: &str, numbers: &[u64]) -> Result<Value, AllocError>
+    ensures { IfOk result (λ v. view v ≡ fields ((key.now, list (map count numbers.now)) ∷ [])) }
+{
+    let values = values_of(alloc, numbers)?;
+    json!(in alloc; {key: values})
+}
+
+/// A day under its key.
+fn opened(alloc: Global, day: Day) -> Result<Value, AllocError>
+    ensures { IfOk result (λ v. view v ≡ fields ((codes "day", date day) ∷ [])) }
+{
+    let day = day_value(alloc, day)?;
+    json!(in alloc; {"day": day})
+}
+
+/// What is told of a file that was taken in.
+fn imported(
+    alloc: Global,
+    changed: u64,
+    new: u64,
+    remarks: &[Remark],
+    same: u64,
+    translations: u64,
+) -> Result<Value, AllocError>
+    ensures { IfOk result (λ v. view v ≡ done_json (done.Import changed new remarks.now same translations)) }
+{
+    let remarks = values_of(alloc, remarks)?;
+    json!(in alloc; {
+        "changed": changed,
+        "new": new,
+        "remarks": remarks,
+        "same": same,
+        "translations": translations
+    })
+}
+
+/// What is told of a permit.
+fn permitted(alloc: Global, ticket: u64, unit: u64, until: Day) -> Result<Value, AllocError>
+    ensures { IfOk result (λ v. view v ≡ done_json (done.Permit ticket unit until)) }
+{
+    let until = day_value(alloc, until)?;
+    json!(in alloc; {"ticket": ticket, "unit": unit, "until": until})
+}
+
+/// What is told of a command that was done.
+fn done_value(alloc: Global, done: &Done) -> Result<Value, AllocError>
+    ensures { IfOk result (λ v. view v ≡ done_json done.now) }
+{
+    match done {
+        Done::OpenDay { day } => opened(alloc, *day),
+        Done::Import {
+            changed,
+            new,
+            remarks,
+            same,
+            translations,
+        } => imported(
+            alloc,
+            *changed,
+            *new,
+            remarks.as_slice(),
+            *same,
+            *translations,
+        ),
+        Done::SetStatus { units } => numbered(alloc, "units", *units),
+        Done::SetClosure { unit } => numbered(alloc, "unit", *unit),
+        Done::Move { unit } => numbered(alloc, "unit", *unit),
+        Done::Remove { units } => numbered(alloc, "units", *units),
+        Done::Register { ticket } => numbered(alloc, "ticket", *ticket),
+        Done::Renew { ticket } => numbered(alloc, "ticket", *ticket),
+        Done::TakeSeat { seat } => numbered(alloc, "seat", u64::from(*seat)),
+        Done::LeaveSeat { seat } => numbered(alloc, "seat", u64::from(*seat)),
+        Done::Order { order } => numbered(alloc, "order", *order),
+        Done::Cancel { order } => numbered(alloc, "order", *order),
+        Done::Run { run, taken } => json!(in alloc; {"run": *run, "taken": *taken}),
+        Done::Reshelve { containers } => listed(alloc, "containers", containers.as_slice()),
+        Done::Issue { order } => numbered(alloc, "order", *order),
+        Done::Return { order } => numbered(alloc, "order", *order),
+        Done::Permit {
+            ticket,
+            unit,
+            until,
+        } => permitted(alloc, *ticket, *unit, *until),
+        Done::Revoke { unit } => numbered(alloc, "unit", *unit),
+    }
+}
+
+/// What is told of a command that was refused.
+fn refusal_value(alloc: Global, why: Refusal) -> Result<Value, AllocError>
+    ensures { IfOk result (λ v. view v ≡ refusal_json why) }
+{
+    let code = why.code();
+    let name = why.name();
+    match why {
+        Refusal::WithReader { container } => {
+            json!(in alloc; {"code": code, "container": container, "refused": name})
+        }
+        Refusal::BadFile { row, cause } => {
+            json!(in alloc; {"cause": cause, "code": code, "refused": name, "row": row})
+        }
+        _ => json!(in alloc; {"code": code, "refused": name}),
+    }
+}
+
+/// What is told of a command, done or refused.
+fn reply_value(alloc: Global, reply: &Result<Done, Refusal>) -> Result<Value, AllocError>
+    ensures { IfOk result (λ v. view v ≡ reply_json reply.now) }
+{
+    match reply {
+        Ok(done) => done_value(alloc, done),
+        Err(why) => refusal_value(alloc, *why),
+    }
+}
+
+/// The bytes that tell of a command, done or refused. There is no fault but want of memory.
+pub fn json_of(alloc: Global, reply: &Result<Done, Refusal>) -> Result<List<u8>, AllocError>
+    ensures { IfOk result (λ text. text ≡ reply_text reply.now) }
+{
+    let value = reply_value(alloc, reply)?;
+    text_of(alloc, &value)
+}

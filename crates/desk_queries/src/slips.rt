@@ -1,0 +1,31 @@
+//! The slip of a run.
+
+ghost use Rattle.sqlite.specs.Held.{state};
+ghost use Rattle.office_core.specs.declared.query.Query.TheVariants as query;
+ghost use Rattle.office_tables.specs.Step.{InTransaction};
+ghost use Rattle.refinement.specs.QueryAnswers.{AnswersQuery};
+
+use catalogue_store::Places;
+use desk_core::slip_text;
+use isad_core::List;
+use office_core::{Answer, Refusal};
+use office_tables::StoreFault;
+use sqlite::{Alter, Connection};
+use std::alloc::Global;
+
+/// The slip of a run: what it brought, in the order in which the containers stand on the shelves.
+pub fn run_slip<P: Places, S: Alter>(
+    alloc: Global,
+    conn: &mut Connection<S>,
+    run: u64,
+) -> Result<Answer, StoreFault>
+    requires inside { InTransaction P.version (state S.Store conn.old) }
+    ensures { AnswersQuery P.represents P.version (query.RunSlip run) (state S.Store conn.old)
+        (state S.Store conn.new) result }
+{
+    let Some(brought) = desk_store::run(alloc, conn, run)? else {
+        return Ok(Answer::Unknown(Refusal::UnknownRun));
+    };
+    let text = slip_text(alloc, run, brought.day, brought.lines.as_slice())?;
+    Ok(Answer::Text(List(text)))
+}

@@ -1,0 +1,62 @@
+use Rattle.std.proofs.Common.{subst, ◌∙◌}
+use Rattle.std.specs.Prelude.{⊤}
+use Rattle.sqlite.specs.Effect.{Database}
+use Rattle.sqlite.specs.Held.{state}
+use Rattle.office_tables.specs.declared.fault.StoreFault.TheVariants.{Memory}
+use Rattle.office_tables.proofs.Calls.{early, looks_then}
+use Rattle.office_tables.proofs.CallEnds.{same_fault}
+use Rattle.desk_store.specs.Represents.{RepresentsDesk, RepresentsDeskAlone, IsLegible}
+use Rattle.desk_store.proofs.ReshelvingCalls.{told_more, told_whole, number_at}
+use Rattle.desk_store.proofs.desk_containers.at_desk.Goals as goal
+use Rattle.desk_store.proofs.ToldCalls.{ends_full, ends_not, ends_well, shown_on}
+
+pub returns-in_err-awaited : goal.returns-in_err-awaited
+returns-in_err-awaited g c =
+    let b = state g.S.Store c.loop-container.conn in
+    let z = state g.S.Store c.is_awaited.new.conn in
+    let e = c.from_residual-in_err-awaited.ensures in
+    record {
+      tells = ends_not RepresentsDeskAlone IsLegible (λ _. ⊤) g.S.Store c.args.conn.now c.loop-container.conn c.is_awaited.new.conn _ c.loop-container.invariant.looks
+          c.in_err-awaited.field-0.0 c.in_err-awaited.ensures.tells.cut (λ d shown may kept clean.
+          let before = early b z _ c.in_err-awaited.ensures.tells.cut.crash clean in
+          let are = c.loop-container.invariant.containers before d (subst (λ (db : Database). RepresentsDesk db.trees d) (c.loop-container.invariant.looks.same before) shown) in
+          c.in_err-awaited.ensures.tells.faults tt d shown (number_at d c.deref-container-items.result.now c.loop-container.container-index are kept.holdings c.loop-container-test.true) kept clean)
+          c.from_residual-in_err-awaited.result (same_fault c.from_residual-in_err-awaited.result c.in_err-awaited.field-0.0 e.0 e.1);
+    }
+
+pub returns-in_err-push : goal.returns-in_err-push
+returns-in_err-push g c =
+    let a = state g.S.Store c.args.conn.now in
+    let b = state g.S.Store c.loop-container.conn in
+    let z = state g.S.Store c.is_awaited.new.conn in
+    let e = c.from_residual-in_err-push.ensures in
+    record {
+      tells = ends_full RepresentsDeskAlone IsLegible (λ _. ⊤) g.S.Store c.args.conn.now c.args.conn.now c.is_awaited.new.conn _ (looks_then a b z c.loop-container.invariant.looks c.in_ok-awaited.ensures.tells.looks)
+          c.from_residual-in_err-push.result (same_fault c.from_residual-in_err-push.result Memory e.0 e.1);
+    }
+
+pub loop-container-preserved : goal.loop-container-preserved
+loop-container-preserved g c =
+    let a = state g.S.Store c.args.conn.now in
+    let b = state g.S.Store c.loop-container.conn in
+    let z = state g.S.Store c.is_awaited.new.conn in
+    let last = c.in_ok-awaited.ensures.tells.looks in
+    let looked = c.loop-container.invariant.looks in
+    record {
+      looks = looks_then a b z looked last;
+      containers = λ clean desk shown. c.loop-container.invariant.containers (early b z _ last.goes.on.crash clean) desk shown;
+      so_far = λ clean desk shown.
+          let before = early b z _ last.goes.on.crash clean in
+          let told = c.in_ok-awaited.ensures.tells.answers clean tt desk (shown_on RepresentsDeskAlone a b looked before desk shown) in
+          c.in_ok-push.ensures.items
+          ∙ told_more desk.orders c.deref-container-items.result.now c.loop-container.container-index c.loop-container.told.items c.in_ok-awaited.awaited c.loop-container-test.true
+          (c.loop-container.invariant.so_far before desk shown) told;
+    }
+
+pub returns : goal.returns
+returns g c =
+    record {
+      tells = ends_well RepresentsDeskAlone IsLegible (λ _. ⊤) g.S.Store c.args.conn.now c.args.conn.now c.loop-container.conn _ c.loop-container.invariant.looks _ (λ clean desk shown.
+          told_whole desk c.deref-container-items.result.now c.loop-container.container-index c.loop-container.told.items c.loop-container-test.false
+          (c.loop-container.invariant.containers clean desk shown) (c.loop-container.invariant.so_far clean desk shown));
+    }

@@ -1,0 +1,25 @@
+use Rattle.std.proofs.Common.{None, sym, ap, ◌∙◌, arith}
+use Rattle.std.specs.Prelude.{slice_get, ⊤}
+use Rattle.sqlite.specs.Held.{state}
+use Rattle.office_tables.proofs.Calls.{looks_nowhere}
+use Rattle.desk_store.proofs.LoanCalls.{never_placed, holder_told}
+use Rattle.desk_store.proofs.loans.holder_of.Goals as goal
+use Rattle.desk_store.proofs.ToldCalls.{ends_well}
+use Rattle.desk_store.specs.Represents.{RepresentsDeskAlone, IsLegible}
+
+pub returns-then-order-ge-NO_NUMBER : goal.returns-then-order-ge-NO_NUMBER
+returns-then-order-ge-NO_NUMBER g c =
+    record {
+      tells = ends_well RepresentsDeskAlone IsLegible (λ _. ⊤) g.S.Store c.args.conn.now c.args.conn.now c.args.conn.now _ (looks_nowhere (state g.S.Store c.args.conn.now) c.requires.inside) None (λ clean d shown.
+          let few = shown.few_orders in
+          let over = c.if-order-ge-NO_NUMBER.true in
+          sym (never_placed c.args.order d.orders shown.order_numbers (omega (arith, few, over))));
+    }
+
+pub returns : goal.returns
+returns g c =
+    record {
+      tells = ends_well RepresentsDeskAlone IsLegible (λ _. ⊤) g.S.Store c.args.conn.now c.args.conn.now c.tickets_of.new.conn _ c.in_ok-found.ensures.reads.looks _ (λ clean d shown.
+          c.copied.ensures ∙ c.first.ensures.value ∙ ap (λ l. slice_get l 0) c.deref.ensures.value
+          ∙ holder_told c.args.order d.orders c.in_ok-found.found.items (c.in_ok-found.ensures.rows clean d.orders shown.orders shown.order_numbers));
+    }

@@ -1,0 +1,76 @@
+use Rattle.std.proofs.Common.{Some, None, ap, sym, ◌∙◌}
+use Rattle.std.proofs.lemmas.List.{append-nil}
+use Rattle.std.specs.Prelude.{⊤}
+use Rattle.sqlite.specs.Held.{state}
+use Rattle.office_tables.specs.declared.fault.StoreFault.TheVariants.{Memory}
+use Rattle.office_tables.proofs.Calls.{early, looks_then}
+use Rattle.office_tables.proofs.CallEnds.{same_fault}
+use Rattle.desk_store.specs.declared.loans.HoldingLine.{HoldingLine}
+use Rattle.desk_store.specs.Represents.{RepresentsDeskAlone, IsLegible}
+use Rattle.desk_store.proofs.LoanCalls.{loans_more, loans_whole}
+use Rattle.desk_store.proofs.loans.issued.Goals.{in-Some+in_ok-push, in_default}
+use Rattle.desk_store.proofs.loans.issued.Goals as goal
+use Rattle.desk_store.proofs.ToldCalls.{ends_full, ends_not, ends_well, shown_on}
+
+pub returns-in_err-loan : goal.returns-in_err-loan
+returns-in_err-loan g c =
+    let e = c.from_residual-in_err-loan.ensures in
+    record {
+      tells = ends_not RepresentsDeskAlone IsLegible (λ _. ⊤) g.S.Store c.args.conn.now c.loop-line.conn c.loan_of.new.conn _ c.loop-line.invariant.looks
+          c.in_err-loan.field-0.0 c.in_err-loan.ensures.tells.cut (λ d shown may kept. c.in_err-loan.ensures.tells.faults tt d shown tt kept)
+          c.from_residual-in_err-loan.result (same_fault c.from_residual-in_err-loan.result c.in_err-loan.field-0.0 e.0 e.1);
+    }
+
+pub returns-in_err-push : goal.returns-in_err-push
+returns-in_err-push g c =
+    let a = state g.S.Store c.args.conn.now in
+    let b = state g.S.Store c.loop-line.conn in
+    let d = state g.S.Store c.loan_of.new.conn in
+    let e = c.from_residual-in_err-push.ensures in
+    record {
+      tells = ends_full RepresentsDeskAlone IsLegible (λ _. ⊤) g.S.Store c.args.conn.now c.args.conn.now c.loan_of.new.conn _ (looks_then a b d c.loop-line.invariant.looks c.in_ok-loan.ensures.tells.looks)
+          c.from_residual-in_err-push.result (same_fault c.from_residual-in_err-push.result Memory e.0 e.1);
+    }
+
+pub loop-line-init : goal.loop-line-init
+loop-line-init g c =
+    record {
+      looks = c.in_ok-lines.ensures.reads.looks;
+      lines = λ clean desk shown. c.deref-line-items.ensures.value ∙ c.in_ok-lines.ensures.rows clean desk.holdings shown.holdings shown.holdings_rise;
+      so_far = λ clean desk shown. c.new-loans.ensures.items;
+    }
+
+pub loop-line-preserved : goal.loop-line-preserved
+loop-line-preserved g c =
+    let a = state g.S.Store c.args.conn.now in
+    let b = state g.S.Store c.loop-line.conn in
+    let d = state g.S.Store c.loan_of.new.conn in
+    let last = c.in_ok-loan.ensures.tells.looks in
+    let looked = c.loop-line.invariant.looks in
+    record {
+      looks = looks_then a b d looked last;
+      lines = λ clean desk shown. c.loop-line.invariant.lines (early b d _ last.goes.on.crash clean) desk shown;
+      so_far = λ clean desk shown.
+          let before = early b d _ last.goes.on.crash clean in
+          let told = c.in_ok-loan.ensures.tells.answers clean tt desk (shown_on RepresentsDeskAlone a b looked before desk shown) in
+          let done = c.loop-line.invariant.so_far before desk shown in
+          let lines = c.deref-line-items.result.now in
+          let i = c.loop-line.line-index in
+          let none : HoldingLine = record { container = 0; held_by = None } in
+          elim c.match-branch-3.branch [
+            | in-Some+in_ok-push w ↦
+                ap (λ v. v.items) w.loans-is ∙ w.in_ok-push.ensures.items
+                ∙ loans_more desk.orders lines i none c.loop-line.loans.items (Some w.in-Some.loan) c.loop-line-test.true done (sym w.in-Some.is ∙ told)
+            | in_default w ↦
+                ap (λ v. v.items) w.loans-is ∙ sym (append-nil c.loop-line.loans.items)
+                ∙ loans_more desk.orders lines i none c.loop-line.loans.items None c.loop-line-test.true done (sym w.in_default.is ∙ told)
+          ];
+    }
+
+pub returns : goal.returns
+returns g c =
+    record {
+      tells = ends_well RepresentsDeskAlone IsLegible (λ _. ⊤) g.S.Store c.args.conn.now c.args.conn.now c.loop-line.conn _ c.loop-line.invariant.looks _ (λ clean desk shown.
+          loans_whole desk.orders desk.holdings c.deref-line-items.result.now c.loop-line.line-index c.loop-line.loans.items c.loop-line-test.false
+          (c.loop-line.invariant.lines clean desk shown) (c.loop-line.invariant.so_far clean desk shown));
+    }

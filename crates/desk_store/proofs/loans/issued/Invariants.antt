@@ -1,0 +1,19 @@
+use Rattle.std.proofs.Common.{◌≡◌, map, take}
+use Rattle.std.specs.List.{filter_map}
+use Rattle.sqlite.specs.Held.{state}
+use Rattle.sqlite.specs.State.{HasCleanDisk}
+use Rattle.desk_core.specs.DeskRows.{Desk}
+use Rattle.office_tables.specs.Step.{LeavesUnchanged}
+use Rattle.desk_store.specs.Holdings.{loan_by}
+use Rattle.desk_store.specs.Represents.{RepresentsDesk}
+use Rattle.desk_store.specs.declared.loans.HoldingLine.{HoldingLine}
+use Rattle.desk_store.proofs.LoanRows.{line_of}
+use Rattle.desk_store.proofs.loans.issued.Given as goal
+
+abbrev pub invariant-loop-line : goal.invariant-loop-line
+invariant-loop-line g l = record {
+  looks : LeavesUnchanged (state g.S.Store l.fn.conn) (state g.S.Store l.conn);
+  lines : HasCleanDisk (state g.S.Store l.conn) → (d : Desk) → RepresentsDesk (state g.S.Store l.fn.conn).now.trees d → l.line-items ≡ map line_of d.holdings;
+  so_far : HasCleanDisk (state g.S.Store l.conn) → (d : Desk) → RepresentsDesk (state g.S.Store l.fn.conn).now.trees d
+      → l.loans.items ≡ filter_map (λ (h : HoldingLine). loan_by d.orders h.container h.held_by) (take l.line-index l.line-items);
+}

@@ -1,0 +1,37 @@
+use Rattle.std.proofs.Common.{None, sym, ap, ◌∙◌}
+use Rattle.std.specs.Prelude.{option_map, ⊤}
+use Rattle.sqlite.specs.Held.{state}
+use Rattle.office_tables.proofs.Calls.{looks_nowhere}
+use Rattle.office_tables.proofs.CallEnds.{same_fault}
+use Rattle.desk_store.specs.Holdings.{loan_by}
+use Rattle.desk_store.specs.declared.holdings.Loan.{Loan}
+use Rattle.desk_store.specs.Represents.{RepresentsDeskAlone, IsLegible}
+use Rattle.desk_store.proofs.loans.loan_of.Goals as goal
+use Rattle.desk_store.proofs.ToldCalls.{ends_not, ends_well}
+
+pub returns-in_err-ticket : goal.returns-in_err-ticket
+returns-in_err-ticket g c =
+    let e = c.from_residual.ensures in
+    record {
+      tells = ends_not RepresentsDeskAlone IsLegible (λ _. ⊤) g.S.Store c.args.conn.now c.args.conn.now c.holder_of.new.conn _ (looks_nowhere (state g.S.Store c.args.conn.now) c.requires.inside)
+          c.in_err-ticket.field-0.0 c.in_err-ticket.ensures.tells.cut (λ d shown may kept. c.in_err-ticket.ensures.tells.faults tt d shown tt kept)
+          c.from_residual.result (same_fault c.from_residual.result c.in_err-ticket.field-0.0 e.0 e.1);
+    }
+
+pub returns-in_default-2 : goal.returns-in_default-2
+returns-in_default-2 g c =
+    record {
+      tells = ends_well RepresentsDeskAlone IsLegible (λ _. ⊤) g.S.Store c.args.conn.now c.args.conn.now c.holder_of.new.conn _ c.in_ok-ticket.ensures.tells.looks None (λ clean d shown.
+          let ticket = sym c.in_default-2.is ∙ c.in_ok-ticket.ensures.tells.answers clean tt d shown in
+          ap (option_map (λ t. let loan : Loan = record { container = c.args.line.container; order = c.in-Some.order; ticket = t } in loan)) ticket
+          ∙ sym (ap (loan_by d.orders c.args.line.container) c.in-Some.is));
+    }
+
+pub returns : goal.returns
+returns g c =
+    record {
+      tells = ends_well RepresentsDeskAlone IsLegible (λ _. ⊤) g.S.Store c.args.conn.now c.args.conn.now c.holder_of.new.conn _ c.in_ok-ticket.ensures.tells.looks _ (λ clean d shown.
+          let ticket = sym c.in-Some-2.is ∙ c.in_ok-ticket.ensures.tells.answers clean tt d shown in
+          ap (option_map (λ t. let loan : Loan = record { container = c.args.line.container; order = c.in-Some.order; ticket = t } in loan)) ticket
+          ∙ sym (ap (loan_by d.orders c.args.line.container) c.in-Some.is));
+    }

@@ -1,0 +1,21 @@
+use Rattle.std.proofs.Common.{sym, subst, arith}
+use Rattle.std.specs.Prelude.{⊤}
+use Rattle.sqlite.specs.Held.{state}
+use Rattle.office_tables.proofs.Calls.{looks_nowhere}
+use Rattle.office_tables.specs.Order.{IsOrdered}
+use Rattle.desk_store.specs.Permits.{permits_of, by_unit}
+use Rattle.desk_store.specs.Represents.{RepresentsDeskAlone, IsLegible}
+use Rattle.desk_store.proofs.PermitCalls.{none_given}
+use Rattle.desk_store.proofs.reader_permits.permits.Goals as goal
+use Rattle.desk_store.proofs.ToldCalls.{ends_well}
+
+pub returns-then-ticket-from : goal.returns-then-ticket-from
+returns-then-ticket-from g c =
+    let old = state g.S.Store c.args.conn.now in
+    record {
+      tells = ends_well RepresentsDeskAlone IsLegible (λ _. ⊤) g.S.Store c.args.conn.now c.args.conn.now c.args.conn.now _ (looks_nowhere old c.requires.inside) _ (λ clean d shown.
+          let few = shown.few_tickets in
+          let over = c.if-ticket-from.true in
+          let most = c.from.ensures in
+          subst (IsOrdered by_unit (permits_of c.args.ticket d)) (sym c.new.ensures.items) (none_given c.args.ticket old.now.trees d shown (omega (arith, few, over, most))));
+    }

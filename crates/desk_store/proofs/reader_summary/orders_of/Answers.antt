@@ -1,0 +1,48 @@
+use Rattle.std.proofs.Common.{map, filter, nat_eq, ◌&&◌, refl, ap, ◌∙◌}
+use Rattle.std.specs.Prelude.{⊤}
+use Rattle.sqlite.specs.Held.{state}
+use Rattle.sqlite_trees.proofs.ListLemmas.{map-map}
+use Rattle.desk_core.specs.DeskRows.{OrderRow}
+use Rattle.office_tables.proofs.Calls.{early, looks_then}
+use Rattle.office_tables.proofs.CallEnds.{same_fault}
+use Rattle.desk_store.specs.Readers.{is_live}
+use Rattle.desk_store.specs.declared.reader_summary.LiveOrder.{LiveOrder}
+use Rattle.desk_store.specs.declared.reader_summary.OrderLine.{OrderLine}
+use Rattle.desk_store.specs.Represents.{RepresentsDeskAlone, IsLegible}
+use Rattle.desk_store.proofs.CardRows.{line_of}
+use Rattle.desk_store.proofs.reader_summary.orders_of.Goals as goal
+use Rattle.desk_store.proofs.ToldCalls.{ends_not, ends_well, shown_on}
+
+pub returns-in_err-orders : goal.returns-in_err-orders
+returns-in_err-orders g c =
+    let a = state g.S.Store c.args.conn.now in
+    let b = state g.S.Store c.live_lines.new.conn in
+    let p = state g.S.Store c.placed_on.new.conn in
+    let e = c.from_residual-in_err-orders.ensures in
+    record {
+      tells = ends_not RepresentsDeskAlone IsLegible (λ _. ⊤) g.S.Store c.args.conn.now c.placed_on.new.conn c.last_order.new.conn _ (looks_then a b p c.in_ok-lines.ensures.reads.looks c.in_ok-placed.ensures.reads.looks)
+          c.in_err-orders.field-0.0 c.in_err-orders.ensures.reads.cut (λ d shown may kept. c.in_err-orders.ensures.faults d.orders shown.orders shown.few_orders shown.order_numbers)
+          c.from_residual-in_err-orders.result (same_fault c.from_residual-in_err-orders.result c.in_err-orders.field-0.0 e.0 e.1);
+    }
+
+pub returns : goal.returns
+returns g c =
+    let a = state g.S.Store c.args.conn.now in
+    let b = state g.S.Store c.live_lines.new.conn in
+    let p = state g.S.Store c.placed_on.new.conn in
+    let z = state g.S.Store c.last_order.new.conn in
+    let first = c.in_ok-lines.ensures.reads.looks in
+    let two = looks_then a b p first c.in_ok-placed.ensures.reads.looks in
+    record {
+      tells = ends_well RepresentsDeskAlone IsLegible (λ _. ⊤) g.S.Store c.args.conn.now c.args.conn.now c.last_order.new.conn _ (looks_then a p z two c.in_ok-orders.ensures.reads.looks) _ (λ clean d shown.
+          let at_p = early p z _ c.in_ok-orders.ensures.reads.crash clean in
+          let at_b = early b p _ c.in_ok-placed.ensures.reads.crash at_p in
+          let shown_b = shown_on RepresentsDeskAlone a b first at_b d shown in
+          let shown_p = shown_on RepresentsDeskAlone a p two at_p d shown in
+          let lines = c.in_ok-lines.ensures.rows at_b d.orders shown.orders shown.order_numbers in
+          let told = λ (o : OrderLine). (let x : LiveOrder = record { order = o.order; container = o.container; is_out = nat_eq o.state 2 } in x) in
+          let live = c.in_ok-live.ensures ∙ ap (map told) (c.deref.ensures.value ∙ lines) ∙ map-map told line_of (filter (λ (o : OrderRow). nat_eq c.args.ticket o.ticket && is_live o) d.orders) in
+          let placed = c.in_ok-placed.ensures.number at_p d.orders shown_b.orders shown_b.few_orders in
+          let orders = c.from.ensures ∙ c.in_ok-orders.ensures.number clean d.orders shown_p.orders shown_p.few_orders shown_p.order_numbers in
+          rw (live, placed, orders) refl);
+    }

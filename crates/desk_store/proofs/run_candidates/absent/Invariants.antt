@@ -1,0 +1,9 @@
+use Rattle.std.proofs.Common.{◌≡◌, ℕ, nat_eq, take}
+use Rattle.std.specs.List.{list_any}
+use Rattle.desk_store.specs.declared.loans.HoldingLine.{HoldingLine}
+use Rattle.desk_store.proofs.run_candidates.absent.Given as goal
+
+abbrev pub invariant-loop-line : goal.invariant-loop-line
+invariant-loop-line l = record {
+  so_far : (c : ℕ) → list_any (nat_eq c) l.known.keys ≡ list_any (λ (h : HoldingLine). nat_eq c h.container) (take l.line-index l.fn.lines);
+}

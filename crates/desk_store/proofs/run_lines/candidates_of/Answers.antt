@@ -1,0 +1,61 @@
+use Rattle.std.proofs.Common.{take, ◌+◌, ◌++◌, [], ◌∷◌, sym, subst}
+use Rattle.std.specs.Prelude.{get_or, List}
+use Rattle.std.specs.List.{AllByRecursion, AllZip}
+use Rattle.std.proofs.lemmas.List.{take_more}
+use Rattle.sqlite.specs.Held.{state}
+use Rattle.sqlite_rules.proofs.ListLemmas.{all_has}
+use Rattle.desk_core.specs.declared.run.Candidate.{Candidate}
+use Rattle.office_tables.proofs.Calls.{early, looks_then}
+use Rattle.office_tables.proofs.Puts.{has_at}
+use Rattle.office_tables.proofs.CallEnds.{same_fault}
+use Rattle.office_tables.specs.declared.fault.StoreFault.TheVariants.{Memory}
+use Rattle.desk_store.specs.Stacks.{Stacks, RepresentsQueues, IsLegibleStacks, IsKnownLine, IsToldLine}
+use Rattle.desk_store.specs.declared.runs.TakenLine.{TakenLine}
+use Rattle.desk_store.proofs.BroughtRows.{zip_more}
+use Rattle.desk_store.proofs.ToldCalls.{ends_not, ends_full, shown_on}
+use Rattle.desk_store.proofs.run_lines.candidates_of.Goals as goal
+
+pub returns-in_err-candidate : goal.returns-in_err-candidate
+returns-in_err-candidate g c =
+    let e = c.from_residual.ensures in
+    let lines = c.args.lines.now in
+    let i = c.loop-line.line-index in
+    let none : TakenLine = record { container = 0; order = 0; ticket = 0 } in
+    record {
+      tells = ends_not RepresentsQueues IsLegibleStacks (λ (s : Stacks). AllByRecursion (λ l. IsKnownLine l s) lines) g.S.Store c.args.conn.now c.loop-line.conn c.candidate.new.conn _ c.loop-line.invariant.looks
+          c.in_err-candidate.field-0.0 c.in_err-candidate.ensures.tells.cut
+          (λ s shown may kept. c.in_err-candidate.ensures.tells.faults tt s shown (all_has (λ l. IsKnownLine l s) lines (get_or lines i none) may (has_at lines i none c.loop-line-test.true)) kept)
+          c.from_residual.result (same_fault c.from_residual.result c.in_err-candidate.field-0.0 e.0 e.1);
+    }
+
+pub returns-in_err-push : goal.returns-in_err-push
+returns-in_err-push g c =
+    let a = state g.S.Store c.args.conn.now in
+    let b = state g.S.Store c.loop-line.conn in
+    let z = state g.S.Store c.candidate.new.conn in
+    let e = c.from_residual-in_err-push.ensures in
+    record {
+      tells = ends_full RepresentsQueues IsLegibleStacks (λ (s : Stacks). AllByRecursion (λ l. IsKnownLine l s) c.args.lines.now) g.S.Store c.args.conn.now c.args.conn.now c.candidate.new.conn _
+          (looks_then a b z c.loop-line.invariant.looks c.in_ok-candidate.ensures.tells.looks)
+          c.from_residual-in_err-push.result (same_fault c.from_residual-in_err-push.result Memory e.0 e.1);
+    }
+
+pub loop-line-preserved : goal.loop-line-preserved
+loop-line-preserved g c =
+    let a = state g.S.Store c.args.conn.now in
+    let b = state g.S.Store c.loop-line.conn in
+    let z = state g.S.Store c.candidate.new.conn in
+    let last = c.in_ok-candidate.ensures.tells.looks in
+    let looked = c.loop-line.invariant.looks in
+    let lines = c.args.lines.now in
+    let i = c.loop-line.line-index in
+    let none : TakenLine = record { container = 0; order = 0; ticket = 0 } in
+    record {
+      looks = looks_then a b z looked last;
+      so_far = λ clean s shown.
+          let before = early b z _ last.goes.on.crash clean in
+          let told = c.in_ok-candidate.ensures.tells.answers clean tt s (shown_on RepresentsQueues a b looked before s shown) in
+          let more = zip_more (IsToldLine s) (take i lines) c.loop-line.told.items (get_or lines i none) c.in_ok-candidate.candidate (c.loop-line.invariant.so_far before s shown) told in
+          subst (λ (ys : List Candidate). AllZip (IsToldLine s) (take (i + 1) lines) ys) (sym c.in_ok-push.ensures.items)
+          (subst (λ (xs : List TakenLine). AllZip (IsToldLine s) xs (c.loop-line.told.items ++ c.in_ok-candidate.candidate ∷ [])) (sym (take_more lines i none c.loop-line-test.true)) more);
+    }

@@ -1,0 +1,14 @@
+use Rattle.std.proofs.Common.{take}
+use Rattle.std.specs.List.{AllZip}
+use Rattle.sqlite.specs.Held.{state}
+use Rattle.sqlite.specs.State.{HasCleanDisk}
+use Rattle.office_tables.specs.Step.{LeavesUnchanged}
+use Rattle.desk_store.specs.Stacks.{Stacks, RepresentsQueues, IsToldLine}
+use Rattle.desk_store.proofs.run_lines.candidates_of.Given as goal
+
+abbrev pub invariant-loop-line : goal.invariant-loop-line
+invariant-loop-line g l = record {
+  looks : LeavesUnchanged (state g.S.Store l.fn.conn) (state g.S.Store l.conn);
+  so_far : HasCleanDisk (state g.S.Store l.conn) → (s : Stacks) → RepresentsQueues (state g.S.Store l.fn.conn).now tt s
+      → AllZip (IsToldLine s) (take l.line-index l.fn.lines) l.told.items;
+}

@@ -1,0 +1,16 @@
+use Rattle.std.proofs.Common.{ap, ◌∙◌}
+use Rattle.std.specs.Prelude.{nat_lt}
+use Rattle.desk_store.specs.Holdings.{waits_for}
+use Rattle.desk_store.proofs.WaitingRows.{any_counted}
+use Rattle.desk_store.proofs.waiting_orders.is_awaited.Goals as goal
+
+pub returns : goal.returns
+returns g c =
+    record {
+      tells = record {
+        answers = λ clean beside d shown. ap (nat_lt 0) (c.in_ok-waiting.ensures.number clean d.orders shown.orders shown.few_orders) ∙ any_counted (waits_for c.args.container) d.orders;
+        looks = c.in_ok-waiting.ensures.reads.looks;
+        cut = tt;
+        faults = λ beside d shown may kept clean free. tt;
+      };
+    }

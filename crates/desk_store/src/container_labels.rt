@@ -1,0 +1,69 @@
+//! What is written on containers. Their table is the catalogue's.
+
+ghost use Rattle.std.specs.Prelude.{◌≡◌, ℕ, nat_eq, List, map, filter, IfOk, IfSome, ⊤, option_map};
+ghost use Rattle.std.specs.List.{AllByRecursion};
+ghost use Rattle.sqlite.specs.Held.{state};
+ghost use Rattle.sqlite.specs.State.{HasCleanDisk};
+ghost use Rattle.isad_core.specs.Legible.{IsLegibleBox};
+ghost use Rattle.isad_core.specs.declared.values.BoxKey.{BoxKey};
+ghost use Rattle.isad_core.specs.Limits.{IsNumber};
+ghost use Rattle.office_tables.specs.Asking.{Reads};
+ghost use Rattle.office_tables.specs.Calls.{Answers};
+ghost use Rattle.office_tables.specs.Faults.{FaultsHaveCause};
+ghost use Rattle.office_tables.specs.Schema as tables;
+ghost use Rattle.office_tables.specs.Shared.{container_row};
+ghost use Rattle.office_tables.specs.Step.{InOffice, Holds};
+ghost use Rattle.office_tables.specs.Numbered.{AreCounted};
+ghost use Rattle.desk_store.specs.Stacks.{RepresentsQueues, IsLegibleStacks, box_with};
+
+use isad_core::BoxKey;
+use office_tables::value::number;
+use office_tables::{StoreFault, find};
+use sqlite::{Alter, Connection};
+use std::alloc::Global;
+
+/// How many containers there may be.
+const MOST_CONTAINERS: u64 = 100_000;
+
+/// What is written on the container with a number: one, or none. It is found by the number of its row.
+fn boxes_with<S: Alter>(
+    alloc: Global,
+    conn: &mut Connection<S>,
+    container: u64,
+) -> Result<Vec<BoxKey>, StoreFault>
+    requires inside { InOffice (state S.Store conn.old) }
+    requires small { IsNumber container }
+    ensures reads { Reads (state S.Store conn.old) (state S.Store conn.new) result }
+    ensures rows { HasCleanDisk (state S.Store conn.new) → (bs : List (ℕ × BoxKey))
+        → Holds tables.container container_row (state S.Store conn.old) bs → AreCounted (λ b. b.0) bs
+        → IfOk result (λ found. found.items ≡ map (λ (b : ℕ × BoxKey). b.1)
+        (filter (λ (b : ℕ × BoxKey). nat_eq container b.0) bs)) }
+    ensures faults { (bs : List (ℕ × BoxKey)) → Holds tables.container container_row (state S.Store conn.old) bs
+        → AllByRecursion (λ b. IsLegibleBox b.1) bs
+        → FaultsHaveCause (state S.Store conn.old) (state S.Store conn.new) result }
+{
+    find(
+        alloc,
+        conn,
+        "SELECT name, location, kind FROM container WHERE id = ?1 ORDER BY id",
+        &[number(container)],
+    )
+}
+
+/// What is written on the container with a number, or none where it is not known.
+pub(crate) fn box_of<S: Alter>(
+    alloc: Global,
+    conn: &mut Connection<S>,
+    container: u64,
+) -> Result<Option<BoxKey>, StoreFault>
+    requires inside { InOffice (state S.Store conn.old) }
+    ensures tells { Answers S.Store RepresentsQueues IsLegibleStacks conn.old conn.new result (λ _. ⊤)
+        (λ _ stacks found. found ≡ option_map (λ (b : ℕ × BoxKey). b.1) (box_with container stacks)) }
+    ensures small { IfOk result (λ found. IfSome found (λ _. IsNumber container)) }
+{
+    if container > MOST_CONTAINERS {
+        return Ok(None);
+    }
+    let found = boxes_with(alloc, conn, container)?;
+    Ok(found.into_iter().next())
+}

@@ -1,0 +1,58 @@
+//! Containers at the desk.
+
+ghost use Rattle.std.specs.Prelude.{◌≡◌, nat_eq, List, map, filter, IfOk, ⊤};
+ghost use Rattle.sqlite.specs.Held.{state};
+ghost use Rattle.sqlite.specs.State.{HasCleanDisk};
+ghost use Rattle.desk_core.specs.DeskRows.{HoldingRow};
+ghost use Rattle.office_tables.specs.Asking.{Reads};
+ghost use Rattle.office_tables.specs.Calls.{Answers};
+ghost use Rattle.office_tables.specs.Faults.{FaultsHaveCause};
+ghost use Rattle.office_tables.specs.Schema as tables;
+ghost use Rattle.office_tables.specs.Step.{InOffice, Holds};
+ghost use Rattle.desk_store.specs.Holdings.{at_desk_of};
+ghost use Rattle.desk_store.specs.Rows.{holding_cells};
+ghost use Rattle.desk_store.specs.Represents.{RepresentsDeskAlone, IsLegible};
+ghost use Rattle.office_tables.specs.Numbered.{AreByNumber};
+
+use crate::waiting_orders::is_awaited;
+use office_tables::{StoreFault, find};
+use sqlite::{Alter, Connection};
+use std::alloc::Global;
+
+/// The containers at the desk, by number. The table is read whole: it has a row for each container
+/// that is not on the shelf.
+fn desk_lines<S: Alter>(alloc: Global, conn: &mut Connection<S>) -> Result<Vec<u64>, StoreFault>
+    requires inside { InOffice (state S.Store conn.old) }
+    ensures reads { Reads (state S.Store conn.old) (state S.Store conn.new) result }
+    ensures rows { HasCleanDisk (state S.Store conn.new) → (xs : List HoldingRow)
+        → Holds tables.holding holding_cells (state S.Store conn.old) xs → AreByNumber (λ h. h.container) xs
+        → IfOk result (λ found. found.items ≡ map (λ (h : HoldingRow). h.container)
+        (filter (λ (h : HoldingRow). nat_eq 1 h.place) xs)) }
+    ensures faults { (xs : List HoldingRow) → Holds tables.holding holding_cells (state S.Store conn.old) xs
+        → FaultsHaveCause (state S.Store conn.old) (state S.Store conn.new) result }
+{
+    find(
+        alloc,
+        conn,
+        "SELECT container FROM holding WHERE place = 1 ORDER BY container",
+        &[],
+    )
+}
+
+/// The containers at the desk, by number, each with whether an order waits for it.
+pub fn at_desk<S: Alter>(
+    alloc: Global,
+    conn: &mut Connection<S>,
+) -> Result<Vec<(u64, bool)>, StoreFault>
+    requires inside { InOffice (state S.Store conn.old) }
+    ensures tells { Answers S.Store RepresentsDeskAlone IsLegible conn.old conn.new result (λ _. ⊤)
+        (λ _ d all. all.items ≡ at_desk_of d) }
+{
+    let containers = desk_lines(alloc, conn)?;
+    let mut told = Vec::new(alloc);
+    for container in &containers {
+        let awaited = is_awaited(conn, *container)?;
+        told.push((*container, awaited))?;
+    }
+    Ok(told)
+}

@@ -1,0 +1,151 @@
+//! Containers that are with readers.
+
+ghost use Rattle.std.specs.Prelude.{◌≡◌, nat_eq, List, map, filter, IfOk, ⊤};
+ghost use Rattle.sqlite.specs.Held.{state};
+ghost use Rattle.sqlite.specs.State.{HasCleanDisk};
+ghost use Rattle.isad_core.specs.Limits.{IsNumber};
+ghost use Rattle.desk_core.specs.DeskRows.{HoldingRow, OrderRow};
+ghost use Rattle.office_tables.specs.Asking.{Reads};
+ghost use Rattle.office_tables.specs.Calls.{Answers};
+ghost use Rattle.office_tables.specs.Faults.{FaultsHaveCause};
+ghost use Rattle.office_tables.specs.Schema as tables;
+ghost use Rattle.office_tables.specs.Step.{InOffice, Holds};
+ghost use Rattle.desk_store.specs.Holdings.{issued_of, loan_by, ticket_of};
+ghost use Rattle.desk_store.specs.Rows.{holding_cells, order_cells};
+ghost use Rattle.desk_store.specs.Represents.{RepresentsDeskAlone, IsLegible};
+ghost use Rattle.office_tables.specs.Numbered.{AreByNumber, AreCounted};
+
+use crate::holdings::Loan;
+use office_tables::from_row::FromRow;
+use office_tables::value::{NO_NUMBER, number};
+use office_tables::{StoreFault, find};
+use sqlite::{Alter, Connection, Row};
+use std::alloc::Global;
+
+/// What the table tells of a container that is not on the shelf.
+#[derive(Debug, Clone, Copy, PartialEq, Eq, Drop)]
+pub(crate) struct HoldingLine {
+    pub container: u64,
+    /// The order that it is out with.
+    pub held_by: Option<u64>,
+}
+
+impl FromRow for HoldingLine {
+    ghost use Rattle.std.specs.Prelude.{pos, option_map, [], ◌∷◌, ⊤};
+    ghost use Rattle.sqlite.specs.Values.{or_null};
+    ghost use Rattle.sqlite.specs.declared.types.Value.TheVariants.{Int};
+
+    ghost cells = { λ h. Int (pos h.container) ∷ or_null Int (option_map pos h.held_by) ∷ [] };
+
+    ghost is_legible = { λ _. ⊤ };
+
+    fn read(row: &Row) -> Result<HoldingLine, StoreFault> {
+        Ok(HoldingLine {
+            container: row.get(0)?,
+            held_by: row.get(1)?,
+        })
+    }
+}
+
+/// The containers that are not on the shelf, by number. The table is read whole: it has a row for
+/// each of them.
+pub(crate) fn holding_lines<S: Alter>(
+    alloc: Global,
+    conn: &mut Connection<S>,
+) -> Result<Vec<HoldingLine>, StoreFault>
+    requires inside { InOffice (state S.Store conn.old) }
+    ensures reads { Reads (state S.Store conn.old) (state S.Store conn.new) result }
+    ensures rows { HasCleanDisk (state S.Store conn.new) → (xs : List HoldingRow)
+        → Holds tables.holding holding_cells (state S.Store conn.old) xs → AreByNumber (λ h. h.container) xs
+        → IfOk result (λ found. found.items ≡ map
+        (λ (h : HoldingRow). record { container = h.container; held_by = h.held_by }) xs) }
+    ensures faults { (xs : List HoldingRow) → Holds tables.holding holding_cells (state S.Store conn.old) xs
+        → FaultsHaveCause (state S.Store conn.old) (state S.Store conn.new) result }
+{
+    find(
+        alloc,
+        conn,
+        "SELECT container, held_by FROM holding ORDER BY container",
+        &[],
+    )
+}
+
+/// The ticket of an order: one, or none. An order is found by its number.
+pub(crate) fn tickets_of<S: Alter>(
+    alloc: Global,
+    conn: &mut Connection<S>,
+    order: u64,
+) -> Result<Vec<u64>, StoreFault>
+    requires inside { InOffice (state S.Store conn.old) }
+    requires small { IsNumber order }
+    ensures reads { Reads (state S.Store conn.old) (state S.Store conn.new) result }
+    ensures rows { HasCleanDisk (state S.Store conn.new) → (xs : List OrderRow)
+        → Holds tables.orders order_cells (state S.Store conn.old) xs → AreCounted (λ o. o.id) xs
+        → IfOk result (λ found. found.items ≡ map (λ (o : OrderRow). o.ticket)
+        (filter (λ o. nat_eq order o.id) xs)) }
+    ensures faults { (xs : List OrderRow) → Holds tables.orders order_cells (state S.Store conn.old) xs
+        → FaultsHaveCause (state S.Store conn.old) (state S.Store conn.new) result }
+{
+    find(
+        alloc,
+        conn,
+        "SELECT ticket FROM orders WHERE id = ?1 ORDER BY id",
+        &[number(order)],
+    )
+}
+
+/// The ticket that placed an order, where there is such an order.
+fn holder_of<S: Alter>(
+    alloc: Global,
+    conn: &mut Connection<S>,
+    order: u64,
+) -> Result<Option<u64>, StoreFault>
+    requires inside { InOffice (state S.Store conn.old) }
+    ensures tells { Answers S.Store RepresentsDeskAlone IsLegible conn.old conn.new result (λ _. ⊤)
+        (λ _ d ticket. ticket ≡ ticket_of d.orders order) }
+{
+    if order >= NO_NUMBER {
+        return Ok(None);
+    }
+    let found = tickets_of(alloc, conn, order)?;
+    Ok(found.first().copied())
+}
+
+/// With whom a container is that is out, where it is.
+fn loan_of<S: Alter>(
+    alloc: Global,
+    conn: &mut Connection<S>,
+    line: HoldingLine,
+) -> Result<Option<Loan>, StoreFault>
+    requires inside { InOffice (state S.Store conn.old) }
+    ensures tells { Answers S.Store RepresentsDeskAlone IsLegible conn.old conn.new result (λ _. ⊤)
+        (λ _ d loan. loan ≡ loan_by d.orders line.container line.held_by) }
+{
+    let Some(order) = line.held_by else {
+        return Ok(None);
+    };
+    let Some(ticket) = holder_of(alloc, conn, order)? else {
+        return Ok(None);
+    };
+    Ok(Some(Loan {
+        container: line.container,
+        order,
+        ticket,
+    }))
+}
+
+/// The containers that are with readers, by number.
+pub fn issued<S: Alter>(alloc: Global, conn: &mut Connection<S>) -> Result<Vec<Loan>, StoreFault>
+    requires inside { InOffice (state S.Store conn.old) }
+    ensures tells { Answers S.Store RepresentsDeskAlone IsLegible conn.old conn.new result (λ _. ⊤)
+        (λ _ d all. all.items ≡ issued_of d) }
+{
+    let lines = holding_lines(alloc, conn)?;
+    let mut loans = Vec::new(alloc);
+    for line in &lines {
+        if let Some(loan) = loan_of(alloc, conn, *line)? {
+            loans.push(loan)?;
+        }
+    }
+    Ok(loans)
+}

@@ -1,0 +1,119 @@
+//! Orders are placed, and go from one state to the next.
+
+ghost use Rattle.std.specs.Prelude.{◌≡◌, ◌≤◌, nat_eq, false, List, [], ◌∷◌, map, OnOk, ⊤};
+ghost use Rattle.std.specs.List.{list_any};
+ghost use Rattle.sqlite.specs.Held.{state};
+ghost use Rattle.sqlite.specs.State.{HasCleanDisk};
+ghost use Rattle.isad_core.specs.Limits.{IsNumber};
+ghost use Rattle.desk_core.specs.DeskRows.{OrderRow, with_state};
+ghost use Rattle.office_tables.specs.Calls.{Updates};
+ghost use Rattle.office_tables.specs.Changing.{Leaves};
+ghost use Rattle.office_tables.specs.Faults.{FaultsHaveCause};
+ghost use Rattle.office_tables.specs.Schema as tables;
+ghost use Rattle.office_tables.specs.Step.{InOffice, Holds, HasRows, OnlyTouches, PutsRow};
+ghost use Rattle.desk_store.specs.Orders.{state_number, with_order, with_order_state, IsNextOrder};
+ghost use Rattle.desk_store.specs.Rows.{order_cells};
+ghost use Rattle.desk_store.specs.Represents.{RepresentsDeskAlone, IsLegible};
+ghost use Rattle.office_tables.specs.Numbered.{AreCounted};
+
+use crate::orders::OrderState;
+use isad_core::Day;
+use office_tables::value::{day, number};
+use office_tables::{StoreFault, change};
+use sqlite::{Alter, Connection};
+
+/// Puts an order under a number that was not given. It waits.
+fn insert_order<S: Alter>(
+    conn: &mut Connection<S>,
+    order: u64,
+    ticket: u64,
+    container: u64,
+    on: Day,
+) -> Result<(), StoreFault>
+    requires inside { InOffice (state S.Store conn.old) }
+    requires number { IsNumber order }
+    requires small { IsNumber ticket }
+    requires known { IsNumber container }
+    ensures leaves { Leaves (state S.Store conn.old) (state S.Store conn.new) result }
+    ensures puts { HasCleanDisk (state S.Store conn.new)
+        → OnOk result (PutsRow tables.orders.tree
+        (order_cells (record { id = order; ticket = ticket; container = container; day = on; state = 1 }))
+        (state S.Store conn.old).now (state S.Store conn.new).now) }
+    ensures faults { (xs : List OrderRow) → Holds tables.orders order_cells (state S.Store conn.old) xs
+        → list_any (λ o. nat_eq order o.id) xs ≡ false
+        → FaultsHaveCause (state S.Store conn.old) (state S.Store conn.new) result }
+{
+    change(
+        conn,
+        "INSERT INTO orders (id, ticket, container, day, state) VALUES (?1, ?2, ?3, ?4, 1)",
+        &[number(order), number(ticket), number(container), day(on)],
+    )
+}
+
+/// Places an order, under the number after the last.
+pub fn append_order<S: Alter>(
+    conn: &mut Connection<S>,
+    order: u64,
+    ticket: u64,
+    container: u64,
+    on: Day,
+) -> Result<(), StoreFault>
+    requires inside { InOffice (state S.Store conn.old) }
+    requires number { IsNumber order }
+    requires small { IsNumber ticket }
+    requires known { IsNumber container }
+    ensures makes { Updates S.Store RepresentsDeskAlone IsLegible conn.old conn.new result (IsNextOrder order)
+        (with_order ticket container on) (tables.orders.tree ∷ []) }
+{
+    insert_order(conn, order, ticket, container, on)
+}
+
+/// The number that stands in the table for a state.
+fn number_of(next: OrderState) -> u64
+    ensures number { result ≡ state_number next }
+    ensures small { result ≤ 4 }
+{
+    match next {
+        OrderState::Waiting => 1,
+        OrderState::Out => 2,
+        OrderState::Done => 3,
+        OrderState::Cancelled => 4,
+    }
+}
+
+/// Gives an order another state. It is found by its number.
+fn set_state<S: Alter>(conn: &mut Connection<S>, order: u64, next: u64) -> Result<(), StoreFault>
+    requires inside { InOffice (state S.Store conn.old) }
+    requires number { IsNumber order }
+    requires small { IsNumber next }
+    ensures leaves { Leaves (state S.Store conn.old) (state S.Store conn.new) result }
+    ensures rows { HasCleanDisk (state S.Store conn.new) → (xs : List OrderRow)
+        → Holds tables.orders order_cells (state S.Store conn.old) xs → AreCounted (λ o. o.id) xs
+        → OnOk result (HasRows tables.orders.tree (map order_cells (with_state order next xs))
+        (state S.Store conn.old).now (state S.Store conn.new).now) }
+    ensures only { HasCleanDisk (state S.Store conn.new)
+        → OnOk result (OnlyTouches (tables.orders.tree ∷ []) (state S.Store conn.old).now
+        (state S.Store conn.new).now) }
+    ensures faults { (xs : List OrderRow) → Holds tables.orders order_cells (state S.Store conn.old) xs
+        → AreCounted (λ o. o.id) xs → FaultsHaveCause (state S.Store conn.old) (state S.Store conn.new) result }
+{
+    change(
+        conn,
+        "UPDATE orders SET state = ?1 WHERE id = ?2",
+        &[number(next), number(order)],
+    )
+}
+
+/// Brings an order into another state: it is out, done or cancelled.
+pub fn end_order<S: Alter>(
+    conn: &mut Connection<S>,
+    order: u64,
+    next: OrderState,
+) -> Result<(), StoreFault>
+    requires inside { InOffice (state S.Store conn.old) }
+    requires number { IsNumber order }
+    ensures makes { Updates S.Store RepresentsDeskAlone IsLegible conn.old conn.new result (λ _. ⊤)
+        (with_order_state order next) (tables.orders.tree ∷ []) }
+{
+    set_state(conn, order, number_of(next))
+}

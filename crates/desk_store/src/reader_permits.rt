@@ -1,0 +1,176 @@
+//! Permits for closed units.
+
+ghost use Rattle.std.specs.Prelude.{◌≡◌, false, List, [], ◌∷◌, OnOk, ⊤};
+ghost use Rattle.std.specs.List.{list_any};
+ghost use Rattle.sqlite.specs.Edit.{next_rowid};
+ghost use Rattle.sqlite.specs.Held.{state};
+ghost use Rattle.sqlite.specs.State.{HasCleanDisk};
+ghost use Rattle.isad_core.specs.Limits.{IsNumber};
+ghost use Rattle.desk_core.specs.DeskRows.{PermitRow};
+ghost use Rattle.office_tables.specs.Calls.{Updates, Answers};
+ghost use Rattle.office_tables.specs.Changing.{Leaves};
+ghost use Rattle.office_tables.specs.Faults.{FaultsHaveCause};
+ghost use Rattle.office_tables.specs.Order.{IsOrdered};
+ghost use Rattle.office_tables.specs.Schema as tables;
+ghost use Rattle.office_tables.specs.Step.{InOffice, OnlyTouches, PutsRow};
+ghost use Rattle.desk_store.specs.Permits.{permits_of, by_unit, is_permit, without_permit, with_permit, revoked};
+ghost use Rattle.desk_store.specs.Permits.{HasUnitRow, MayHave};
+ghost use Rattle.office_tables.specs.Permits.{permit_cells};
+ghost use Rattle.desk_store.specs.Represents.{RepresentsDeskAlone, IsLegible};
+ghost use Rattle.office_tables.specs.Numbered.{HasNumbered};
+
+use crate::readers::MOST_TICKETS;
+use isad_core::Day;
+use office_tables::from_row::FromRow;
+use office_tables::value::{day, number};
+use office_tables::{StoreFault, change, find};
+use sqlite::{Alter, Connection, Row};
+use std::alloc::Global;
+
+/// A permit for a unit, to a day inclusive.
+#[derive(Debug, Clone, Copy, PartialEq, Eq, Drop)]
+pub struct Permit {
+    pub unit: u64,
+    pub until: Day,
+}
+
+impl FromRow for Permit {
+    ghost use Rattle.std.specs.Prelude.{◌≡◌, pos, [], ◌∷◌, true};
+    ghost use Rattle.sqlite.specs.declared.types.Value.TheVariants.{Int};
+    ghost use Rattle.isad_core.specs.Days.{is_day_number};
+
+    ghost cells = { λ p. Int (pos p.unit) ∷ Int p.until ∷ [] };
+
+    ghost is_legible = { λ p. is_day_number p.until ≡ true };
+
+    fn read(row: &Row) -> Result<Permit, StoreFault> {
+        let number: i32 = row.get(1)?;
+        let Some(until) = Day::from_number(number) else {
+            return Err(StoreFault::Schema);
+        };
+        Ok(Permit {
+            unit: row.get(0)?,
+            until,
+        })
+    }
+}
+
+/// The permits of a ticket, by their units. They are found by the ticket, with which the primary key begins.
+fn permits_with<S: Alter>(
+    alloc: Global,
+    conn: &mut Connection<S>,
+    ticket: u64,
+) -> Result<Vec<Permit>, StoreFault>
+    requires inside { InOffice (state S.Store conn.old) }
+    requires small { IsNumber ticket }
+    ensures tells { Answers S.Store RepresentsDeskAlone IsLegible conn.old conn.new result (λ _. ⊤)
+        (λ _ d all. IsOrdered by_unit (permits_of ticket d) all.items) }
+{
+    find(
+        alloc,
+        conn,
+        "SELECT unit, until FROM permit WHERE ticket = ?1 ORDER BY ticket, unit",
+        &[number(ticket)],
+    )
+}
+
+/// The permits of a ticket, by their units: none where the ticket was not given.
+pub fn permits<S: Alter>(
+    alloc: Global,
+    conn: &mut Connection<S>,
+    ticket: u64,
+) -> Result<Vec<Permit>, StoreFault>
+    requires inside { InOffice (state S.Store conn.old) }
+    ensures tells { Answers S.Store RepresentsDeskAlone IsLegible conn.old conn.new result (λ _. ⊤)
+        (λ _ d all. IsOrdered by_unit (permits_of ticket d) all.items) }
+{
+    if ticket > u64::from(MOST_TICKETS) {
+        return Ok(Vec::new(alloc));
+    }
+    permits_with(alloc, conn, ticket)
+}
+
+/// Adds a permit for a unit for which the ticket has none.
+fn insert_permit<S: Alter>(
+    conn: &mut Connection<S>,
+    ticket: u64,
+    unit: u64,
+    until: Day,
+) -> Result<(), StoreFault>
+    requires inside { InOffice (state S.Store conn.old) }
+    requires small { IsNumber ticket }
+    requires known { IsNumber unit }
+    ensures leaves { Leaves (state S.Store conn.old) (state S.Store conn.new) result }
+    ensures puts { HasCleanDisk (state S.Store conn.new)
+        → OnOk result (PutsRow tables.permit.tree
+        (permit_cells (
+          next_rowid
+              ((state S.Store conn.old).now.trees tables.permit.tree),
+          record { ticket = ticket; unit = unit; until = until },
+        )) (state S.Store conn.old).now (state S.Store conn.new).now) }
+    ensures faults { (ps : List PermitRow)
+        → HasNumbered permit_cells ((state S.Store conn.old).now.trees tables.permit.tree) ps
+        → list_any (is_permit ticket unit) ps ≡ false → HasUnitRow unit (state S.Store conn.old).now.trees
+        → FaultsHaveCause (state S.Store conn.old) (state S.Store conn.new) result }
+{
+    change(
+        conn,
+        "INSERT INTO permit (ticket, unit, until) VALUES (?1, ?2, ?3)",
+        &[number(ticket), number(unit), day(until)],
+    )
+}
+
+/// Takes a ticket's permit for a unit, where it has one. It is found by its primary key.
+fn clear_permit<S: Alter>(
+    conn: &mut Connection<S>,
+    ticket: u64,
+    unit: u64,
+) -> Result<(), StoreFault>
+    requires inside { InOffice (state S.Store conn.old) }
+    requires small { IsNumber ticket }
+    requires known { IsNumber unit }
+    ensures leaves { Leaves (state S.Store conn.old) (state S.Store conn.new) result }
+    ensures rows { HasCleanDisk (state S.Store conn.new) → (ps : List PermitRow)
+        → HasNumbered permit_cells ((state S.Store conn.old).now.trees tables.permit.tree) ps
+        → OnOk result (HasNumbered permit_cells ((state S.Store conn.new).now.trees tables.permit.tree)
+        (without_permit ticket unit ps)) }
+    ensures only { HasCleanDisk (state S.Store conn.new)
+        → OnOk result (OnlyTouches (tables.permit.tree ∷ []) (state S.Store conn.old).now
+        (state S.Store conn.new).now) }
+    ensures faults { FaultsHaveCause (state S.Store conn.old) (state S.Store conn.new) result }
+{
+    change(
+        conn,
+        "DELETE FROM permit WHERE ticket = ?1 AND unit = ?2",
+        &[number(ticket), number(unit)],
+    )
+}
+
+/// Gives a ticket a permit for a unit to a day, in place of the one that it has.
+pub fn grant<S: Alter>(
+    conn: &mut Connection<S>,
+    ticket: u64,
+    unit: u64,
+    until: Day,
+) -> Result<(), StoreFault>
+    requires inside { InOffice (state S.Store conn.old) }
+    requires small { IsNumber ticket }
+    requires known { IsNumber unit }
+    ensures makes { Updates S.Store RepresentsDeskAlone IsLegible conn.old conn.new result
+        (MayHave ticket unit (state S.Store conn.old).now.trees) (with_permit ticket unit until)
+        (tables.permit.tree ∷ []) }
+{
+    clear_permit(conn, ticket, unit)?;
+    insert_permit(conn, ticket, unit, until)
+}
+
+/// Takes a ticket's permit for a unit back.
+pub fn revoke<S: Alter>(conn: &mut Connection<S>, ticket: u64, unit: u64) -> Result<(), StoreFault>
+    requires inside { InOffice (state S.Store conn.old) }
+    requires small { IsNumber ticket }
+    requires known { IsNumber unit }
+    ensures makes { Updates S.Store RepresentsDeskAlone IsLegible conn.old conn.new result (λ _. ⊤) (revoked ticket unit)
+        (tables.permit.tree ∷ []) }
+{
+    clear_permit(conn, ticket, unit)
+}

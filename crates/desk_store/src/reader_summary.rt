@@ -1,0 +1,237 @@
+//! What the desk knows of a ticket.
+
+ghost use Rattle.std.specs.Prelude.{◌≡◌, ◌<◌, ◌≤◌, ◌^◌, ◌&&◌, nat_eq, List as Rows, length, map, filter};
+ghost use Rattle.std.specs.Prelude.{option_map, slice_get, IfOk, IfSome, ⊤};
+ghost use Rattle.std.specs.List.{count_by};
+ghost use Rattle.std.specs.Ordering.{int_eq};
+ghost use Rattle.sqlite.specs.Held.{state};
+ghost use Rattle.sqlite.specs.State.{HasCleanDisk};
+ghost use Rattle.isad_core.specs.Limits.{IsNumber, most_orders};
+ghost use Rattle.desk_core.specs.DeskRows.{OrderRow};
+ghost use Rattle.office_tables.specs.Asking.{Reads};
+ghost use Rattle.office_tables.specs.Calls.{Answers};
+ghost use Rattle.office_tables.specs.Faults.{FaultsHaveCause};
+ghost use Rattle.office_tables.specs.Schema as tables;
+ghost use Rattle.office_tables.specs.Step.{InOffice, Holds};
+ghost use Rattle.desk_store.specs.Readers.{is_live, live_orders, placed_on, card_of};
+ghost use Rattle.desk_store.specs.Rows.{order_cells};
+ghost use Rattle.desk_store.specs.Represents.{RepresentsDeskAlone, IsLegible};
+ghost use Rattle.office_tables.specs.Numbered.{AreCounted};
+
+use crate::readers::{MOST_TICKETS, NamedReader, readers_with};
+use crate::taken_seats::{TakenSeat, seats_with};
+use desk_core::Reader;
+use isad_core::{Day, List, Text};
+use office_tables::from_row::FromRow;
+use office_tables::value::{day, number};
+use office_tables::{StoreFault, find, find_number};
+use sqlite::{Alter, Connection, Row};
+use std::alloc::{AllocError, Global};
+
+/// An order that waits or is out.
+#[derive(Debug, Clone, Copy, PartialEq, Eq)]
+pub struct LiveOrder {
+    pub order: u64,
+    pub container: u64,
+    /// It is out; otherwise it waits.
+    pub is_out: bool,
+}
+
+/// A reader's card on a day.
+#[derive(Debug, Drop)]
+pub struct ReaderCard {
+    pub reader: Reader,
+    pub name: Text,
+    /// By number.
+    pub live: List<LiveOrder>,
+    /// How many orders the ticket placed on the day, ended ones too.
+    pub placed: u32,
+    /// How many orders there are, of all tickets.
+    pub orders: u64,
+}
+
+/// What the table tells of an order that has not ended.
+#[derive(Debug, Clone, Copy, PartialEq, Eq, Drop)]
+pub(crate) struct OrderLine {
+    pub order: u64,
+    pub container: u64,
+    /// 1 waiting, 2 out.
+    pub state: u64,
+}
+
+impl FromRow for OrderLine {
+    ghost use Rattle.std.specs.Prelude.{pos, [], ◌∷◌, ⊤};
+    ghost use Rattle.sqlite.specs.declared.types.Value.TheVariants.{Int};
+
+    ghost cells = { λ o. Int (pos o.order) ∷ Int (pos o.container) ∷ Int (pos o.state) ∷ [] };
+
+    ghost is_legible = { λ _. ⊤ };
+
+    fn read(row: &Row) -> Result<OrderLine, StoreFault> {
+        Ok(OrderLine {
+            order: row.get(0)?,
+            container: row.get(1)?,
+            state: row.get(2)?,
+        })
+    }
+}
+
+/// The orders of a ticket that wait or are out, by number. They are found by the ticket, in the
+/// index of the orders by ticket and day.
+pub(crate) fn live_lines<S: Alter>(
+    alloc: Global,
+    conn: &mut Connection<S>,
+    ticket: u64,
+) -> Result<Vec<OrderLine>, StoreFault>
+    requires inside { InOffice (state S.Store conn.old) }
+    requires small { IsNumber ticket }
+    ensures reads { Reads (state S.Store conn.old) (state S.Store conn.new) result }
+    ensures rows { HasCleanDisk (state S.Store conn.new) → (xs : Rows OrderRow)
+        → Holds tables.orders order_cells (state S.Store conn.old) xs → AreCounted (λ o. o.id) xs
+        → IfOk result (λ found. found.items ≡ map
+        (λ (o : OrderRow). record { order = o.id; container = o.container; state = o.state })
+        (filter (λ o. nat_eq ticket o.ticket && is_live o) xs)) }
+    ensures faults { (xs : Rows OrderRow) → Holds tables.orders order_cells (state S.Store conn.old) xs
+        → FaultsHaveCause (state S.Store conn.old) (state S.Store conn.new) result }
+{
+    find(
+        alloc,
+        conn,
+        "SELECT id, container, state FROM orders WHERE ticket = ?1 AND state < 3 ORDER BY id",
+        &[number(ticket)],
+    )
+}
+
+/// How many orders there are, of all tickets: the greatest number, which is at the table's end.
+pub(crate) fn last_order<S: Alter>(conn: &mut Connection<S>) -> Result<u32, StoreFault>
+    requires inside { InOffice (state S.Store conn.old) }
+    ensures reads { Reads (state S.Store conn.old) (state S.Store conn.new) result }
+    ensures number { HasCleanDisk (state S.Store conn.new) → (xs : Rows OrderRow)
+        → Holds tables.orders order_cells (state S.Store conn.old) xs → length xs ≤ most_orders
+        → AreCounted (λ o. o.id) xs → IfOk result (λ n. n ≡ length xs) }
+    ensures faults { (xs : Rows OrderRow) → Holds tables.orders order_cells (state S.Store conn.old) xs
+        → length xs ≤ most_orders → AreCounted (λ o. o.id) xs
+        → FaultsHaveCause (state S.Store conn.old) (state S.Store conn.new) result }
+{
+    find_number(conn, "SELECT id FROM orders ORDER BY id DESC LIMIT 1", &[])
+}
+
+/// How many orders a ticket placed on a day, ended ones too. They are counted by the index of the
+/// orders by ticket and day, so that those of other days are not looked at.
+pub(crate) fn placed_on<S: Alter>(
+    conn: &mut Connection<S>,
+    ticket: u64,
+    on: Day,
+) -> Result<u32, StoreFault>
+    requires inside { InOffice (state S.Store conn.old) }
+    requires small { IsNumber ticket }
+    ensures reads { Reads (state S.Store conn.old) (state S.Store conn.new) result }
+    ensures number { HasCleanDisk (state S.Store conn.new) → (xs : Rows OrderRow)
+        → Holds tables.orders order_cells (state S.Store conn.old) xs → length xs ≤ most_orders
+        → IfOk result (λ n. n ≡ count_by (λ (o : OrderRow). nat_eq ticket o.ticket && int_eq o.day on) xs) }
+    ensures faults { (xs : Rows OrderRow) → Holds tables.orders order_cells (state S.Store conn.old) xs
+        → length xs ≤ most_orders → FaultsHaveCause (state S.Store conn.old) (state S.Store conn.new) result }
+{
+    find_number(
+        conn,
+        "SELECT count(*) FROM orders WHERE ticket = ?1 AND day = ?2",
+        &[number(ticket), day(on)],
+    )
+}
+
+/// What the orders tell of a ticket on a day.
+#[derive(Debug, Drop)]
+struct TicketOrders {
+    live: List<LiveOrder>,
+    placed: u32,
+    orders: u64,
+}
+
+/// The orders that these rows tell.
+fn live_in(alloc: Global, lines: &[OrderLine]) -> Result<List<LiveOrder>, AllocError>
+    ensures { IfOk result (λ live. live ≡ map (λ (o : OrderLine).
+        record { order = o.order; container = o.container; is_out = nat_eq o.state 2 }) lines.now) }
+{
+    let live = lines
+        .iter()
+        .map(|line| LiveOrder {
+            order: line.order,
+            container: line.container,
+            is_out: line.state == 2,
+        })
+        .collect(alloc)?;
+    Ok(List(live))
+}
+
+/// How many of the orders are out.
+fn count_out(live: &[LiveOrder]) -> u32
+    ensures { length live.now < 2 ^ 32 → result ≡ count_by (λ o. o.is_out) live.now }
+{
+    let out = live.iter().filter(|order| order.is_out).count();
+    u32::try_from(out).unwrap_or(u32::MAX)
+}
+
+/// The seat that the first of these rows tells.
+fn seat_in(seats: &[TakenSeat]) -> Option<u32>
+    ensures { result ≡ option_map (λ s. s.seat) (slice_get seats.now 0) }
+{
+    seats.first().map(|taken| taken.seat)
+}
+
+/// What the orders tell of a ticket: those that wait or are out, and how many it placed on the day.
+fn orders_of<S: Alter>(
+    alloc: Global,
+    conn: &mut Connection<S>,
+    ticket: u64,
+    today: Day,
+) -> Result<TicketOrders, StoreFault>
+    requires inside { InOffice (state S.Store conn.old) }
+    requires small { IsNumber ticket }
+    ensures tells { Answers S.Store RepresentsDeskAlone IsLegible conn.old conn.new result (λ _. ⊤) (λ _ d told. told
+        ≡ record { live = live_orders ticket d; placed = placed_on ticket today d; orders = length d.orders }) }
+{
+    let lines = live_lines(alloc, conn, ticket)?;
+    let live = live_in(alloc, &lines)?;
+    let placed = placed_on(conn, ticket, today)?;
+    let orders = last_order(conn)?;
+    Ok(TicketOrders {
+        live,
+        placed,
+        orders: u64::from(orders),
+    })
+}
+
+/// A reader's card on a day, or none where the ticket was not given.
+pub fn reader<S: Alter>(
+    alloc: Global,
+    conn: &mut Connection<S>,
+    ticket: u64,
+    today: Day,
+) -> Result<Option<ReaderCard>, StoreFault>
+    requires inside { InOffice (state S.Store conn.old) }
+    ensures tells { Answers S.Store RepresentsDeskAlone IsLegible conn.old conn.new result (λ _. ⊤)
+        (λ _ d card. card ≡ card_of ticket today d) }
+    ensures small { IfOk result (λ card. IfSome card (λ _. IsNumber ticket)) }
+{
+    if ticket > u64::from(MOST_TICKETS) {
+        return Ok(None);
+    }
+    let named = readers_with(alloc, conn, ticket)?;
+    let Some(NamedReader { name, until }) = named.into_iter().next() else {
+        return Ok(None);
+    };
+    let seats = seats_with(alloc, conn, ticket)?;
+    let told = orders_of(alloc, conn, ticket, today)?;
+    Ok(Some(ReaderCard {
+        reader: Reader {
+            ticket,
+            until,
+            seat: seat_in(&seats),
+            held: count_out(told.live.as_slice()),
+        },
+        name,
+        live: told.live,
+        placed: told.placed,
+        orders: told.orders,
+    }))
+}

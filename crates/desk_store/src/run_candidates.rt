@@ -1,0 +1,126 @@
+//! What a run may take.
+
+ghost use Rattle.std.specs.Prelude.{◌≡◌, ◌&&◌, ◌||◌, ℕ, not, nat_eq, List, map, filter, IfOk, OnOk, ⊤};
+ghost use Rattle.std.specs.List.{list_any};
+ghost use Rattle.sqlite.specs.Held.{state};
+ghost use Rattle.sqlite.specs.State.{HasCleanDisk};
+ghost use Rattle.desk_core.specs.DeskRows.{OrderRow};
+ghost use Rattle.office_tables.specs.Asking.{Reads};
+ghost use Rattle.office_tables.specs.Calls.{Answers};
+ghost use Rattle.office_tables.specs.Faults.{FaultsHaveCause};
+ghost use Rattle.office_tables.specs.Schema as tables;
+ghost use Rattle.office_tables.specs.Step.{InOffice, Holds};
+ghost use Rattle.desk_store.specs.Holdings.{candidates_of};
+ghost use Rattle.desk_store.specs.Picking.{is_earliest, is_new};
+ghost use Rattle.desk_store.specs.Rows.{order_cells};
+ghost use Rattle.desk_store.specs.Represents.{RepresentsDeskAlone, IsLegible};
+ghost use Rattle.office_tables.specs.Numbered.{AreByNumber, AreCounted};
+ghost use Rattle.desk_store.specs.declared.holdings.FirstOrder.{FirstOrder};
+
+use crate::holdings::FirstOrder;
+use crate::loans::{HoldingLine, holding_lines};
+use office_tables::from_row::FromRow;
+use office_tables::{StoreFault, find};
+use sqlite::{Alter, Connection, Row};
+use std::alloc::{AllocError, Global};
+use std::collections::BTreeSet;
+
+impl FromRow for FirstOrder {
+    ghost use Rattle.std.specs.Prelude.{pos, [], ◌∷◌, ⊤};
+    ghost use Rattle.sqlite.specs.declared.types.Value.TheVariants.{Int};
+
+    ghost cells = { λ o. Int (pos o.order) ∷ Int (pos o.ticket) ∷ Int (pos o.container) ∷ [] };
+
+    ghost is_legible = { λ _. ⊤ };
+
+    fn read(row: &Row) -> Result<FirstOrder, StoreFault> {
+        Ok(FirstOrder {
+            order: row.get(0)?,
+            ticket: row.get(1)?,
+            container: row.get(2)?,
+        })
+    }
+}
+
+/// The orders that wait, by number. They are found by the index of the orders by state, container
+/// and ticket, so that those that have ended are not looked at.
+fn waiting_orders<S: Alter>(
+    alloc: Global,
+    conn: &mut Connection<S>,
+) -> Result<Vec<FirstOrder>, StoreFault>
+    requires inside { InOffice (state S.Store conn.old) }
+    ensures reads { Reads (state S.Store conn.old) (state S.Store conn.new) result }
+    ensures rows { HasCleanDisk (state S.Store conn.new) → (xs : List OrderRow)
+        → Holds tables.orders order_cells (state S.Store conn.old) xs → AreCounted (λ o. o.id) xs
+        → IfOk result (λ found. found.items ≡ map
+        (λ (o : OrderRow). record { container = o.container; order = o.id; ticket = o.ticket })
+        (filter (λ (o : OrderRow). nat_eq 1 o.state) xs)) }
+    ensures faults { (xs : List OrderRow) → Holds tables.orders order_cells (state S.Store conn.old) xs
+        → FaultsHaveCause (state S.Store conn.old) (state S.Store conn.new) result }
+{
+    find(
+        alloc,
+        conn,
+        "SELECT id, ticket, container FROM orders WHERE state = 1 ORDER BY id",
+        &[],
+    )
+}
+
+/// Keeps the number of a container, and says whether it is new.
+fn keep(known: &mut BTreeSet<u64>, container: u64) -> Result<bool, AllocError>
+    ensures new { IfOk result (λ new. new ≡ not (list_any (nat_eq container) known.old.keys)) }
+    ensures kept { OnOk result ((c : ℕ)
+        → list_any (nat_eq c) known.new.keys ≡ (nat_eq c container || list_any (nat_eq c) known.old.keys)) }
+{
+    let is_new = known.insert(container)?;
+    Ok(is_new)
+}
+
+/// The containers that are not on the shelf.
+fn absent(alloc: Global, lines: &[HoldingLine]) -> Result<BTreeSet<u64>, AllocError>
+    ensures { IfOk result (λ known. (c : ℕ)
+        → list_any (nat_eq c) known.keys ≡ list_any (λ (h : HoldingLine). nat_eq c h.container) lines.now) }
+{
+    let mut known = BTreeSet::new(alloc);
+    for line in lines {
+        keep(&mut known, line.container)?;
+    }
+    Ok(known)
+}
+
+/// Of these orders, which rise, the first for each container that is not known.
+fn firsts(
+    alloc: Global,
+    known: BTreeSet<u64>,
+    orders: &[FirstOrder],
+) -> Result<Vec<FirstOrder>, AllocError>
+    ensures { AreByNumber (λ (o : FirstOrder). o.order) orders.now
+        → IfOk result (λ firsts. firsts.items
+        ≡ filter (λ o. is_earliest o orders.now && is_new known.keys o) orders.now) }
+{
+    let mut known = known;
+    let mut firsts = Vec::new(alloc);
+    for order in orders {
+        if keep(&mut known, order.container)? {
+            firsts.push(*order)?;
+        }
+    }
+    Ok(firsts)
+}
+
+/// What a run may take: the containers on the shelf for which an order waits, each with the first
+/// of them, by these orders.
+pub fn candidates<S: Alter>(
+    alloc: Global,
+    conn: &mut Connection<S>,
+) -> Result<Vec<FirstOrder>, StoreFault>
+    requires inside { InOffice (state S.Store conn.old) }
+    ensures tells { Answers S.Store RepresentsDeskAlone IsLegible conn.old conn.new result (λ _. ⊤)
+        (λ _ d all. all.items ≡ candidates_of d) }
+{
+    let orders = waiting_orders(alloc, conn)?;
+    let lines = holding_lines(alloc, conn)?;
+    let known = absent(alloc, &lines)?;
+    let firsts = firsts(alloc, known, &orders)?;
+    Ok(firsts)
+}

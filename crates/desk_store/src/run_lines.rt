@@ -1,0 +1,145 @@
+//! What runs brought.
+
+ghost use Rattle.std.specs.Prelude.{◌≡◌, nat_eq, true, List as Rows, map, filter, IfOk};
+ghost use Rattle.std.specs.List.{AllByRecursion, AllZip};
+ghost use Rattle.sqlite.specs.Held.{state};
+ghost use Rattle.sqlite.specs.State.{HasCleanDisk};
+ghost use Rattle.isad_core.specs.Days.{is_day_number};
+ghost use Rattle.isad_core.specs.Limits.{IsNumber};
+ghost use Rattle.desk_core.specs.DeskRows.{RunRow};
+ghost use Rattle.office_tables.specs.Asking.{Reads};
+ghost use Rattle.office_tables.specs.Calls.{Answers};
+ghost use Rattle.office_tables.specs.Faults.{FaultsHaveCause};
+ghost use Rattle.office_tables.specs.Schema as tables;
+ghost use Rattle.office_tables.specs.Step.{InOffice, Holds};
+ghost use Rattle.desk_store.specs.Rows.{run_cells};
+ghost use Rattle.desk_store.specs.Runs.{run_with};
+ghost use Rattle.office_tables.specs.Numbered.{AreCounted};
+ghost use Rattle.desk_store.specs.Stacks.{RepresentsQueues, IsLegibleStacks, AreKnown, IsToldRun, IsToldLine, IsKnownLine};
+
+use crate::container_labels::box_of;
+use crate::runs::{Brought, MOST_RUNS, TakenLine, lines_with};
+use desk_core::Candidate;
+use isad_core::{Day, List};
+use office_tables::from_row::FromRow;
+use office_tables::value::number;
+use office_tables::{StoreFault, find};
+use sqlite::{Alter, Connection, Row};
+use std::alloc::Global;
+
+/// The day on which a run was made.
+#[derive(Debug, Clone, Copy, PartialEq, Eq, Drop)]
+struct RunDay {
+    day: Day,
+}
+
+impl FromRow for RunDay {
+    ghost use Rattle.std.specs.Prelude.{◌≡◌, [], ◌∷◌, true};
+    ghost use Rattle.sqlite.specs.declared.types.Value.TheVariants.{Int};
+    ghost use Rattle.isad_core.specs.Days.{is_day_number};
+
+    ghost cells = { λ r. Int r.day ∷ [] };
+
+    ghost is_legible = { λ r. is_day_number r.day ≡ true };
+
+    fn read(row: &Row) -> Result<RunDay, StoreFault> {
+        let number: i32 = row.get(0)?;
+        let Some(day) = Day::from_number(number) else {
+            return Err(StoreFault::Schema);
+        };
+        Ok(RunDay { day })
+    }
+}
+
+/// The day of a run: one, or none. A run is found by the number of its row.
+fn days_with<S: Alter>(
+    alloc: Global,
+    conn: &mut Connection<S>,
+    run: u64,
+) -> Result<Vec<RunDay>, StoreFault>
+    requires inside { InOffice (state S.Store conn.old) }
+    requires small { IsNumber run }
+    ensures reads { Reads (state S.Store conn.old) (state S.Store conn.new) result }
+    ensures rows { HasCleanDisk (state S.Store conn.new) → (xs : Rows RunRow)
+        → Holds tables.run run_cells (state S.Store conn.old) xs → AreCounted (λ r. r.id) xs
+        → IfOk result (λ found. found.items ≡ map (λ (r : RunRow). record { day = r.day })
+        (filter (λ r. nat_eq run r.id) xs)) }
+    ensures faults { (xs : Rows RunRow) → Holds tables.run run_cells (state S.Store conn.old) xs
+        → AllByRecursion (λ r. is_day_number r.day ≡ true) xs
+        → FaultsHaveCause (state S.Store conn.old) (state S.Store conn.new) result }
+{
+    find(
+        alloc,
+        conn,
+        "SELECT day FROM run WHERE id = ?1 ORDER BY id",
+        &[number(run)],
+    )
+}
+
+/// A line of a run with what is written on its container.
+fn candidate<S: Alter>(
+    alloc: Global,
+    conn: &mut Connection<S>,
+    line: &TakenLine,
+) -> Result<Candidate, StoreFault>
+    requires inside { InOffice (state S.Store conn.old) }
+    ensures tells { Answers S.Store RepresentsQueues IsLegibleStacks conn.old conn.new result (IsKnownLine line.now)
+        (λ _ stacks told. IsToldLine stacks line.now told) }
+{
+    let Some(written) = box_of(alloc, conn, line.container)? else {
+        return Err(StoreFault::Schema);
+    };
+    Ok(Candidate {
+        container: line.container,
+        order: line.order,
+        ticket: line.ticket,
+        location: written.location,
+        name: written.name,
+        kind: written.kind,
+    })
+}
+
+/// These lines with what is written on their containers.
+fn candidates_of<S: Alter>(
+    alloc: Global,
+    conn: &mut Connection<S>,
+    lines: &[TakenLine],
+) -> Result<Vec<Candidate>, StoreFault>
+    requires inside { InOffice (state S.Store conn.old) }
+    ensures tells { Answers S.Store RepresentsQueues IsLegibleStacks conn.old conn.new result
+        (λ stacks. AllByRecursion (λ l. IsKnownLine l stacks) lines.now)
+        (λ _ stacks told. AllZip (IsToldLine stacks) lines.now told.items) }
+{
+    let mut told = Vec::new(alloc);
+    for line in lines {
+        let candidate = candidate(alloc, conn, line)?;
+        told.push(candidate)?;
+    }
+    Ok(told)
+}
+
+/// What a run brought: its day, and its lines with what is written on their containers; none where
+/// there was no such run.
+pub fn run<S: Alter>(
+    alloc: Global,
+    conn: &mut Connection<S>,
+    run: u64,
+) -> Result<Option<Brought>, StoreFault>
+    requires inside { InOffice (state S.Store conn.old) }
+    ensures tells { Answers S.Store RepresentsQueues IsLegibleStacks conn.old conn.new result (AreKnown run)
+        (λ _ stacks found. IsToldRun stacks (run_with run stacks.desk) found) }
+{
+    if run > u64::from(MOST_RUNS) {
+        return Ok(None);
+    }
+    let days = days_with(alloc, conn, run)?;
+    let Some(made) = days.first().copied() else {
+        return Ok(None);
+    };
+    let lines = lines_with(alloc, conn, run)?;
+    let told = candidates_of(alloc, conn, &lines)?;
+    Ok(Some(Brought {
+        day: made.day,
+        lines: List(told),
+    }))
+}

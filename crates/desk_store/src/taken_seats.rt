@@ -1,0 +1,145 @@
+//! Who sits where.
+
+ghost use Rattle.std.specs.Prelude.{◌≡◌, ◌<◌, ◌^◌, not, nat_eq, false, List, [], ◌∷◌, map, filter, OnOk};
+ghost use Rattle.std.specs.Prelude.{IfOk, IfSome, ⊤};
+ghost use Rattle.std.specs.List.{AllByRecursion, list_any};
+ghost use Rattle.sqlite.specs.Held.{state};
+ghost use Rattle.sqlite.specs.State.{HasCleanDisk};
+ghost use Rattle.isad_core.specs.Limits.{IsNumber};
+ghost use Rattle.desk_core.specs.DeskRows.{SeatRow};
+ghost use Rattle.office_tables.specs.Asking.{Reads};
+ghost use Rattle.office_tables.specs.Calls.{Updates, Answers};
+ghost use Rattle.office_tables.specs.Changing.{Leaves};
+ghost use Rattle.office_tables.specs.Faults.{FaultsHaveCause};
+ghost use Rattle.office_tables.specs.Schema as tables;
+ghost use Rattle.office_tables.specs.Step.{InOffice, Holds, HasRows, OnlyTouches, PutsRow};
+ghost use Rattle.desk_store.specs.Rows.{seat_cells};
+ghost use Rattle.desk_store.specs.Seats.{taken_seats, with_seat, MayTake};
+ghost use Rattle.desk_store.specs.Represents.{RepresentsDeskAlone, IsLegible};
+ghost use Rattle.office_tables.specs.Numbered.{AreByNumber};
+ghost use Rattle.desk_store.specs.declared.taken_seats.TakenSeat.{TakenSeat};
+
+use office_tables::from_row::FromRow;
+use office_tables::value::number;
+use office_tables::{StoreFault, change, find};
+use sqlite::{Alter, Connection, Row};
+use std::alloc::Global;
+
+/// A seat that is taken.
+#[derive(Debug, Clone, Copy, PartialEq, Eq, Drop)]
+pub struct TakenSeat {
+    pub seat: u32,
+    pub ticket: u64,
+}
+
+impl FromRow for TakenSeat {
+    ghost use Rattle.std.specs.Prelude.{pos, [], ◌∷◌, ◌<◌, ◌^◌};
+    ghost use Rattle.sqlite.specs.declared.types.Value.TheVariants.{Int};
+
+    ghost cells = { λ s. Int (pos s.seat) ∷ Int (pos s.ticket) ∷ [] };
+
+    ghost is_legible = { λ s. s.seat < 2 ^ 32 };
+
+    fn read(row: &Row) -> Result<TakenSeat, StoreFault> {
+        Ok(TakenSeat {
+            seat: row.get(0)?,
+            ticket: row.get(1)?,
+        })
+    }
+}
+
+/// The seats that are taken, by number. The table is read whole: it has a row for each taken seat.
+pub fn seats<S: Alter>(
+    alloc: Global,
+    conn: &mut Connection<S>,
+) -> Result<Vec<TakenSeat>, StoreFault>
+    requires inside { InOffice (state S.Store conn.old) }
+    ensures tells { Answers S.Store RepresentsDeskAlone IsLegible conn.old conn.new result (λ _. ⊤)
+        (λ _ d all. all.items ≡ taken_seats d) }
+{
+    find(
+        alloc,
+        conn,
+        "SELECT seat, ticket FROM seat ORDER BY seat",
+        &[],
+    )
+}
+
+/// The seat of a ticket: one, or none. Seats are found by their tickets, which are unique.
+pub(crate) fn seats_with<S: Alter>(
+    alloc: Global,
+    conn: &mut Connection<S>,
+    ticket: u64,
+) -> Result<Vec<TakenSeat>, StoreFault>
+    requires inside { InOffice (state S.Store conn.old) }
+    requires small { IsNumber ticket }
+    ensures reads { Reads (state S.Store conn.old) (state S.Store conn.new) result }
+    ensures rows { HasCleanDisk (state S.Store conn.new) → (xs : List SeatRow)
+        → Holds tables.seat seat_cells (state S.Store conn.old) xs → AreByNumber (λ s. s.seat) xs
+        → IfOk result (λ found. found.items ≡ map (λ (s : SeatRow). record { seat = s.seat; ticket = s.ticket })
+        (filter (λ s. nat_eq ticket s.ticket) xs)) }
+    ensures faults { (xs : List SeatRow) → Holds tables.seat seat_cells (state S.Store conn.old) xs
+        → AllByRecursion (λ s. s.seat < 2 ^ 32) xs
+        → FaultsHaveCause (state S.Store conn.old) (state S.Store conn.new) result }
+{
+    find(
+        alloc,
+        conn,
+        "SELECT seat, ticket FROM seat WHERE ticket = ?1 ORDER BY seat",
+        &[number(ticket)],
+    )
+}
+
+/// Takes a seat that is free for a ticket that has none.
+fn insert_seat<S: Alter>(conn: &mut Connection<S>, seat: u64, ticket: u64) -> Result<(), StoreFault>
+    requires inside { InOffice (state S.Store conn.old) }
+    requires number { IsNumber seat }
+    requires small { IsNumber ticket }
+    ensures leaves { Leaves (state S.Store conn.old) (state S.Store conn.new) result }
+    ensures puts { HasCleanDisk (state S.Store conn.new)
+        → OnOk result (PutsRow tables.seat.tree (seat_cells (record { seat = seat; ticket = ticket }))
+        (state S.Store conn.old).now (state S.Store conn.new).now) }
+    ensures faults { (xs : List SeatRow) → Holds tables.seat seat_cells (state S.Store conn.old) xs
+        → list_any (λ s. nat_eq seat s.seat) xs ≡ false → list_any (λ s. nat_eq ticket s.ticket) xs ≡ false
+        → FaultsHaveCause (state S.Store conn.old) (state S.Store conn.new) result }
+{
+    change(
+        conn,
+        "INSERT INTO seat (seat, ticket) VALUES (?1, ?2)",
+        &[number(seat), number(ticket)],
+    )
+}
+
+/// Frees a seat.
+fn clear_seat<S: Alter>(conn: &mut Connection<S>, seat: u64) -> Result<(), StoreFault>
+    requires inside { InOffice (state S.Store conn.old) }
+    requires number { IsNumber seat }
+    ensures leaves { Leaves (state S.Store conn.old) (state S.Store conn.new) result }
+    ensures rows { HasCleanDisk (state S.Store conn.new) → (xs : List SeatRow)
+        → Holds tables.seat seat_cells (state S.Store conn.old) xs → AreByNumber (λ s. s.seat) xs
+        → OnOk result (HasRows tables.seat.tree (map seat_cells (filter (λ s. not (nat_eq seat s.seat)) xs))
+        (state S.Store conn.old).now (state S.Store conn.new).now) }
+    ensures only { HasCleanDisk (state S.Store conn.new)
+        → OnOk result (OnlyTouches (tables.seat.tree ∷ []) (state S.Store conn.old).now
+        (state S.Store conn.new).now) }
+    ensures faults { FaultsHaveCause (state S.Store conn.old) (state S.Store conn.new) result }
+{
+    change(conn, "DELETE FROM seat WHERE seat = ?1", &[number(seat)])
+}
+
+/// Gives a seat to a ticket, or frees it.
+pub fn set_seat<S: Alter>(
+    conn: &mut Connection<S>,
+    seat: u32,
+    who: Option<u64>,
+) -> Result<(), StoreFault>
+    requires inside { InOffice (state S.Store conn.old) }
+    requires small { IfSome who IsNumber }
+    ensures makes { Updates S.Store RepresentsDeskAlone IsLegible conn.old conn.new result (MayTake seat who)
+        (with_seat seat who) (tables.seat.tree ∷ []) }
+{
+    match who {
+        Some(ticket) => insert_seat(conn, u64::from(seat), ticket),
+        None => clear_seat(conn, u64::from(seat)),
+    }
+}

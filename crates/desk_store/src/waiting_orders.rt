@@ -1,0 +1,99 @@
+//! Who waits for what.
+
+ghost use Rattle.std.specs.Prelude.{◌≡◌, ◌≤◌, List as Rows, length, map, filter, IfOk};
+ghost use Rattle.std.specs.List.{count_by, list_any};
+ghost use Rattle.sqlite.specs.Held.{state};
+ghost use Rattle.sqlite.specs.State.{HasCleanDisk};
+ghost use Rattle.isad_core.specs.Limits.{IsNumber, most_orders};
+ghost use Rattle.desk_core.specs.DeskRows.{OrderRow};
+ghost use Rattle.office_tables.specs.Asking.{Reads};
+ghost use Rattle.office_tables.specs.Calls.{Answers};
+ghost use Rattle.office_tables.specs.Faults.{FaultsHaveCause};
+ghost use Rattle.office_tables.specs.Schema as tables;
+ghost use Rattle.office_tables.specs.Step.{InOffice, Holds};
+ghost use Rattle.desk_store.specs.Holdings.{waits_for};
+ghost use Rattle.desk_store.specs.Rows.{order_cells};
+ghost use Rattle.desk_store.specs.Represents.{RepresentsDeskAlone, IsLegible};
+ghost use Rattle.office_tables.specs.Numbered.{AreCounted};
+
+use crate::orders::WaitingOrder;
+use office_tables::from_row::FromRow;
+use office_tables::value::{NO_NUMBER, number};
+use office_tables::{StoreFault, find, find_number};
+use sqlite::{Alter, Connection, Row};
+use std::alloc::Global;
+
+impl FromRow for WaitingOrder {
+    ghost use Rattle.std.specs.Prelude.{pos, [], ◌∷◌, ⊤};
+    ghost use Rattle.sqlite.specs.declared.types.Value.TheVariants.{Int};
+
+    ghost cells = { λ o. Int (pos o.order) ∷ Int (pos o.ticket) ∷ [] };
+
+    ghost is_legible = { λ _. ⊤ };
+
+    fn read(row: &Row) -> Result<WaitingOrder, StoreFault> {
+        Ok(WaitingOrder {
+            order: row.get(0)?,
+            ticket: row.get(1)?,
+        })
+    }
+}
+
+/// The orders that wait for a container, by number. They are found by the index of the orders by
+/// state, container and ticket, so that those that have ended are not looked at.
+pub(crate) fn waiting_for<S: Alter>(
+    alloc: Global,
+    conn: &mut Connection<S>,
+    container: u64,
+) -> Result<Vec<WaitingOrder>, StoreFault>
+    requires inside { InOffice (state S.Store conn.old) }
+    requires small { IsNumber container }
+    ensures reads { Reads (state S.Store conn.old) (state S.Store conn.new) result }
+    ensures rows { HasCleanDisk (state S.Store conn.new) → (xs : Rows OrderRow)
+        → Holds tables.orders order_cells (state S.Store conn.old) xs → AreCounted (λ o. o.id) xs
+        → IfOk result (λ found. found.items ≡ map (λ (o : OrderRow). record { order = o.id; ticket = o.ticket })
+        (filter (waits_for container) xs)) }
+    ensures faults { (xs : Rows OrderRow) → Holds tables.orders order_cells (state S.Store conn.old) xs
+        → FaultsHaveCause (state S.Store conn.old) (state S.Store conn.new) result }
+{
+    find(
+        alloc,
+        conn,
+        "SELECT id, ticket FROM orders WHERE state = 1 AND container = ?1 ORDER BY id",
+        &[number(container)],
+    )
+}
+
+/// How many orders wait for a container. They are counted by the same index.
+fn count_waiting<S: Alter>(conn: &mut Connection<S>, container: u64) -> Result<u32, StoreFault>
+    requires inside { InOffice (state S.Store conn.old) }
+    requires small { IsNumber container }
+    ensures reads { Reads (state S.Store conn.old) (state S.Store conn.new) result }
+    ensures number { HasCleanDisk (state S.Store conn.new) → (xs : Rows OrderRow)
+        → Holds tables.orders order_cells (state S.Store conn.old) xs → length xs ≤ most_orders
+        → IfOk result (λ n. n ≡ count_by (waits_for container) xs) }
+    ensures faults { (xs : Rows OrderRow) → Holds tables.orders order_cells (state S.Store conn.old) xs
+        → length xs ≤ most_orders → FaultsHaveCause (state S.Store conn.old) (state S.Store conn.new) result }
+{
+    find_number(
+        conn,
+        "SELECT count(*) FROM orders WHERE state = 1 AND container = ?1",
+        &[number(container)],
+    )
+}
+
+/// Whether an order waits for a container.
+pub(crate) fn is_awaited<S: Alter>(
+    conn: &mut Connection<S>,
+    container: u64,
+) -> Result<bool, StoreFault>
+    requires inside { InOffice (state S.Store conn.old) }
+    ensures tells { Answers S.Store RepresentsDeskAlone IsLegible conn.old conn.new result (λ _. IsNumber container)
+        (λ _ d awaited. awaited ≡ list_any (waits_for container) d.orders) }
+{
+    if container >= NO_NUMBER {
+        return Err(StoreFault::Schema);
+    }
+    let waiting = count_waiting(conn, container)?;
+    Ok(waiting > 0)
+}

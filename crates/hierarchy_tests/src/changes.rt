@@ -1,0 +1,188 @@
+//! A forest that changes, in either version, and what is told of its places then.
+
+ghost use Rattle.std.specs.Prelude.{OnOk};
+ghost use Rattle.sqlite.specs.Held.{state};
+ghost use Rattle.office_tables.specs.Step.{InTransaction};
+
+use crate::offices::{new_office, told};
+use crate::parents::put_all;
+use catalogue_store::{LinkPlaces, Places, StoreFault};
+use integrity_checks::CheckedPlaces;
+use nested_sets::SpanPlaces;
+use sqlite::{Alter, Connection};
+use std::alloc::{AllocError, Global};
+use std::process::Abort;
+use std::test::Fail;
+
+/// A change of the forest.
+#[derive(Clone, Copy)]
+enum Change {
+    /// The unit goes to the last place below the other, or to the last top.
+    Move(u32, Option<u32>),
+    /// The unit goes away with all below it.
+    Cut(u32),
+}
+
+/// What is asked of the places.
+#[derive(Clone, Copy)]
+enum Question {
+    All,
+    Path(u32),
+    Branch(u32),
+    Below(Option<u32>),
+    /// Whether the first is the second, or lies below it.
+    IsBelow(u32, u32),
+    /// Which units are there, in the order of their numbers, and how deep the deepest lies; a dash for doubtful places.
+    Judged,
+}
+
+#[tactic(auto, using(crate::proofs::Going::went_on))]
+fn carry_out<P: Places, S: Alter>(
+    alloc: Global,
+    conn: &mut Connection<S>,
+    change: Change,
+) -> Result<(), StoreFault>
+    requires inside { InTransaction P.version (state S.Store conn.old) }
+    ensures inside { OnOk result (InTransaction P.version (state S.Store conn.new)) }
+{
+    match change {
+        Change::Move(unit, None) => P::shift(alloc, conn, u64::from(unit), None),
+        Change::Move(unit, Some(above)) => {
+            P::shift(alloc, conn, u64::from(unit), Some(u64::from(above)))
+        }
+        Change::Cut(unit) => P::cut(alloc, conn, u64::from(unit)),
+    }
+}
+
+/// One change after another.
+fn change_all<P: Places, S: Alter>(
+    alloc: Global,
+    conn: &mut Connection<S>,
+    changes: &[Change],
+) -> Result<(), StoreFault>
+    requires inside { InTransaction P.version (state S.Store conn.old) }
+    ensures inside { OnOk result (InTransaction P.version (state S.Store conn.new)) }
+{
+    for it in changes {
+        carry_out::<P, S>(alloc, conn, *it)?;
+    }
+    Ok(())
+}
+
+/// The units by their numbers, with a blank after each.
+fn shown(alloc: Global, units: &[u64]) -> Result<String, AllocError> {
+    let mut text = String::new(alloc);
+    for unit in units {
+        write!(text, "{unit} ")?;
+    }
+    Ok(text)
+}
+
+/// The answer to a question.
+fn answer<P: CheckedPlaces, S: Alter>(
+    alloc: Global,
+    conn: &mut Connection<S>,
+    question: Question,
+) -> Result<String, Fail>
+    requires inside { InTransaction P.version (state S.Store conn.old) }
+{
+    let units = match question {
+        Question::All => P::all(alloc, conn)?,
+        Question::Path(unit) => P::path(alloc, conn, u64::from(unit))?,
+        Question::Branch(unit) => P::branch(alloc, conn, u64::from(unit))?,
+        Question::Below(None) => P::below(alloc, conn, None)?,
+        Question::Below(Some(above)) => P::below(alloc, conn, Some(u64::from(above)))?,
+        Question::IsBelow(unit, other) => {
+            let is_below = P::is_below(alloc, conn, u64::from(unit), u64::from(other))?;
+            return Ok(format!(in alloc; "{is_below}")?);
+        }
+        Question::Judged => return told::<P, S>(alloc, conn),
+    };
+    Ok(shown(alloc, &units)?)
+}
+
+/// The answer in a new office with the forest, when these changes are done.
+fn told_of<P: CheckedPlaces>(
+    alloc: Global,
+    changes: &[Change],
+    question: Question,
+) -> Result<String, Fail> {
+    let mut conn = Connection::open_in_memory(alloc)?;
+    new_office::<P, _>(alloc, &mut conn)?;
+    put_all::<P, _>(alloc, &mut conn)?;
+    change_all::<P, _>(alloc, &mut conn, changes)?;
+    answer::<P, _>(alloc, &mut conn, question)
+}
+
+/// Changes, a question, and its answer in either version.
+type Case = (&'static [Change], Question, &'static str);
+
+fn see(rt: &impl Abort, alloc: Global, cases: &[Case]) -> Result<(), Fail> {
+    for (at, &(changes, question, wanted)) in cases.iter().enumerate() {
+        let over_links = told_of::<LinkPlaces>(alloc, changes, question)?;
+        assert_eq!(rt; over_links.as_str(), wanted, "case {at} over links");
+        let over_spans = told_of::<SpanPlaces>(alloc, changes, question)?;
+        assert_eq!(rt; over_spans.as_str(), wanted, "case {at} over spans");
+    }
+    Ok(())
+}
+
+/// The forest has the tops 7, 6 and 1; below 7 are 2, with 3 and in it 4, and 5; below 1 are 10, 9 and 8.
+#[test]
+fn a_forest_is_told(rt: HostRuntime) -> Result<(), Fail> {
+    let cases: [Case; 15] = [
+        (&[], Question::All, "7 2 3 4 5 6 1 10 9 8 "),
+        (&[], Question::Path(4), "7 2 3 4 "),
+        (&[], Question::Path(6), "6 "),
+        (&[], Question::Path(99), ""),
+        (&[], Question::Branch(2), "2 3 4 "),
+        (&[], Question::Branch(99), ""),
+        (&[], Question::Below(None), "7 6 1 "),
+        (&[], Question::Below(Some(1)), "10 9 8 "),
+        (&[], Question::Below(Some(4)), ""),
+        (&[], Question::Below(Some(99)), ""),
+        (&[], Question::IsBelow(4, 7), "true"),
+        (&[], Question::IsBelow(7, 4), "false"),
+        (&[], Question::IsBelow(5, 5), "true"),
+        (&[], Question::IsBelow(8, 7), "false"),
+        (&[], Question::IsBelow(99, 99), "false"),
+    ];
+    see(&rt, rt.alloc(), &cases)
+}
+
+/// A branch comes last below its new parent, or last of the tops, in the order that it has; one that comes back does not
+/// come to where it was. What is cut leaves no gap.
+#[test]
+fn branches_move_and_go(rt: HostRuntime) -> Result<(), Fail> {
+    use Change::{Cut, Move};
+    let cases: [Case; 15] = [
+        (&[Move(2, Some(1))], Question::All, "7 5 6 1 10 9 8 2 3 4 "),
+        (&[Move(2, None)], Question::All, "7 5 6 1 10 9 8 2 3 4 "),
+        (&[Move(2, None)], Question::Below(None), "7 6 1 2 "),
+        (&[Move(10, Some(1))], Question::Below(Some(1)), "9 8 10 "),
+        (&[Move(1, Some(4))], Question::Path(8), "7 2 3 4 1 8 "),
+        (&[Move(7, Some(6))], Question::All, "6 7 2 3 4 5 1 10 9 8 "),
+        (
+            &[Move(2, None), Move(2, Some(7))],
+            Question::All,
+            "7 5 2 3 4 6 1 10 9 8 ",
+        ),
+        (&[Cut(3)], Question::All, "7 2 5 6 1 10 9 8 "),
+        (&[Cut(7)], Question::Branch(7), ""),
+        (&[Cut(7)], Question::Judged, "1 6 8 9 10 to 2;"),
+        (&[Cut(7), Cut(6), Cut(1)], Question::All, ""),
+        (&[Move(9, Some(3)), Cut(2)], Question::All, "7 5 6 1 10 8 "),
+        (&[Cut(1), Move(4, None)], Question::All, "7 2 3 5 6 4 "),
+        (
+            &[Move(1, Some(4))],
+            Question::Judged,
+            "1 2 3 4 5 6 7 8 9 10 to 6;",
+        ),
+        (
+            &[Move(6, Some(8)), Cut(5), Move(3, Some(6))],
+            Question::Judged,
+            "1 2 3 4 6 7 8 9 10 to 5;",
+        ),
+    ];
+    see(&rt, rt.alloc(), &cases)
+}

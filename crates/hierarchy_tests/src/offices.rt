@@ -1,0 +1,89 @@
+//! An office in either version, and what is told of its places.
+
+ghost use Rattle.std.specs.Prelude.{◌≡◌, IfOk, OnOk};
+ghost use Rattle.sqlite.specs.Held.{state};
+ghost use Rattle.sqlite.specs.State.{HasCleanDisk};
+ghost use Rattle.office_tables.specs.Schema.{no_schema};
+ghost use Rattle.office_tables.specs.Step.{InTransaction};
+
+use catalogue_store::{OfficeRow, Places, StoreFault, begin, create};
+use desk_store::{create_desk, is_blank};
+use integrity_checks::{CheckedPlaces, Placed};
+use isad_core::{Day, Text};
+use sqlite::types::ValueRef;
+use sqlite::{Alter, Connection};
+use std::alloc::Global;
+use std::test::Fail;
+
+/// A row, whatever its numbers are.
+pub(crate) type Row = [ValueRef<'static>; 3];
+
+fn settings(alloc: Global) -> Result<OfficeRow, StoreFault>
+    ensures { IfOk result (λ row. row.next_unit ≡ 1) }
+{
+    let Some(day) = Day::from_number(19783) else {
+        return Err(StoreFault::Schema);
+    };
+    Ok(OfficeRow {
+        country: Text::new(alloc, "GB")?,
+        repo: Text::new(alloc, "0999")?,
+        seats: 2,
+        daily: 3,
+        hands: 1,
+        run_size: 2,
+        day,
+        next_unit: 1,
+    })
+}
+
+/// Begins a transaction and makes the tables of an office, where there are none.
+fn open_office<P: Places, S: Alter>(
+    alloc: Global,
+    conn: &mut Connection<S>,
+) -> Result<(), StoreFault>
+    requires blank { HasCleanDisk (state S.Store conn.old) → (state S.Store conn.old).now.schema ≡ no_schema }
+    ensures inside { OnOk result (InTransaction P.version (state S.Store conn.new)) }
+{
+    let row = settings(alloc)?;
+    begin(conn)?;
+    create_desk(conn)?;
+    create::<P, S>(conn, &row)
+}
+
+/// An office in a store that has nothing else.
+pub(crate) fn new_office<P: Places, S: Alter>(
+    alloc: Global,
+    conn: &mut Connection<S>,
+) -> Result<(), StoreFault>
+    ensures inside { OnOk result (InTransaction P.version (state S.Store conn.new)) }
+{
+    if !is_blank(conn) {
+        return Err(StoreFault::Schema);
+    }
+    open_office::<P, S>(alloc, conn)
+}
+
+/// The units and the height, or a dash where they are doubtful.
+fn shown(alloc: Global, placed: Option<Placed>) -> Result<String, Fail> {
+    let mut text = String::new(alloc);
+    let Some(placed) = placed else {
+        write!(text, "-")?;
+        return Ok(text);
+    };
+    for unit in &placed.units {
+        write!(text, "{unit} ")?;
+    }
+    write!(text, "to {};", placed.height)?;
+    Ok(text)
+}
+
+/// What is told of the places of an office.
+pub(crate) fn told<P: CheckedPlaces, S: Alter>(
+    alloc: Global,
+    conn: &mut Connection<S>,
+) -> Result<String, Fail>
+    requires inside { InTransaction P.version (state S.Store conn.old) }
+{
+    let placed = P::check(alloc, conn)?;
+    shown(alloc, placed)
+}

@@ -1,0 +1,134 @@
+//! The units right above many, in either version.
+
+ghost use Rattle.std.specs.Prelude.{◌≡◌, true, OnOk};
+ghost use Rattle.std.specs.List.{AllByRecursion};
+ghost use Rattle.sqlite.specs.Held.{state};
+ghost use Rattle.isad_core.specs.Limits.{IsNumber};
+ghost use Rattle.office_tables.specs.Step.{InTransaction};
+
+use crate::offices::new_office;
+use catalogue_store::{LinkPlaces, Places, StoreFault};
+use nested_sets::SpanPlaces;
+use office_tables::value::NO_NUMBER;
+use sqlite::{Alter, Connection};
+use std::alloc::Global;
+use std::process::Abort;
+use std::test::Fail;
+
+/// A unit, and the one that it comes last below, if any.
+type Place = (u32, Option<u32>);
+
+/// A chain of four, of which the second has a sibling; a top alone; three below one top.
+const FOREST: [Place; 10] = [
+    (7, None),
+    (2, Some(7)),
+    (3, Some(2)),
+    (4, Some(3)),
+    (5, Some(7)),
+    (6, None),
+    (1, None),
+    (10, Some(1)),
+    (9, Some(1)),
+    (8, Some(1)),
+];
+
+/// Puts a unit at its place.
+#[tactic(auto, using(crate::proofs::Going::went_on))]
+fn put<P: Places, S: Alter>(
+    alloc: Global,
+    conn: &mut Connection<S>,
+    place: Place,
+) -> Result<(), StoreFault>
+    requires inside { InTransaction P.version (state S.Store conn.old) }
+    ensures inside { OnOk result (InTransaction P.version (state S.Store conn.new)) }
+{
+    let (unit, above) = place;
+    let parent = match above {
+        Some(above) => Some(u64::from(above)),
+        None => None,
+    };
+    P::add(alloc, conn, parent, u64::from(unit))
+}
+
+/// Puts the units of the forest at their places, one after another.
+pub(crate) fn put_all<P: Places, S: Alter>(
+    alloc: Global,
+    conn: &mut Connection<S>,
+) -> Result<(), StoreFault>
+    requires inside { InTransaction P.version (state S.Store conn.old) }
+    ensures inside { OnOk result (InTransaction P.version (state S.Store conn.new)) }
+{
+    for place in &FOREST {
+        put::<P, S>(alloc, conn, *place)?;
+    }
+    Ok(())
+}
+
+/// Whether a unit may have each of these numbers.
+fn are_numbers(units: &[u64]) -> bool
+    ensures { result ≡ true → AllByRecursion IsNumber units.now }
+{
+    units.iter().all(|unit| *unit < NO_NUMBER)
+}
+
+/// The numbers of the units right above these, with a dash for none.
+fn told<P: Places, S: Alter>(
+    alloc: Global,
+    conn: &mut Connection<S>,
+    units: &[u64],
+) -> Result<String, Fail>
+    requires inside { InTransaction P.version (state S.Store conn.old) }
+{
+    let mut text = String::new(alloc);
+    if !are_numbers(units) {
+        return Ok(text);
+    }
+    for above in &P::parents(alloc, conn, units)? {
+        match above {
+            Some(above) => write!(text, "{above} ")?,
+            None => write!(text, "- ")?,
+        }
+    }
+    Ok(text)
+}
+
+/// The same in a new office with the forest.
+fn told_of<P: Places>(alloc: Global, units: &[u64]) -> Result<String, Fail> {
+    let mut conn = Connection::open_in_memory(alloc)?;
+    new_office::<P, _>(alloc, &mut conn)?;
+    put_all::<P, _>(alloc, &mut conn)?;
+    told::<P, _>(alloc, &mut conn, units)
+}
+
+/// Units, and what is told of them in either version.
+type Case = (&'static [u64], &'static str);
+
+fn see(rt: &impl Abort, alloc: Global, cases: &[Case]) -> Result<(), Fail> {
+    for (at, &(units, wanted)) in cases.iter().enumerate() {
+        let over_links = told_of::<LinkPlaces>(alloc, units)?;
+        assert_eq!(rt; over_links.as_str(), wanted, "case {at} over links");
+        let over_spans = told_of::<SpanPlaces>(alloc, units)?;
+        assert_eq!(rt; over_spans.as_str(), wanted, "case {at} over spans");
+    }
+    Ok(())
+}
+
+/// None; the tops; up a chain and down; siblings; numbers of no unit; one unit twice; all of them, in no order.
+#[test]
+fn parents_are_told_in_order(rt: HostRuntime) -> Result<(), Fail> {
+    let cases: [Case; 9] = [
+        (&[], ""),
+        (&[7, 6, 1], "- - - "),
+        (&[4, 3, 2, 7], "3 2 7 - "),
+        (&[7, 2, 3, 4], "- 7 2 3 "),
+        (&[8, 9, 10], "1 1 1 "),
+        (&[2, 5], "7 7 "),
+        (&[0, 11, 100_000_001], "- - - "),
+        (&[9, 9, 1, 9], "1 1 - 1 "),
+        (
+            &[10, 99, 4, 6, 4, 2, 8, 1, 3, 0, 5, 9, 7, 10],
+            "1 - 3 - 3 7 1 - 2 - 7 1 - 1 ",
+        ),
+    ];
+    see(&rt, rt.alloc(), &cases)
+}

@@ -1,0 +1,96 @@
+//! Spans as no call writes them.
+
+ghost use Rattle.std.specs.Prelude.{OnOk};
+ghost use Rattle.sqlite.specs.Held.{state};
+ghost use Rattle.tree_core.specs.Versions.{Spans};
+ghost use Rattle.office_tables.specs.Step.{InTransaction};
+
+use crate::offices::{Row, new_office, told};
+use catalogue_store::StoreFault;
+use nested_sets::SpanPlaces;
+use office_tables::change;
+use sqlite::types::ValueRef::Int;
+use sqlite::{Alter, Connection};
+use std::alloc::Global;
+use std::process::Abort;
+use std::test::Fail;
+
+#[tactic(auto, using(crate::proofs::Going::went_on))]
+pub(crate) fn put_all<S: Alter>(conn: &mut Connection<S>, rows: &[Row]) -> Result<(), StoreFault>
+    requires inside { InTransaction Spans (state S.Store conn.old) }
+    ensures inside { OnOk result (InTransaction Spans (state S.Store conn.new)) }
+{
+    for row in rows {
+        change(
+            conn,
+            "INSERT INTO span (id, lft, rgt) VALUES (?1, ?2, ?3)",
+            row,
+        )?;
+    }
+    Ok(())
+}
+
+/// What is told of a new office with these rows.
+fn told_of(alloc: Global, rows: &[Row]) -> Result<String, Fail> {
+    let mut conn = Connection::open_in_memory(alloc)?;
+    new_office::<SpanPlaces, _>(alloc, &mut conn)?;
+    put_all(&mut conn, rows)?;
+    told::<SpanPlaces, _>(alloc, &mut conn)
+}
+
+fn told_of_all(alloc: Global, cases: &[&'static [Row]]) -> Result<String, Fail> {
+    let mut text = String::new(alloc);
+    for &rows in cases {
+        let told = told_of(alloc, rows)?;
+        text.push_str(&told)?;
+    }
+    Ok(text)
+}
+
+const TOP: Row = [Int(1), Int(1), Int(2)];
+
+/// No units; one; two below one and a top; the deepest in the second tree, the greatest number first.
+#[test]
+fn spans_of_forests(rt: HostRuntime) -> Result<(), Fail> {
+    let cases: [&'static [Row]; 4] = [
+        &[],
+        &[TOP],
+        &[
+            [Int(4), Int(7), Int(8)],
+            [Int(3), Int(4), Int(5)],
+            [Int(2), Int(2), Int(3)],
+            [Int(1), Int(1), Int(6)],
+        ],
+        &[
+            [Int(9), Int(1), Int(2)],
+            [Int(2), Int(3), Int(8)],
+            [Int(7), Int(4), Int(7)],
+            [Int(1), Int(5), Int(6)],
+        ],
+    ];
+    let told = told_of_all(rt.alloc(), &cases)?;
+    assert_eq!(&rt; told.as_str(), "to 0;1 to 1;1 2 3 4 to 2;1 2 7 9 to 3;");
+    Ok(())
+}
+
+/// Numbers that no unit has, and places of none; two that begin at once, one that ends where it begins, a number left
+/// out, two that cross.
+#[test]
+fn doubtful_spans(rt: HostRuntime) -> Result<(), Fail> {
+    let cases: [&'static [Row]; 11] = [
+        &[[Int(0), Int(1), Int(2)]],
+        &[[Int(-1), Int(1), Int(2)]],
+        &[[Int(100000001), Int(1), Int(2)]],
+        &[[Int(1), Int(4294967297), Int(4294967298)]],
+        &[[Int(1), Int(1), Int(4294967298)]],
+        &[[Int(1), Int(-1), Int(2)]],
+        &[TOP, [Int(2), Int(1), Int(2)]],
+        &[TOP, [Int(2), Int(3), Int(3)]],
+        &[[Int(1), Int(0), Int(1)]],
+        &[TOP, [Int(2), Int(4), Int(5)]],
+        &[[Int(1), Int(1), Int(3)], [Int(2), Int(2), Int(4)]],
+    ];
+    let told = told_of_all(rt.alloc(), &cases)?;
+    assert_eq!(&rt; told.as_str(), "-----------");
+    Ok(())
+}

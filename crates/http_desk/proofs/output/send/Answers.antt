@@ -1,0 +1,79 @@
+use Rattle.std.proofs.Common.{◌≡◌, ◌<◌, ◌≤◌, ◌+◌, ◌++◌, arith, ap, sym, ◌∙◌, subst, refl, append-nil, length-append, [], length}
+use Rattle.std.specs.Prelude.{◌||◌}
+use Rattle.std.specs.List.{flat_map}
+use Rattle.std.specs.Io.KnownBytes.{Appends}
+use Rattle.std.proofs.KnownBytes.{Appends-trans}
+use Rattle.http_desk.specs.Session.{IsFront}
+use Rattle.http_desk.specs.Quiet.{send_failed}
+use Rattle.http_desk.proofs.Sends.{one_more, all_pieces, gathers, front_of_all, front_at_end, within, turns_left}
+use Rattle.http_desk.proofs.output.send.Goals as goal
+
+pub loop-piece-preserved : goal.loop-piece-preserved
+loop-piece-preserved g c =
+    let (written, split, appended, quiet) = c.loop-piece.invariant.came in
+    let (more, gathered, added, few) = c.in-All.ensures.all refl in
+    let h : c.loop-piece.piece-index < length c.args.pieces.now = omega arith in
+    record {
+      came = (
+        written ++ more,
+        one_more (λ p. p.now) c.args.pieces.now c.loop-piece.piece-index _ h ∙ gathers _ written c.loop-piece.lot.items _ more c.gather_or_send.new.lot.items split gathered,
+        Appends-trans _ _ _ _ _ appended added,
+        λ q.
+            let (before, here) = c.in-All.ensures.bound q in
+            let a = few q in
+            let b = quiet before in
+            omega (arith, length-append written more),
+      );
+      failed = c.in-All.ensures.failed ∙ c.loop-piece.invariant.failed;
+      bound = λ q. c.loop-piece.invariant.bound (c.in-All.ensures.bound q).0;
+    }
+
+pub returns-in_default : goal.returns-in_default
+returns-in_default g c =
+    let (written, split, appended, quiet) = c.loop-piece.invariant.came in
+    let (front, is_front, added) = c.gather_or_send.ensures.front in
+    let h : c.loop-piece.piece-index < length c.args.pieces.now = omega arith in
+    record {
+      all = λ e. absurd (c.in_default.not-All e);
+      failed = c.gather_or_send.ensures.failed ∙ ap (λ b. send_failed c.gather_or_send.result || b) c.loop-piece.invariant.failed;
+      bound = λ q.
+          let (before, here) = c.gather_or_send.ensures.bound q in (
+            c.loop-piece.invariant.bound before,
+            turns_left c.gather_or_send.result _ _ _ _ (length written) here (quiet before)
+                (within (λ p. p.now) c.args.pieces.now c.loop-piece.piece-index _ written c.loop-piece.lot.items h split),
+          );
+      front = (
+        written ++ front,
+        front_of_all (λ p. p.now) c.args.pieces.now c.loop-piece.piece-index _ written c.loop-piece.lot.items front h split is_front,
+        Appends-trans _ _ _ _ _ appended added,
+      );
+    }
+
+pub returns-in-All-send_piece-clause-front : goal.returns-in-All-send_piece-clause-front
+returns-in-All-send_piece-clause-front g c =
+    let (written, split, appended, quiet) = c.loop-piece.invariant.came in
+    let e = sym (all_pieces (λ p. p.now) c.args.pieces.now c.loop-piece.piece-index c.loop-piece-test.false) ∙ split in (
+      written ++ c.as_slice.result.now,
+      ([], e ∙ ap (λ l. written ++ l) (sym c.as_slice.ensures.value) ∙ sym (append-nil (written ++ c.as_slice.result.now))),
+      subst (λ l. Appends (g.W.Write.contents c.args.writer.now) (g.W.Write.contents c.flush.new.writer) l) (append-nil (written ++ c.as_slice.result.now))
+          (Appends-trans _ _ _ _ _ (Appends-trans _ _ _ _ _ appended (c.in-All-send_piece.ensures.all refl)) c.flush.ensures.nothing),
+    )
+
+pub returns-in_default-send_piece : goal.returns-in_default-send_piece
+returns-in_default-send_piece g c =
+    let (written, split, appended, quiet) = c.loop-piece.invariant.came in
+    let (front, is_front, added) = c.send_piece.ensures.front in
+    let lot = c.loop-piece.lot.items in
+    let e = sym (all_pieces (λ p. p.now) c.args.pieces.now c.loop-piece.piece-index c.loop-piece-test.false) ∙ split in
+    let here_front = subst (λ l. IsFront front l) c.as_slice.ensures.value is_front in
+    record {
+      all = λ e. absurd (c.in_default-send_piece.not-All e);
+      failed = c.send_piece.ensures.failed ∙ ap (λ b. send_failed c.send_piece.result || b) c.loop-piece.invariant.failed;
+      bound = λ q.
+          let (before, here) = c.send_piece.ensures.bound q in
+          let l = ap length e ∙ length-append written lot in
+          let k = ap length c.as_slice.ensures.value in
+          let most : length written + length c.as_slice.result.now ≤ length (flat_map (λ p. p.now) c.args.pieces.now) = omega arith in
+          (c.loop-piece.invariant.bound before, turns_left c.send_piece.result _ _ _ _ (length written) here (quiet before) most);
+      front = (written ++ front, front_at_end _ written lot front e here_front, Appends-trans _ _ _ _ _ appended added);
+    }

@@ -1,0 +1,186 @@
+//! What is answered to a request.
+ghost use Rattle.std.specs.Prelude.{◌&&◌, ◌≡◌, length, IfOk, OnErr, is_none, Some};
+ghost use Rattle.httparse.specs.Spans.{IsWithin};
+ghost use Rattle.office_core.specs.State.{State};
+ghost use Rattle.office_core.specs.Rules as rules;
+ghost use Rattle.office_core.specs.Json.{reply_text};
+ghost use Rattle.office_core.specs.Queries.{answer};
+ghost use Rattle.http_messages.specs.Answers as spec;
+ghost use Rattle.http_messages.specs.Heard.{request_in};
+ghost use Rattle.http_messages.specs.Replies.{answer_in};
+ghost use Rattle.http_messages.specs.Routing.{route_in};
+ghost use Rattle.office_core.specs.declared.command.Command.TheVariants as commands;
+
+use crate::means::Means;
+use http_messages::answers::Answered;
+use http_messages::head_verdict::Head;
+use http_messages::members::command_in;
+use http_messages::routes::{Route, is_method, is_post};
+use http_messages::status::Status;
+use http_messages::targets::path_of;
+use isad_core::{List, Text};
+use office_core::{Answer, Busy, Command, Machine, Query, Reply};
+use std::alloc::{AllocError, Global};
+
+/// The answer of a reply.
+fn of_reply(reply: Reply) -> Answered
+    ensures { (r : rules.Reply) → reply.done ≡ r → reply.json ≡ reply_text r → answer_in result ≡ spec.of_reply r }
+{
+    let Reply { done, json } = reply;
+    match done {
+        Ok(_) => Answered::Json(json),
+        Err(_) => Answered::Refused(json),
+    }
+}
+
+/// The answer of what the office tells.
+fn of_told(told: Answer) -> Answered
+    ensures { answer_in result ≡ spec.of_told told }
+{
+    match told {
+        Answer::Text(text) => Answered::Text(text),
+        Answer::Json(text) => Answered::Json(text),
+        Answer::Unknown(_) => Answered::Error(Status::NotFound),
+    }
+}
+
+/// Has a command carried out.
+fn done<M: Machine>(alloc: Global, office: &mut M, command: Command) -> Result<Answered, Busy>
+    ensures intact { M.is_intact office.new → M.is_intact office.old }
+    ensures answers { IfOk result (λ a. M.is_intact office.new → (s : State) → M.represents office.old s →
+        M.represents office.new (spec.done s command).1 × (answer_in a ≡ (spec.done s command).0)) }
+    ensures busy { OnErr result (M.is_intact office.new → (s : State) → M.represents office.old s → M.represents office.new s) }
+{
+    match office.apply(alloc, command) {
+        Ok(reply) => Ok(of_reply(reply)),
+        Err(busy) => Err(busy),
+    }
+}
+
+/// Has a question answered.
+fn asked<M: Machine>(alloc: Global, office: &mut M, query: Query) -> Result<Answered, Busy>
+    ensures intact { M.is_intact office.new → M.is_intact office.old }
+    ensures answers { IfOk result (λ a. M.is_intact office.new → (s : State) → M.represents office.old s →
+        M.represents office.new s × (answer_in a ≡ spec.of_told (answer s query))) }
+    ensures busy { OnErr result (M.is_intact office.new → (s : State) → M.represents office.old s → M.represents office.new s) }
+{
+    match office.ask(alloc, query) {
+        Ok(told) => Ok(of_told(told)),
+        Err(busy) => Err(busy),
+    }
+}
+
+/// Has a command carried out that a body may give.
+fn done_if_read<M: Machine>(
+    alloc: Global,
+    office: &mut M,
+    command: Option<Command>,
+) -> Result<Answered, Busy>
+    ensures intact { M.is_intact office.new → M.is_intact office.old }
+    ensures answers { IfOk result (λ a. M.is_intact office.new → (s : State) → M.represents office.old s →
+        M.represents office.new (spec.done_if_read s command).1 × (answer_in a ≡ (spec.done_if_read s command).0)) }
+    ensures busy { OnErr result (M.is_intact office.new → (s : State) → M.represents office.old s → M.represents office.new s) }
+{
+    match command {
+        Some(command) => done(alloc, office, command),
+        None => Ok(Answered::Error(Status::BadRequest)),
+    }
+}
+
+/// The command of an import.
+fn import_of(alloc: Global, source: &str, file: &[u8]) -> Result<Command, AllocError>
+    ensures { IfOk result (λ made. made ≡ commands.Import source.now file.now) }
+{
+    let source = Text::new(alloc, source)?;
+    let file = List(Vec::from_slice(alloc, file)?);
+    Ok(Command::Import { source, file })
+}
+
+fn has_no_length(head: Head) -> bool
+    ensures { result ≡ is_none head.length }
+{
+    head.length.is_none()
+}
+
+/// Whether a length is missing.
+fn lacks_length(post: bool, head: Head) -> bool
+    ensures { result ≡ (post && is_none head.length) }
+{
+    post && has_no_length(head)
+}
+
+/// Has what a route asks for carried out.
+fn carried_out<M: Machine>(
+    alloc: Global,
+    office: &mut M,
+    body: &[u8],
+    route: Route<'_>,
+) -> Result<Answered, Busy>
+    ensures intact { M.is_intact office.new → M.is_intact office.old }
+    ensures answers { IfOk result (λ a. M.is_intact office.new → (s : State) → M.represents office.old s →
+        M.represents office.new (spec.carried_out s body.now (route_in route.entry)).1
+        × (answer_in a ≡ (spec.carried_out s body.now (route_in route.entry)).0)) }
+    ensures busy { OnErr result (M.is_intact office.new → (s : State) → M.represents office.old s → M.represents office.new s) }
+{
+    match route {
+        Route::Asks(query) => asked(alloc, office, query),
+        Route::Run => done(alloc, office, Command::Run),
+        Route::Reshelve => done(alloc, office, Command::Reshelve),
+        Route::TakesFile(source) => match import_of(alloc, source, body) {
+            Ok(command) => done(alloc, office, command),
+            Err(_) => Err(Busy::Memory),
+        },
+        Route::TakesForm(form) => match command_in(alloc, form, body) {
+            Ok(command) => done_if_read(alloc, office, command),
+            Err(_) => Err(Busy::Memory),
+        },
+    }
+}
+
+/// Answers a request with that route.
+fn by_route<M: Machine>(
+    alloc: Global,
+    office: &mut M,
+    block: &[u8],
+    head: Head,
+    body: &[u8],
+    route: Route<'_>,
+) -> Result<Answered, Busy>
+    requires { IsWithin (length block.now) head.method }
+    ensures intact { M.is_intact office.new → M.is_intact office.old }
+    ensures answers { IfOk result (λ a. M.is_intact office.new → (s : State) → M.represents office.old s →
+        M.represents office.new (spec.by_route s (request_in block.now head) body.now (Some (route_in route.entry))).1
+        × (answer_in a ≡ (spec.by_route s (request_in block.now head) body.now (Some (route_in route.entry))).0)) }
+    ensures busy { OnErr result (M.is_intact office.new → (s : State) → M.represents office.old s → M.represents office.new s) }
+{
+    let post = is_post(route);
+    if !is_method(head.method.of(block), post) {
+        return Ok(Answered::NotAllowed(post));
+    }
+    if lacks_length(post, head) {
+        return Ok(Answered::Error(Status::LengthRequired));
+    }
+    carried_out(alloc, office, body, route)
+}
+
+/// Answers a request whose body came whole.
+pub fn respond<M: Machine>(
+    means: &Means,
+    office: &mut M,
+    block: &[u8],
+    head: Head,
+    body: &[u8],
+) -> Result<Answered, Busy>
+    requires method { IsWithin (length block.now) head.method }
+    requires target { IsWithin (length block.now) head.target }
+    ensures intact { M.is_intact office.new → M.is_intact office.old }
+    ensures answers { IfOk result (λ a. M.is_intact office.new → (s : State) → M.represents office.old s →
+        M.represents office.new (spec.answered s (request_in block.now head) body.now).1
+        × (answer_in a ≡ (spec.answered s (request_in block.now head) body.now).0)) }
+    ensures busy { OnErr result (M.is_intact office.new → (s : State) → M.represents office.old s → M.represents office.new s) }
+{
+    match means.routes.route_of(path_of(head.target.of(block))) {
+        None => Ok(Answered::Error(Status::NotFound)),
+        Some(route) => by_route(means.alloc, office, block, head, body, route),
+    }
+}

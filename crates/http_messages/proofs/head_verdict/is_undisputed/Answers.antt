@@ -1,0 +1,13 @@
+use Rattle.std.proofs.Common.{◌∙◌, sym, ap, map}
+use Rattle.std.specs.Prelude.{◌&&◌}
+use Rattle.std.specs.List.{list_all}
+use Rattle.httparse.specs.Spans.{header_bytes}
+use Rattle.http_messages.specs.Heads.{agrees}
+use Rattle.http_messages.proofs.Folds.{list_all_map}
+use Rattle.http_messages.proofs.head_verdict.is_undisputed.Goals as goal
+
+pub returns-then-all_digits : goal.returns-then-all_digits
+returns-then-all_digits c =
+    let agreed = list_all (agrees c.args.said.now) (map (header_bytes c.args.block.now) c.args.fields.now) in
+    c.are_agreed.ensures ∙ sym (list_all_map (agrees c.args.said.now) (header_bytes c.args.block.now) c.args.fields.now)
+    ∙ ap (λ b. b && agreed) (sym c.if-all_digits.true ∙ c.all_digits.ensures)

@@ -1,8 +1,0 @@
-use Rattle.std.proofs.Common.{◌≡◌, drop}
-use Rattle.std.specs.List.{find}
-use Rattle.httparse.specs.Spans.{header_bytes}
-use Rattle.http_messages.specs.Heads.{is_named}
-use Rattle.http_messages.proofs.judging.first_named.Given as goal
-
-abbrev pub invariant-loop-field : goal.invariant-loop-field
-invariant-loop-field l = find (λ h. is_named l.name (header_bytes l.block h)) (drop l.field-index l.fields) ≡ find (λ h. is_named l.name (header_bytes l.block h)) l.fields

@@ -1,0 +1,88 @@
+-- The elements are judged row by row.
+use Rattle.std.proofs.Common.{◌≡◌, ℕ, List, [], ◌∷◌, map, Bool, true, false, not, ◌&&◌, ◌||◌, nat_eq, Option, Some, None, filter_map, refl, sym, ap, ◌∙◌, codes}
+use Rattle.std.proofs.Math.Nat.{le_refl}
+use Rattle.std.specs.List.{list_all, AllByRecursion}
+use Rattle.std.specs.Option.{option_map_or}
+use Rattle.std.specs.List.Sorted.{IsPermutation}
+use Rattle.std.proofs.lemmas.List.Folds.{list_all-map}
+use Rattle.sqlite.specs.Command.TheVariants.{Select}
+use Rattle.sqlite.specs.Listing.{understood}
+use Rattle.sqlite.specs.Order.{Row}
+use Rattle.sqlite.specs.Term.{Term, col}
+use Rattle.sqlite.specs.Tree.{Trees}
+use Rattle.sqlite_tied.specs.Compute.{everything}
+use Rattle.isad_core.specs.Texts.{is_blank_text}
+use Rattle.isad_core.specs.Words.{is_between}
+use Rattle.tree_core.specs.Versions.{Version, Links, Spans}
+use Rattle.desk_core.specs.Orders.{in_order}
+use Rattle.catalogue_core.specs.CatalogueCauses.{unit_numbers, is_good_element}
+use Rattle.catalogue_core.specs.CatalogueRows.{ElementRow}
+use Rattle.office_tables.specs.Cells.{has_unread}
+use Rattle.office_tables.specs.CatalogueCells.{read_unit, read_element}
+use Rattle.office_tables.specs.Meaning.{Means}
+use Rattle.office_tables.specs.Schema as tables
+use Rattle.office_tables.proofs.Queries.{asking}
+use Rattle.row_decoding.specs.TableRows.{then_by, catalogue_in}
+use Rattle.integrity_checks.specs.ScanAnswers.{is_good_value, is_element_answer}
+use Rattle.integrity_checks.specs.CatalogueChecks.{elements_are_doubtful}
+use Rattle.row_decoding.proofs.Alike.{permuted, all_alike, ordered_alike}
+use Rattle.integrity_checks.proofs.Scans.{show}
+use Rattle.integrity_checks.proofs.Tested.{all_same, passes, judged}
+use Rattle.integrity_checks.proofs.UnitsThere.{HasUnit, element_has_unit}
+
+-- ---- the text
+
+abbrev pub elements_text : List ℕ
+elements_text = codes "SELECT unit, k, value FROM element"
+
+abbrev pub elements_terms : List Term
+elements_terms = col 1 1 ∷ col 1 2 ∷ col 1 3 ∷ []
+
+abbrev pub elements_names : List (List ℕ)
+elements_names = codes "unit" ∷ codes "k" ∷ codes "value" ∷ []
+
+pub elements_mean : (v : Version) → Means v elements_text 0 (Select (asking tables.element [] elements_terms []) elements_names)
+unfolding understood everything
+elements_mean Links = record { is = refl; plain = (refl, refl); whole = (le_refl _, refl, refl); unlisted = refl }
+elements_mean Spans = record { is = refl; plain = (refl, refl); whole = (le_refl _, refl, refl); unlisted = refl }
+
+-- ---- what the rows tell
+
+not_not : (b : Bool) → not (not b) ≡ b
+not_not true = refl
+not_not false = refl
+
+and_true : (a b c d : Bool) → d ≡ true → (a && (b && (c && d))) ≡ (a && (b && c))
+and_true true true true d h = h
+and_true true true false d h = refl
+and_true true false c d h = refl
+and_true false b c d h = refl
+
+module _ (v : Version) (db : Trees) (units_read : has_unread read_unit (db tables.unit.tree) ≡ false) where
+  abbrev table : List Row
+  table = db tables.element.tree
+
+  abbrev good : ElementRow → Bool
+  good = is_good_element (unit_numbers (catalogue_in v db))
+
+  same_test : (row : Row) → HasUnit v db row → passes read_element good row ≡ passes read_element is_good_value row
+  same_test row held = at (read_element row) refl
+    where
+      at : (o : Option ElementRow) → read_element row ≡ o → option_map_or good o false ≡ option_map_or is_good_value o false
+      at None read = refl
+      at (Some e) read = and_true (is_between 1 26 e.k) (not (nat_eq e.k 4)) (not (is_blank_text e.value)) _ (element_has_unit v db units_read row e read held)
+
+  same_tests : (rows : List Row) → AllByRecursion (HasUnit v db) rows → AllByRecursion (λ row. passes read_element good row ≡ passes read_element is_good_value row) rows
+  same_tests [] h = tt
+  same_tests (row ∷ rows) h = (same_test row h.0, same_tests rows h.1)
+
+  pub elements_judged : AllByRecursion (HasUnit v db) table → (ys rows : List Row) → IsPermutation table ys
+      → rows ≡ map (show tables.element elements_terms [] elements_names elements_text elements_mean) ys → list_all is_element_answer rows ≡ not (elements_are_doubtful v db)
+  elements_judged kept ys rows same shown =
+      let fits = passes read_element is_good_value in
+      let by_key = then_by (λ (row : ElementRow). row.unit) (λ (row : ElementRow). row.k) in
+      ap (list_all is_element_answer) shown
+      ∙ list_all-map is_element_answer (show tables.element elements_terms [] elements_names elements_text elements_mean) ys
+      ∙ sym (all_alike fits table ys (permuted table ys same)) ∙ sym (all_same (passes read_element good) fits table (same_tests table kept))
+      ∙ sym (not_not (list_all (passes read_element good) table)) ∙ ap not (sym (judged read_element good table))
+      ∙ ap (λ b. not (has_unread read_element table || not b)) (sym (all_alike good (in_order by_key (filter_map read_element table)) (filter_map read_element table) (ordered_alike by_key (filter_map read_element table))))

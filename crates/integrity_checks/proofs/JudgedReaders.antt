@@ -1,0 +1,204 @@
+-- The readers are judged in the order of their tickets.
+use Rattle.std.proofs.Common.{length-append, inl, inr, ◌≡◌, ℕ, suc, pos, ◌+◌, List, [], ◌∷◌, ◌++◌, length, map, Bool, true, false, cond, not, ◌&&◌, ◌||◌, nat_eq, nat_le, Option, Some, None, is_none, filter_map, refl, sym, ap, ap₂, subst, ◌∙◌, arith, codes}
+use Rattle.std.proofs.Math.Nat.{le_refl}
+use Rattle.std.specs.List.{list_all, cons_option}
+use Rattle.std.specs.Option.{option_map_or}
+use Rattle.std.specs.List.Sorted.{IsSorted, IsPermutation}
+use Rattle.std.proofs.lemmas.List.{length-map}
+use Rattle.std.proofs.lemmas.List.Sorted.{list_any-IsPermutation, length_permutation}
+use Rattle.std.proofs.lemmas.Bool.{cases_Bool, both_ways, or_parts}
+use Rattle.sqlite.specs.declared.types.Value.TheVariants.{Int}
+use Rattle.sqlite.specs.declared.error.Error.{Error}
+use Rattle.sqlite.specs.Order.{Row, column}
+use Rattle.sqlite.specs.Tree.{Trees}
+use Rattle.sqlite.specs.Term.{Term, col}
+use Rattle.sqlite.specs.Collation.TheVariants.{Binary}
+use Rattle.sqlite_value.specs.Keys.{ascending}
+use Rattle.sqlite_value.specs.declared.keys.Key.{Key}
+use Rattle.sqlite_value.proofs.OrderLemmas.{then-Equal}
+use Rattle.sqlite.specs.Command.{Command}
+use Rattle.sqlite.specs.Command.TheVariants.{Select}
+use Rattle.sqlite.specs.Listing.{understood}
+use Rattle.sqlite.specs.State.{State, Shown, FailsToQuery}
+use Rattle.sqlite_tied.specs.Compute.{everything}
+use Rattle.tree_core.specs.Versions.{Version, Links, Spans}
+use Rattle.isad_core.specs.Words.{are_numbered_from}
+use Rattle.desk_core.specs.DeskCauses.{is_good_reader}
+use Rattle.desk_core.specs.DeskRows.{ReaderRow}
+use Rattle.desk_core.specs.Orders.{in_order}
+use Rattle.office_tables.specs.Cells.{has_unread, number_in, whole_in, text_in}
+use Rattle.office_tables.specs.DeskCells.{read_reader}
+use Rattle.office_tables.specs.Faults.{fault_of, IsUnlimited, HasCause}
+use Rattle.office_tables.specs.Meaning.{Means}
+use Rattle.office_tables.specs.Schema.{schema, reader}
+use Rattle.office_tables.proofs.Causes.{read_cause, none_refuse, sums_nothing}
+use Rattle.office_tables.proofs.CellTexts.{from_first}
+use Rattle.office_tables.proofs.Rows.{kept_all}
+use Rattle.office_tables.proofs.Queries.{asking}
+use Rattle.office_tables.proofs.statements.SelectOf.{select_rows}
+use Rattle.row_decoding.proofs.Alike.{all_as_any}
+use Rattle.row_decoding.proofs.TableReads.{same_rows}
+use Rattle.row_decoding.proofs.ToldCells.{is_number}
+use Rattle.row_decoding.specs.TableRows.{readers_in}
+use Rattle.integrity_checks.specs.ReaderRows.{is_reader_with, is_reader_answer, are_reader_answers, are_registered_well, readers_are_doubtful, number_registered}
+use Rattle.office_tables.proofs.ByNumber.{by, by_key, read_by_number, any_read, any_ordered, length_read, length_ordered}
+
+and_true : (b : Bool) → (b && true) ≡ b
+and_true true = refl
+and_true false = refl
+
+and_false : (b : Bool) → (b && false) ≡ false
+and_false true = refl
+and_false false = refl
+
+-- ---- one row more
+
+pub one_more : (n : ℕ) (rows : List Row) (row : Row) → are_reader_answers n (rows ++ row ∷ []) ≡ (are_reader_answers n rows && is_reader_answer (n + length rows) row)
+one_more n [] row = and_true (is_reader_answer n row) ∙ ap (λ k. is_reader_answer k row) (let same : n ≡ n + 0 = omega arith in same)
+one_more n (r ∷ rows) row =
+    elim (is_reader_answer n r) as (λ b. (b && are_reader_answers (suc n) (rows ++ row ∷ [])) ≡ ((b && are_reader_answers (suc n) rows) && is_reader_answer (n + suc (length rows)) row)) [
+      | true ↦ one_more (suc n) rows row ∙ ap (λ k. are_reader_answers (suc n) rows && is_reader_answer k row) (omega arith)
+      | false ↦ refl
+    ]
+
+taken : (count : ℕ) (good answer : Bool) (rows : List Row) (row : Row) → count ≡ length rows → good ≡ are_reader_answers 1 rows → answer ≡ is_reader_answer (count + 1) row
+    → (count + 1 ≡ length (rows ++ row ∷ [])) × ((good && answer) ≡ are_reader_answers 1 (rows ++ row ∷ []))
+taken count good answer rows row counted so_far is =
+    (omega (arith, counted, length-append rows (row ∷ [])), ap₂ ◌&&◌ so_far (is ∙ ap (λ k. is_reader_answer k row) (let same : count + 1 ≡ 1 + length rows = omega (arith, counted) in same)) ∙ sym (one_more 1 rows row))
+
+pub taken_bad : (count : ℕ) (good answer : Bool) (rows : List Row) (row : Row) → answer ≡ false → count ≡ length rows → good ≡ are_reader_answers 1 rows → answer ≡ is_reader_answer (count + 1) row
+    → (count + 1 ≡ length (rows ++ row ∷ [])) × (false ≡ are_reader_answers 1 (rows ++ row ∷ []))
+taken_bad count good answer rows row fails counted so_far is = let all = taken count good answer rows row counted so_far is in (all.0, sym (and_false good) ∙ ap (λ b. good && b) (sym fails) ∙ all.1)
+
+pub taken_good : (count : ℕ) (good answer : Bool) (rows : List Row) (row : Row) → answer ≡ true → count ≡ length rows → good ≡ are_reader_answers 1 rows → answer ≡ is_reader_answer (count + 1) row
+    → (count + 1 ≡ length (rows ++ row ∷ [])) × (good ≡ are_reader_answers 1 (rows ++ row ∷ []))
+taken_good count good answer rows row passes counted so_far is = let all = taken count good answer rows row counted so_far is in (all.0, sym (and_true good) ∙ ap (λ b. good && b) (sym passes) ∙ all.1)
+
+-- ---- the text
+
+abbrev pub all_readers_text : List ℕ
+all_readers_text = codes "SELECT ticket, until, name FROM reader ORDER BY ticket"
+
+abbrev all_readers_terms : List Term
+all_readers_terms = col 1 0 ∷ col 1 3 ∷ col 1 2 ∷ []
+
+abbrev by_ticket : List (Term × Key)
+by_ticket = (col 1 0, ascending Binary) ∷ []
+
+abbrev all_readers_names : List (List ℕ)
+all_readers_names = codes "ticket" ∷ codes "until" ∷ codes "name" ∷ []
+
+abbrev pub all_readers_command : Command
+all_readers_command = Select (asking reader [] all_readers_terms by_ticket) all_readers_names
+
+pub all_readers_means : (v : Version) → Means v all_readers_text 0 all_readers_command
+unfolding understood everything
+all_readers_means Links = record { is = refl; plain = (refl, refl); whole = (le_refl _, refl, refl); unlisted = refl }
+all_readers_means Spans = record { is = refl; plain = (refl, refl); whole = (le_refl _, refl, refl); unlisted = refl }
+
+pub all_readers_cause : (old new : State) (v : Version) → old.now.schema ≡ schema v → IsUnlimited old → (e : Error) → FailsToQuery all_readers_text [] old new e → HasCause old new (fault_of e)
+all_readers_cause old new v has free e h =
+    read_cause all_readers_text [] old new (schema v) has _ _ (all_readers_means v).is (all_readers_means v).plain (all_readers_means v).whole (all_readers_means v).unlisted
+    (λ db e r. none_refuse r (λ t. both_ways _ t refl) (sums_nothing _)) free e h
+
+abbrev pub shown_reader : Row → Row
+shown_reader row = column row 0 ∷ column row 3 ∷ column row 2 ∷ []
+
+abbrev pub ticket_of : ReaderRow → ℕ
+ticket_of row = row.ticket
+
+pub keyed : (row : Row) (x : ReaderRow) → read_reader row ≡ Some x → column row 0 ≡ Int (pos x.ticket)
+keyed row x h =
+    let a = from_first (number_in (column row 0)) _ x h in
+    let b = from_first (whole_in (column row 3)) _ x a.2 in
+    let c = from_first (text_in (column row 2)) _ x b.2 in
+    let made : a.0 ≡ x.ticket = ap (λ (o : Option ReaderRow). option_map_or ticket_of o 0) c.2 in
+    is_number (column row 0) a.0 a.1 ∙ ap (λ n. Int (pos n)) made
+
+-- the rows in the order of their keys
+pub scanned_readers : (old new : State) (rows : List Row) (v : Version) → old.now.schema ≡ schema v → Shown all_readers_text [] old new rows
+    → (ys : List Row) × IsPermutation (old.now.trees 0) ys × IsSorted (by_key read_reader ticket_of keyed) ys × (rows ≡ map shown_reader ys)
+scanned_readers old new rows v has shown =
+    let table = old.now.trees 0 in
+    let got = select_rows v reader all_readers_text [] all_readers_terms by_ticket all_readers_names [] (all_readers_means v) old new has (λ (r : Row). r) table (same_rows table) (λ _. true) (λ _. refl)
+    shown_reader (λ (r : Row). column r 0 ∷ []) (λ _. refl) (by_key read_reader ticket_of keyed) (λ _. refl) (λ a b. then-Equal _) rows shown in
+    (got.0, subst (λ l. IsPermutation l got.0) (kept_all table) got.1.0, got.1.1, got.2)
+
+-- ---- what the rows that are shown tell
+
+mixed : (a m u n l : Bool) → ((a && m) && (u && (n && l))) ≡ (u && ((a && n) && (m && l)))
+mixed true true true n l = refl
+mixed true true false n l = refl
+mixed true false true true l = refl
+mixed true false true false l = refl
+mixed true false false n l = refl
+mixed false m true n l = refl
+mixed false m false n l = refl
+
+answers_read : (n : ℕ) (ys : List Row) → are_reader_answers n (map shown_reader ys)
+    ≡ (not (has_unread read_reader ys) && (are_numbered_from ticket_of n (filter_map read_reader ys) && list_all is_good_reader (filter_map read_reader ys)))
+answers_read n [] = refl
+answers_read n (y ∷ ys) = at (answers_read (suc n) ys) (read_reader y)
+  where
+    at : are_reader_answers (suc n) (map shown_reader ys) ≡ (not (has_unread read_reader ys) && (are_numbered_from ticket_of (suc n) (filter_map read_reader ys) && list_all is_good_reader (filter_map read_reader ys)))
+        → (o : Option ReaderRow) → (option_map_or (is_reader_with n) o false && are_reader_answers (suc n) (map shown_reader ys))
+        ≡ (not (is_none o || has_unread read_reader ys) && (are_numbered_from ticket_of n (cons_option o (filter_map read_reader ys)) && list_all is_good_reader (cons_option o (filter_map read_reader ys))))
+    at more None = refl
+    at more (Some c) = ap (λ b. is_reader_with n c && b) more
+        ∙ mixed (nat_eq c.ticket n) (is_good_reader c) (not (has_unread read_reader ys)) (are_numbered_from ticket_of (suc n) (filter_map read_reader ys)) (list_all is_good_reader (filter_map read_reader ys))
+
+same_all : (table ys : List Row) → IsPermutation table ys → list_all is_good_reader (filter_map read_reader ys) ≡ list_all is_good_reader (in_order (by ticket_of) (filter_map read_reader table))
+same_all table ys same =
+    let p = λ (c : ReaderRow). not (is_good_reader c) in
+    all_as_any is_good_reader (filter_map read_reader ys) ∙ ap not (any_read read_reader p ys
+    ∙ sym (list_any-IsPermutation (λ row. option_map_or p (read_reader row) false) table ys same) ∙ sym (any_read read_reader p table)
+    ∙ sym (any_ordered ticket_of p (by ticket_of) (filter_map read_reader table))) ∙ sym (all_as_any is_good_reader (in_order (by ticket_of) (filter_map read_reader table)))
+
+three : (a b c : Bool) → ((a && b) && c) ≡ (a && (c && b))
+three true true true = refl
+three true true false = refl
+three true false true = refl
+three true false false = refl
+three false b c = refl
+
+pub readers_judged : (db : Trees) (ys rows : List Row) (count : ℕ) (good : Bool) → IsPermutation (db 0) ys → IsSorted (by_key read_reader ticket_of keyed) ys → rows ≡ map shown_reader ys
+    → count ≡ length rows → good ≡ are_reader_answers 1 rows → not (good && nat_le count 1000000) ≡ readers_are_doubtful db
+readers_judged db ys rows count good same sorted shown counted is = elim (cases_Bool (has_unread read_reader (db 0))) [
+  | inl some ↦
+      let bad : good ≡ false = all_told ∙ ap (λ b. not b && (are_numbered_from ticket_of 1 (filter_map read_reader ys) && list_all is_good_reader (filter_map read_reader ys))) (unread ∙ some) in
+      ap (λ b. not (b && nat_le count 1000000)) bad ∙ sym (ap (λ b. b || not (are_registered_well (readers_in db))) some)
+  | inr none ↦
+      let told : good ≡ (are_numbered_from ticket_of 1 (filter_map read_reader ys) && list_all is_good_reader (filter_map read_reader ys)) =
+      all_told ∙ ap (λ b. not b && (are_numbered_from ticket_of 1 (filter_map read_reader ys) && list_all is_good_reader (filter_map read_reader ys))) (unread ∙ none) in
+      let numbers = read_by_number read_reader ticket_of keyed (db 0) ys same sorted none in
+      let long : count ≡ length (readers_in db) =
+      counted ∙ ap length shown ∙ length-map ys shown_reader ∙ length_permutation (db 0) ys same ∙ sym (length_read read_reader (db 0) none) ∙ sym (length_ordered ticket_of (by ticket_of) (filter_map read_reader (db 0))) in
+      ap not (ap₂ ◌&&◌ (told ∙ ap₂ ◌&&◌ numbers (same_all (db 0) ys same)) (ap (λ n. nat_le n 1000000) long)
+      ∙ three (are_numbered_from ticket_of 1 (readers_in db)) (list_all is_good_reader (readers_in db)) (nat_le (length (readers_in db)) 1000000))
+      ∙ sym (ap (λ b. b || not (are_registered_well (readers_in db))) none)
+]
+  where
+    unread : has_unread read_reader ys ≡ has_unread read_reader (db 0)
+    unread = sym (list_any-IsPermutation (λ row. is_none (read_reader row)) (db 0) ys same)
+
+    all_told : good ≡ (not (has_unread read_reader ys) && (are_numbered_from ticket_of 1 (filter_map read_reader ys) && list_all is_good_reader (filter_map read_reader ys)))
+    all_told = is ∙ ap (are_reader_answers 1) shown ∙ answers_read 1 ys
+
+-- as many are counted as there are, where all of them can be read
+counted_all : (db : Trees) (ys rows : List Row) (count : ℕ) → IsPermutation (db 0) ys → rows ≡ map shown_reader ys → count ≡ length rows → has_unread read_reader (db 0) ≡ false → count ≡ length (readers_in db)
+counted_all db ys rows count same shown counted none =
+    counted ∙ ap length shown ∙ length-map ys shown_reader ∙ length_permutation (db 0) ys same ∙ sym (length_read read_reader (db 0) none) ∙ sym (length_ordered ticket_of (by ticket_of) (filter_map read_reader (db 0)))
+
+module _ (db : Trees) (ys rows : List Row) (count : ℕ) (good : Bool) (same : IsPermutation (db 0) ys) (sorted : IsSorted (by_key read_reader ticket_of keyed) ys) (shown : rows ≡ map shown_reader ys)
+    (counted : count ≡ length rows) (is : good ≡ are_reader_answers 1 rows) where
+  judged : not (good && nat_le count 1000000) ≡ readers_are_doubtful db
+  judged = readers_judged db ys rows count good same sorted shown counted is
+
+  pub registered_so_many : (good && nat_le count 1000000) ≡ true → Some count ≡ number_registered db
+  registered_so_many fine =
+      let sound : readers_are_doubtful db ≡ false = sym judged ∙ ap not fine in
+      let none = (or_parts (has_unread read_reader (db 0)) (not (are_registered_well (readers_in db))) sound).0 in
+      ap Some (counted_all db ys rows count same shown counted none) ∙ sym (ap (λ b. cond b None (Some (length (readers_in db)))) sound)
+
+  pub registered_badly : (good && nat_le count 1000000) ≡ false → None ≡ number_registered db
+  registered_badly bad = sym (ap (λ b. cond b None (Some (length (readers_in db)))) (sym judged ∙ ap not bad))

@@ -1,0 +1,164 @@
+-- The units are judged beside the places.
+use Rattle.std.proofs.Common.{◌≡◌, ℕ, List, [], ◌∷◌, length, map, Bool, true, false, not, ◌&&◌, ◌||◌, nat_eq, nat_le, nat_lt, is_none, filter_map, refl, sym, ap, ap₂, ◌∙◌, codes}
+use Rattle.std.proofs.Math.Nat.{le_refl}
+use Rattle.std.specs.List.{list_all}
+use Rattle.std.specs.List.Sorted.{IsPermutation}
+use Rattle.std.proofs.lemmas.List.{length-map}
+use Rattle.std.proofs.lemmas.List.Folds.{list_all-map}
+use Rattle.std.proofs.lemmas.List.Sorted.{list_any-IsPermutation, length_permutation}
+use Rattle.sqlite.specs.Command.TheVariants.{Select}
+use Rattle.sqlite.specs.Listing.{understood}
+use Rattle.sqlite.specs.Order.{Row}
+use Rattle.sqlite.specs.Term.{Term, col}
+use Rattle.sqlite.specs.Tree.{Trees}
+use Rattle.sqlite_tied.specs.Compute.{everything}
+use Rattle.isad_core.specs.Limits.{most_units, most_deep}
+use Rattle.isad_core.specs.Words.{stands}
+use Rattle.tree_core.specs.Versions.{Version, Links, Spans}
+use Rattle.tree_core.proofs.Lists.{list_any-map}
+use Rattle.catalogue_core.specs.CatalogueCauses.{unit_numbers, place_numbers, all_stand_in}
+use Rattle.catalogue_core.specs.CatalogueRows.{UnitRow, places_said}
+use Rattle.catalogue_core.specs.Moves.{height}
+use Rattle.office_tables.specs.Cells.{has_unread}
+use Rattle.office_tables.specs.CatalogueCells.{read_unit}
+use Rattle.office_tables.specs.Meaning.{Means}
+use Rattle.office_tables.specs.Schema as tables
+use Rattle.office_tables.proofs.Queries.{asking}
+use Rattle.row_decoding.specs.Readings.{AreGathered}
+use Rattle.row_decoding.proofs.TableReads.{same_rows}
+use Rattle.row_decoding.specs.TableRows.{by, places_in, catalogue_in}
+use Rattle.integrity_checks.specs.PlaceChecks.{AreUnitsPlaced}
+use Rattle.integrity_checks.specs.ScanAnswers.{is_described, read_described, said_described}
+use Rattle.integrity_checks.specs.CatalogueChecks.{units_are_doubtful}
+use Rattle.integrity_checks.specs.CatalogueJudging.{are_good_numbers}
+use Rattle.row_decoding.proofs.Alike.{Alike, permuted, alike_then, alike_back, any_alike, all_alike, length_alike, ordered_alike, read_alike}
+use Rattle.integrity_checks.proofs.Scans.{show}
+use Rattle.integrity_checks.proofs.Tested.{said_shown, unread_shown, unread_tested, same_tested}
+
+-- ---- the text
+
+abbrev pub units_text : List ℕ
+units_text = codes "SELECT id, source, legacy, level, draft, until FROM unit"
+
+abbrev pub units_terms : List Term
+units_terms = col 1 0 ∷ col 1 2 ∷ col 1 3 ∷ col 1 4 ∷ col 1 5 ∷ col 1 6 ∷ []
+
+abbrev pub units_names : List (List ℕ)
+units_names = codes "id" ∷ codes "source" ∷ codes "legacy" ∷ codes "level" ∷ codes "draft" ∷ codes "until" ∷ []
+
+pub units_mean : (v : Version) → Means v units_text 0 (Select (asking tables.unit [] units_terms []) units_names)
+unfolding understood everything
+units_mean Links = record { is = refl; plain = (refl, refl); whole = (le_refl _, refl, refl); unlisted = refl }
+units_mean Spans = record { is = refl; plain = (refl, refl); whole = (le_refl _, refl, refl); unlisted = refl }
+
+abbrev pub show_unit : Row → Row
+show_unit = show tables.unit units_terms [] units_names units_text units_mean
+
+-- ---- what the rows tell
+
+abbrev id_of : UnitRow → ℕ
+id_of row = row.id
+
+all_both : {X : Type 0} (p q : X → Bool) (xs : List X) → list_all (λ x. p x && q x) xs ≡ (list_all p xs && list_all q xs)
+all_both p q [] = refl
+all_both p q (x ∷ xs) = ap (λ b. (p x && q x) && b) (all_both p q xs) ∙ crossed (p x) (q x) (list_all p xs) (list_all q xs)
+  where
+    crossed : (a b c d : Bool) → ((a && b) && (c && d)) ≡ ((a && c) && (b && d))
+    crossed true true c d = refl
+    crossed true false true d = refl
+    crossed true false false d = refl
+    crossed false b c d = refl
+
+judged_both : (unread described below rest good fine : Bool) → good ≡ not (unread || not described) → (unread ≡ false → described ≡ true → fine ≡ (below && rest))
+    → (good && fine) ≡ not (unread || not ((below && described) && rest))
+judged_both true d l r good fine is fit = ap (λ b. b && fine) is
+judged_both false false true r good fine is fit = ap (λ b. b && fine) is
+judged_both false false false r good fine is fit = ap (λ b. b && fine) is
+judged_both false true true r good fine is fit = ap₂ ◌&&◌ is (fit refl refl) ∙ twice r
+  where
+    twice : (b : Bool) → b ≡ not (not b)
+    twice true = refl
+    twice false = refl
+judged_both false true false r good fine is fit = ap₂ ◌&&◌ is (fit refl refl)
+
+-- ---- numbers in another order
+
+all_stand_alike : (xs sorted ys others : List ℕ) → IsPermutation xs sorted → IsPermutation ys others → all_stand_in sorted others ≡ all_stand_in xs ys
+all_stand_alike xs sorted ys others same alike =
+    sym (λ i. list_all (λ n. list_any-IsPermutation (nat_eq n) xs sorted same i) others) ∙ sym (all_alike (λ n. stands n xs) ys others (permuted ys others alike))
+
+pub numbers_alike : (next deep : ℕ) (numbers units placed places : List ℕ) → IsPermutation numbers units → IsPermutation placed places
+    → are_good_numbers next places deep units ≡ are_good_numbers next placed deep numbers
+numbers_alike next deep numbers units placed places same alike =
+    ap₂ ◌&&◌ (sym (all_alike (λ n. nat_lt n next) numbers units (permuted numbers units same)))
+    (ap₂ ◌&&◌ (all_stand_alike placed places numbers units alike same) (ap₂ ◌&&◌ (all_stand_alike numbers units placed places same alike)
+    (ap (λ n. nat_le n most_units && nat_le deep most_deep) (length_permutation numbers units same))))
+
+module _ (v : Version) (next : ℕ) (db : Trees) (ys rows : List Row) (numbers : List ℕ) (good : Bool) (gathered : AreGathered (λ n. n) said_described rows numbers good)
+    (same : IsPermutation (db tables.unit.tree) ys) (shown : rows ≡ map show_unit ys) where
+  abbrev table : List Row
+  table = db tables.unit.tree
+
+  -- as they were read
+  abbrev units : List UnitRow
+  units = filter_map read_unit ys
+
+  abbrev in_catalogue : List UnitRow
+  in_catalogue = (catalogue_in v db).units
+
+  alike : Alike units in_catalogue
+  alike = alike_back in_catalogue units
+      (alike_then in_catalogue (filter_map read_unit table) units (ordered_alike (by id_of) (filter_map read_unit table)) (read_alike read_unit table ys same))
+
+  unread : has_unread said_described rows ≡ (has_unread read_unit table || not (list_all is_described in_catalogue))
+  unread =
+      ap (has_unread said_described) shown ∙ unread_shown said_described read_described show_unit (λ _. refl) ys ∙ unread_tested read_unit is_described id_of ys
+      ∙ ap₂ (λ a b. a || not b) (sym (list_any-IsPermutation (λ row. is_none (read_unit row)) table ys same)) (all_alike is_described units in_catalogue alike)
+
+  module _ (none : has_unread read_unit table ≡ false) (all : list_all is_described in_catalogue ≡ true) where
+    all_read : has_unread said_described rows ≡ false
+    all_read = unread ∙ ap₂ (λ a b. a || not b) none all
+
+    are_numbers : numbers ≡ map id_of units
+    are_numbers =
+        same_rows numbers ∙ gathered.are ∙ ap (filter_map said_described) shown ∙ said_shown said_described read_described show_unit (λ _. refl) ys
+        ∙ same_tested read_unit is_described id_of ys (sym (ap (has_unread said_described) shown ∙ unread_shown said_described read_described show_unit (λ _. refl) ys) ∙ all_read)
+
+    below : list_all (λ n. nat_lt n next) numbers ≡ list_all (λ (row : UnitRow). nat_lt row.id next) in_catalogue
+    below = ap (list_all (λ n. nat_lt n next)) are_numbers ∙ list_all-map (λ n. nat_lt n next) id_of units ∙ all_alike (λ (row : UnitRow). nat_lt row.id next) units in_catalogue alike
+
+    stand : (n : ℕ) → stands n numbers ≡ stands n (unit_numbers (catalogue_in v db))
+    stand n = ap (stands n) are_numbers ∙ list_any-map (nat_eq n) id_of units ∙ any_alike (λ (row : UnitRow). nat_eq n row.id) units in_catalogue alike ∙ sym (list_any-map (nat_eq n) id_of in_catalogue)
+
+    as_many : length numbers ≡ length in_catalogue
+    as_many = ap length are_numbers ∙ length-map units id_of ∙ length_alike units in_catalogue alike
+
+    module _ (places : List ℕ) (deep : ℕ) (placed : AreUnitsPlaced (places_in v db) places) (depth : deep ≡ height (places_said (places_in v db))) where
+      abbrev in_places : List ℕ
+      in_places = place_numbers (places_in v db)
+
+      stand_placed : (n : ℕ) → stands n places ≡ stands n in_places
+      stand_placed n = sym (list_any-IsPermutation (nat_eq n) in_places places placed.same)
+
+      all_placed : all_stand_in places numbers ≡ all_stand_in in_places (unit_numbers (catalogue_in v db))
+      all_placed =
+          (λ i. list_all (λ n. stand_placed n i) numbers) ∙ ap (list_all (λ n. stands n in_places)) are_numbers ∙ list_all-map (λ n. stands n in_places) id_of units
+          ∙ all_alike (λ (row : UnitRow). stands row.id in_places) units in_catalogue alike ∙ sym (list_all-map (λ n. stands n in_places) id_of in_catalogue)
+
+      all_there : all_stand_in numbers places ≡ all_stand_in (unit_numbers (catalogue_in v db)) in_places
+      all_there =
+          (λ i. list_all (λ n. stand n i) places) ∙ sym (all_alike (λ n. stands n (unit_numbers (catalogue_in v db))) in_places places (permuted in_places places placed.same))
+
+      fits : are_good_numbers next places deep numbers
+          ≡ (list_all (λ (row : UnitRow). nat_lt row.id next) in_catalogue && (all_stand_in in_places (unit_numbers (catalogue_in v db)) && (all_stand_in (unit_numbers (catalogue_in v db)) in_places
+          && (nat_le (length in_catalogue) most_units && nat_le (height (places_said (places_in v db))) most_deep))))
+      fits = ap₂ ◌&&◌ below (ap₂ ◌&&◌ all_placed (ap₂ ◌&&◌ all_there (ap₂ ◌&&◌ (ap (λ n. nat_le n most_units) as_many) (ap (λ n. nat_le n most_deep) depth))))
+
+  pub units_judged : (places : List ℕ) (deep : ℕ) → AreUnitsPlaced (places_in v db) places → deep ≡ height (places_said (places_in v db)) → (fine : Bool) → fine ≡ are_good_numbers next places deep numbers
+      → (good && fine) ≡ not (units_are_doubtful v next db)
+  units_judged places deep placed depth fine is =
+      let rest = all_stand_in (place_numbers (places_in v db)) (unit_numbers (catalogue_in v db)) && (all_stand_in (unit_numbers (catalogue_in v db)) (place_numbers (places_in v db))
+      && (nat_le (length in_catalogue) most_units && nat_le (height (places_said (places_in v db))) most_deep)) in
+      judged_both (has_unread read_unit table) (list_all is_described in_catalogue) (list_all (λ (row : UnitRow). nat_lt row.id next) in_catalogue) rest good fine
+      (gathered.all ∙ ap not unread) (λ none all. is ∙ fits none all places deep placed depth)
+      ∙ ap (λ b. not (has_unread read_unit table || not (b && rest))) (sym (all_both (λ (row : UnitRow). nat_lt row.id next) is_described in_catalogue))

@@ -1,0 +1,80 @@
+//! The check of the catalogue's tables.
+
+ghost use Rattle.std.specs.Prelude.{◌≡◌, not, false, IfOk};
+ghost use Rattle.sqlite.specs.Held.{state};
+ghost use Rattle.sqlite.specs.State.{HasCleanDisk};
+ghost use Rattle.tree_core.specs.Versions.{Version};
+ghost use Rattle.office_tables.specs.Asking.{Reads};
+ghost use Rattle.office_tables.specs.CatalogueCells.{read_unit};
+ghost use Rattle.office_tables.specs.Cells.{has_unread};
+ghost use Rattle.office_tables.specs.Faults.{FaultsHaveCause};
+ghost use Rattle.office_tables.specs.Schema as tables;
+ghost use Rattle.office_tables.specs.Step.{InOffice, InTransaction};
+ghost use Rattle.integrity_checks.specs.CatalogueChecks.{containers_are_doubtful, doubtful_catalogue};
+ghost use Rattle.integrity_checks.specs.CatalogueJudging.{doubt_of_contents};
+
+use crate::catalogue_doubt::CatalogueDoubt;
+use crate::containers::numbered;
+use crate::elements::elements_are_good;
+use crate::housing::housings_are_good;
+use crate::units::units_are_good;
+use crate::{CheckedPlaces, Placed};
+use office_tables::StoreFault;
+use sqlite::{Alter, Connection};
+use std::alloc::Global;
+
+/// Whether the containers, and what lies in them, are such as a catalogue has, where each unit can be read.
+fn containers_are_good<S: Alter>(conn: &mut Connection<S>) -> Result<bool, StoreFault>
+    requires inside { InOffice (state S.Store conn.old) }
+    ensures reads { Reads (state S.Store conn.old) (state S.Store conn.new) result }
+    ensures tells { HasCleanDisk (state S.Store conn.new) → (version : Version)
+        → has_unread read_unit ((state S.Store conn.old).now.trees tables.unit.tree) ≡ false
+        → IfOk result (λ good. good ≡ not (containers_are_doubtful version (state S.Store conn.old).now.trees)) }
+    ensures faults { FaultsHaveCause (state S.Store conn.old) (state S.Store conn.new) result }
+{
+    let Some(containers) = numbered(conn)? else {
+        return Ok(false);
+    };
+    housings_are_good(conn, containers)
+}
+
+/// What is doubtful of the elements, and then of the containers, where each unit can be read.
+fn check_contents<S: Alter>(conn: &mut Connection<S>) -> Result<Option<CatalogueDoubt>, StoreFault>
+    requires inside { InOffice (state S.Store conn.old) }
+    ensures reads { Reads (state S.Store conn.old) (state S.Store conn.new) result }
+    ensures tells { HasCleanDisk (state S.Store conn.new) → (version : Version)
+        → has_unread read_unit ((state S.Store conn.old).now.trees tables.unit.tree) ≡ false
+        → IfOk result (λ told. told ≡ doubt_of_contents version (state S.Store conn.old).now.trees) }
+    ensures faults { FaultsHaveCause (state S.Store conn.old) (state S.Store conn.new) result }
+{
+    if !elements_are_good(conn)? {
+        return Ok(Some(CatalogueDoubt::Elements));
+    }
+    if !containers_are_good(conn)? {
+        return Ok(Some(CatalogueDoubt::Containers));
+    }
+    Ok(None)
+}
+
+/// The first part of the catalogue whose rows are such as no catalogue has, where this is the number of the next unit,
+/// or none. All tables are read whole; no more is held at once than the places, or the numbers of the units.
+pub fn load_check<P: CheckedPlaces, S: Alter>(
+    alloc: Global,
+    conn: &mut Connection<S>,
+    next: u64,
+) -> Result<Option<CatalogueDoubt>, StoreFault>
+    requires inside { InTransaction P.version (state S.Store conn.old) }
+    ensures reads { Reads (state S.Store conn.old) (state S.Store conn.new) result }
+    ensures tells { HasCleanDisk (state S.Store conn.new)
+        → IfOk result (λ told. told ≡ doubtful_catalogue P.version next (state S.Store conn.old).now.trees) }
+    ensures faults { FaultsHaveCause (state S.Store conn.old) (state S.Store conn.new) result }
+{
+    let Some(placed) = P::check(alloc, conn)? else {
+        return Ok(Some(CatalogueDoubt::Places));
+    };
+    let Placed { units, height } = placed;
+    if !units_are_good(alloc, conn, units, height, next)? {
+        return Ok(Some(CatalogueDoubt::Units));
+    }
+    check_contents(conn)
+}

@@ -1,0 +1,29 @@
+//! Why the catalogue's tables can be no catalogue's.
+
+ghost use Rattle.std.specs.Prelude.{◌≡◌};
+ghost use Rattle.integrity_checks.specs.CatalogueChecks.{cause_of};
+
+/// The part of the catalogue whose rows are such as no catalogue has.
+#[derive(Clone, Copy, Debug, PartialEq, Eq)]
+pub enum CatalogueDoubt {
+    /// Where the units stand.
+    Places,
+    Units,
+    Elements,
+    /// The containers, and what lies in them.
+    Containers,
+}
+
+impl CatalogueDoubt {
+    /// Its number among the ten causes for which an office's tables are refused.
+    pub fn cause(self) -> u8
+        ensures { result ≡ cause_of self }
+    {
+        match self {
+            CatalogueDoubt::Places => 2,
+            CatalogueDoubt::Units => 3,
+            CatalogueDoubt::Elements => 4,
+            CatalogueDoubt::Containers => 5,
+        }
+    }
+}

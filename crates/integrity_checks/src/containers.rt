@@ -1,0 +1,78 @@
+//! Whether the containers can be a catalogue's, whatever their cells are.
+
+ghost use Rattle.std.specs.Prelude.{◌≡◌, IfOk};
+ghost use Rattle.sqlite.specs.Held.{state};
+ghost use Rattle.sqlite.specs.State.{HasCleanDisk};
+ghost use Rattle.office_tables.specs.Asking.{Reads};
+ghost use Rattle.office_tables.specs.Faults.{FaultsHaveCause};
+ghost use Rattle.office_tables.specs.Step.{InOffice};
+ghost use Rattle.integrity_checks.specs.ScanAnswers.{is_container_answer};
+ghost use Rattle.integrity_checks.specs.CatalogueJudging.{number_of_containers};
+
+use crate::cells::{is_text, tells};
+use office_tables::{Gathering, StoreFault, gather};
+use row_decoding::{cell, number_in};
+use sqlite::{Alter, Connection, Row};
+
+/// How many containers an office has at most.
+const MOST_CONTAINERS: u64 = 100_000;
+
+/// Whether the cells of a row say the container with this number.
+fn is_container(row: &Row, number: u64) -> bool
+    ensures { result ≡ is_container_answer number row.now }
+{
+    let Some(id) = number_in(cell(row, 0)) else {
+        return false;
+    };
+    id == number && tells(cell(row, 1)) && is_text(cell(row, 2)) && is_text(cell(row, 3))
+}
+
+/// The containers that were taken, in the order of their numbers.
+#[derive(Drop)]
+struct Containers {
+    count: u64,
+    /// They are numbered from 1 on, and each has a name.
+    are_good: bool,
+}
+
+impl Gathering for Containers {
+    ghost use Rattle.std.specs.Prelude.{◌≡◌, length};
+    ghost use Rattle.integrity_checks.specs.ScanAnswers.{are_container_answers};
+
+    ghost holds = { λ rows all. (all.count ≡ length rows) × (all.are_good ≡ are_container_answers 1 rows) };
+
+    fn take(&mut self, row: &Row) -> Result<(), StoreFault> {
+        if self.count >= u64::MAX {
+            return Err(StoreFault::Memory);
+        }
+        self.count += 1;
+        if !is_container(row, self.count) {
+            self.are_good = false;
+        }
+        Ok(())
+    }
+}
+
+/// How many containers there are, unless their rows are such as no catalogue has. The table is read whole, row by row.
+pub(crate) fn numbered<S: Alter>(conn: &mut Connection<S>) -> Result<Option<u64>, StoreFault>
+    requires inside { InOffice (state S.Store conn.old) }
+    ensures reads { Reads (state S.Store conn.old) (state S.Store conn.new) result }
+    ensures tells { HasCleanDisk (state S.Store conn.new)
+        → IfOk result (λ count. count ≡ number_of_containers (state S.Store conn.old).now.trees) }
+    ensures faults { FaultsHaveCause (state S.Store conn.old) (state S.Store conn.new) result }
+{
+    let all = gather(
+        conn,
+        "SELECT id, name, location, kind FROM container ORDER BY id",
+        Containers {
+            count: 0,
+            are_good: true,
+        },
+    )?;
+    let are_sound = all.are_good && all.count <= MOST_CONTAINERS;
+    if are_sound {
+        Ok(Some(all.count))
+    } else {
+        Ok(None)
+    }
+}

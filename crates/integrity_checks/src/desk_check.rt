@@ -1,0 +1,116 @@
+//! The check of the reading room's tables.
+
+ghost use Rattle.std.specs.Prelude.{◌≡◌, false, IfOk, map};
+ghost use Rattle.sqlite.specs.Held.{state};
+ghost use Rattle.sqlite.specs.State.{HasCleanDisk};
+ghost use Rattle.desk_core.specs.DeskCauses.{Around as Held, orders_are_bad};
+ghost use Rattle.office_tables.specs.Asking.{Reads};
+ghost use Rattle.office_tables.specs.Faults.{FaultsHaveCause};
+ghost use Rattle.office_tables.specs.Step.{InOffice};
+ghost use Rattle.row_decoding.specs.TableRows.{desk_in};
+ghost use Rattle.integrity_checks.specs.DeskChecks.{doubt_of_past, doubt_of_orders, doubtful_desk};
+ghost use Rattle.integrity_checks.specs.DeskJudging.{AreOrdersOf, doubt_beside_readers};
+ghost use Rattle.desk_core.specs.RowRecords.{Surrounds, order_row};
+
+use crate::desk_doubt::DeskDoubt;
+use crate::desk_rows::{
+    holdings_are_good, permits_are_good, runs_are_good, seats_are_good, surroundings,
+};
+use crate::readers::registered;
+use desk_core::Limits;
+use desk_core::consistency::{Around, OrderRow, are_good_orders};
+use isad_core::Day;
+use office_tables::StoreFault;
+use row_decoding::orders;
+use sqlite::{Alter, Connection};
+use std::alloc::Global;
+
+/// What is doubtful of the holdings and the runs, beside these orders.
+fn check_past<S: Alter>(
+    alloc: Global,
+    conn: &mut Connection<S>,
+    around: &Around,
+    orders: &[OrderRow],
+) -> Result<Option<DeskDoubt>, StoreFault>
+    requires inside { InOffice (state S.Store conn.old) }
+    ensures reads { Reads (state S.Store conn.old) (state S.Store conn.new) result }
+    ensures tells { HasCleanDisk (state S.Store conn.new) → (a : Held)
+        → Surrounds around.now a (desk_in (state S.Store conn.old).now.trees)
+        → AreOrdersOf (state S.Store conn.old).now.trees (map order_row orders.now)
+        → orders_are_bad a (desk_in (state S.Store conn.old).now.trees) ≡ false
+        → IfOk result (λ told. told ≡ doubt_of_past a (state S.Store conn.old).now.trees) }
+    ensures faults { FaultsHaveCause (state S.Store conn.old) (state S.Store conn.new) result }
+{
+    if !holdings_are_good(alloc, conn, around, orders)? {
+        return Ok(Some(DeskDoubt::Holdings));
+    }
+    if !runs_are_good(alloc, conn, around, orders)? {
+        return Ok(Some(DeskDoubt::Runs));
+    }
+    Ok(None)
+}
+
+/// What is doubtful of the orders, and then of the rest.
+fn check_orders<S: Alter>(
+    alloc: Global,
+    conn: &mut Connection<S>,
+    around: &Around,
+) -> Result<Option<DeskDoubt>, StoreFault>
+    requires inside { InOffice (state S.Store conn.old) }
+    ensures reads { Reads (state S.Store conn.old) (state S.Store conn.new) result }
+    ensures tells { HasCleanDisk (state S.Store conn.new) → (a : Held)
+        → Surrounds around.now a (desk_in (state S.Store conn.old).now.trees)
+        → IfOk result (λ told. told ≡ doubt_of_orders a (state S.Store conn.old).now.trees) }
+    ensures faults { FaultsHaveCause (state S.Store conn.old) (state S.Store conn.new) result }
+{
+    let all = orders(alloc, conn)?;
+    let are_good = are_good_orders(alloc, around, &all.rows)?;
+    let are_sound = all.are_read && are_good;
+    if !are_sound {
+        return Ok(Some(DeskDoubt::Orders));
+    }
+    check_past(alloc, conn, around, &all.rows)
+}
+
+/// What is doubtful of the seats and the permits, and then of the rest.
+fn check_cards<S: Alter>(
+    alloc: Global,
+    conn: &mut Connection<S>,
+    around: &Around,
+) -> Result<Option<DeskDoubt>, StoreFault>
+    requires inside { InOffice (state S.Store conn.old) }
+    ensures reads { Reads (state S.Store conn.old) (state S.Store conn.new) result }
+    ensures tells { HasCleanDisk (state S.Store conn.new) → (a : Held)
+        → Surrounds around.now a (desk_in (state S.Store conn.old).now.trees)
+        → IfOk result (λ told. told ≡ doubt_beside_readers a (state S.Store conn.old).now.trees) }
+    ensures faults { FaultsHaveCause (state S.Store conn.old) (state S.Store conn.new) result }
+{
+    if !seats_are_good(alloc, conn, around)? {
+        return Ok(Some(DeskDoubt::Readers));
+    }
+    if !permits_are_good(alloc, conn, around)? {
+        return Ok(Some(DeskDoubt::Readers));
+    }
+    check_orders(alloc, conn, around)
+}
+
+/// The first part of the desk whose rows are such as no desk of an office with these limits has on
+/// this day, or none. All tables are read whole; the rows but the readers' are kept while it runs.
+pub fn load_check_desk<S: Alter>(
+    alloc: Global,
+    conn: &mut Connection<S>,
+    limits: &Limits,
+    today: Day,
+) -> Result<Option<DeskDoubt>, StoreFault>
+    requires inside { InOffice (state S.Store conn.old) }
+    ensures reads { Reads (state S.Store conn.old) (state S.Store conn.new) result }
+    ensures tells { HasCleanDisk (state S.Store conn.new)
+        → IfOk result (λ told. told ≡ doubtful_desk limits.now today (state S.Store conn.old).now.trees) }
+    ensures faults { FaultsHaveCause (state S.Store conn.old) (state S.Store conn.new) result }
+{
+    let Some(readers) = registered(conn)? else {
+        return Ok(Some(DeskDoubt::Readers));
+    };
+    let around = surroundings(alloc, conn, limits, today, readers)?;
+    check_cards(alloc, conn, &around)
+}

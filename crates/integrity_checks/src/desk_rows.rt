@@ -1,0 +1,134 @@
+//! Whether the rows of a table of the desk can all be read and are such as a desk has.
+
+ghost use Rattle.std.specs.Prelude.{◌≡◌, ◌&&◌, false, IfOk, Some, map};
+ghost use Rattle.sqlite.specs.Held.{state};
+ghost use Rattle.sqlite.specs.State.{HasCleanDisk};
+ghost use Rattle.desk_core.specs.DeskCauses.{Around as Held, orders_are_bad};
+ghost use Rattle.office_tables.specs.Asking.{Reads};
+ghost use Rattle.office_tables.specs.Faults.{FaultsHaveCause};
+ghost use Rattle.office_tables.specs.Step.{InOffice};
+ghost use Rattle.row_decoding.specs.TableRows.{desk_in};
+ghost use Rattle.integrity_checks.specs.DeskChecks.{around_in};
+ghost use Rattle.integrity_checks.specs.DeskJudging.{AreOrdersOf, good_seats_in, good_permits_in};
+ghost use Rattle.integrity_checks.specs.DeskJudging.{good_holdings_in, good_runs_in};
+ghost use Rattle.integrity_checks.specs.ReaderRows.{number_registered};
+ghost use Rattle.desk_core.specs.RowRecords.{Surrounds, order_row};
+
+use desk_core::Limits;
+use desk_core::consistency::{
+    Around, Numbers, OrderRow, are_good_holdings, are_good_permits, are_good_runs, are_good_seats,
+};
+use isad_core::Day;
+use office_tables::StoreFault;
+use row_decoding::{container_numbers, holdings, permits, run_lines, runs, seats, unit_numbers};
+use sqlite::{Alter, Connection};
+use std::alloc::Global;
+
+/// What the desk is held against, where its readers are so many.
+pub(crate) fn surroundings<S: Alter>(
+    alloc: Global,
+    conn: &mut Connection<S>,
+    limits: &Limits,
+    today: Day,
+    readers: u64,
+) -> Result<Around, StoreFault>
+    requires inside { InOffice (state S.Store conn.old) }
+    ensures reads { Reads (state S.Store conn.old) (state S.Store conn.new) result }
+    ensures tells { HasCleanDisk (state S.Store conn.new)
+        → number_registered (state S.Store conn.old).now.trees ≡ Some readers
+        → IfOk result (λ around. Surrounds around (around_in limits.now today (state S.Store conn.old).now.trees)
+        (desk_in (state S.Store conn.old).now.trees)) }
+    ensures faults { FaultsHaveCause (state S.Store conn.old) (state S.Store conn.new) result }
+{
+    let units = unit_numbers(alloc, conn)?;
+    let containers = container_numbers(alloc, conn)?;
+    Ok(Around {
+        seats: u64::from(limits.seats),
+        daily: u64::from(limits.daily),
+        run_size: u64::from(limits.run),
+        day: i64::from(today.number()),
+        readers,
+        units: Numbers::sorted(units.rows),
+        containers: Numbers::sorted(containers.rows),
+    })
+}
+
+/// Whether the seats are.
+pub(crate) fn seats_are_good<S: Alter>(
+    alloc: Global,
+    conn: &mut Connection<S>,
+    around: &Around,
+) -> Result<bool, StoreFault>
+    requires inside { InOffice (state S.Store conn.old) }
+    ensures reads { Reads (state S.Store conn.old) (state S.Store conn.new) result }
+    ensures tells { HasCleanDisk (state S.Store conn.new) → (a : Held)
+        → Surrounds around.now a (desk_in (state S.Store conn.old).now.trees)
+        → IfOk result (λ good. good ≡ good_seats_in a (state S.Store conn.old).now.trees) }
+    ensures faults { FaultsHaveCause (state S.Store conn.old) (state S.Store conn.new) result }
+{
+    let all = seats(alloc, conn)?;
+    let are_good = are_good_seats(around, &all.rows);
+    Ok(all.are_read && are_good)
+}
+
+/// Whether the permits are.
+pub(crate) fn permits_are_good<S: Alter>(
+    alloc: Global,
+    conn: &mut Connection<S>,
+    around: &Around,
+) -> Result<bool, StoreFault>
+    requires inside { InOffice (state S.Store conn.old) }
+    ensures reads { Reads (state S.Store conn.old) (state S.Store conn.new) result }
+    ensures tells { HasCleanDisk (state S.Store conn.new) → (a : Held)
+        → Surrounds around.now a (desk_in (state S.Store conn.old).now.trees)
+        → IfOk result (λ good. good ≡ good_permits_in a (state S.Store conn.old).now.trees) }
+    ensures faults { FaultsHaveCause (state S.Store conn.old) (state S.Store conn.new) result }
+{
+    let all = permits(alloc, conn)?;
+    let are_good = are_good_permits(alloc, around, &all.rows)?;
+    Ok(all.are_read && are_good)
+}
+
+/// Whether the holdings are, beside these orders.
+pub(crate) fn holdings_are_good<S: Alter>(
+    alloc: Global,
+    conn: &mut Connection<S>,
+    around: &Around,
+    orders: &[OrderRow],
+) -> Result<bool, StoreFault>
+    requires inside { InOffice (state S.Store conn.old) }
+    ensures reads { Reads (state S.Store conn.old) (state S.Store conn.new) result }
+    ensures tells { HasCleanDisk (state S.Store conn.new) → (a : Held)
+        → Surrounds around.now a (desk_in (state S.Store conn.old).now.trees)
+        → AreOrdersOf (state S.Store conn.old).now.trees (map order_row orders.now)
+        → orders_are_bad a (desk_in (state S.Store conn.old).now.trees) ≡ false
+        → IfOk result (λ good. good ≡ good_holdings_in a (state S.Store conn.old).now.trees) }
+    ensures faults { FaultsHaveCause (state S.Store conn.old) (state S.Store conn.new) result }
+{
+    let all = holdings(alloc, conn)?;
+    let are_good = are_good_holdings(alloc, around, orders, &all.rows)?;
+    Ok(all.are_read && are_good)
+}
+
+/// Whether the runs and their lines are, beside these orders.
+pub(crate) fn runs_are_good<S: Alter>(
+    alloc: Global,
+    conn: &mut Connection<S>,
+    around: &Around,
+    orders: &[OrderRow],
+) -> Result<bool, StoreFault>
+    requires inside { InOffice (state S.Store conn.old) }
+    ensures reads { Reads (state S.Store conn.old) (state S.Store conn.new) result }
+    ensures tells { HasCleanDisk (state S.Store conn.new) → (a : Held)
+        → Surrounds around.now a (desk_in (state S.Store conn.old).now.trees)
+        → AreOrdersOf (state S.Store conn.old).now.trees (map order_row orders.now)
+        → orders_are_bad a (desk_in (state S.Store conn.old).now.trees) ≡ false
+        → IfOk result (λ good. good ≡ good_runs_in a (state S.Store conn.old).now.trees) }
+    ensures faults { FaultsHaveCause (state S.Store conn.old) (state S.Store conn.new) result }
+{
+    let all = runs(alloc, conn)?;
+    let lines = run_lines(alloc, conn)?;
+    let are_good = are_good_runs(alloc, around, orders, &all.rows, &lines.rows)?;
+    let are_read = all.are_read && lines.are_read;
+    Ok(are_read && are_good)
+}

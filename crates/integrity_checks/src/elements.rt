@@ -1,0 +1,72 @@
+//! Whether the elements of the units can be a catalogue's, whatever their cells are.
+
+ghost use Rattle.std.specs.Prelude.{◌≡◌, not, false, IfOk};
+ghost use Rattle.sqlite.specs.Held.{state};
+ghost use Rattle.sqlite.specs.State.{HasCleanDisk};
+ghost use Rattle.tree_core.specs.Versions.{Version};
+ghost use Rattle.office_tables.specs.Asking.{Reads};
+ghost use Rattle.office_tables.specs.CatalogueCells.{read_unit};
+ghost use Rattle.office_tables.specs.Cells.{has_unread};
+ghost use Rattle.office_tables.specs.Faults.{FaultsHaveCause};
+ghost use Rattle.office_tables.specs.Schema as tables;
+ghost use Rattle.office_tables.specs.Step.{InOffice};
+ghost use Rattle.integrity_checks.specs.ScanAnswers.{is_element_answer};
+ghost use Rattle.integrity_checks.specs.CatalogueChecks.{elements_are_doubtful};
+
+use crate::cells::tells;
+use office_tables::{Gathering, StoreFault, gather};
+use row_decoding::{cell, number_in};
+use sqlite::{Alter, Connection, Row};
+
+/// Whether the cells of a row say an element of a unit: one of 26 but the level, and a text that is not blank.
+fn is_element(row: &Row) -> bool
+    ensures { result ≡ is_element_answer row.now }
+{
+    let Some(_) = number_in(cell(row, 0)) else {
+        return false;
+    };
+    let Some(k) = number_in(cell(row, 1)) else {
+        return false;
+    };
+    1 <= k && k <= 26 && k != 4 && tells(cell(row, 2))
+}
+
+/// The elements that were taken.
+#[derive(Drop)]
+struct Elements {
+    are_good: bool,
+}
+
+impl Gathering for Elements {
+    ghost use Rattle.std.specs.Prelude.{◌≡◌};
+    ghost use Rattle.std.specs.List.{list_all};
+    ghost use Rattle.integrity_checks.specs.ScanAnswers.{is_element_answer};
+
+    ghost holds = { λ rows all. all.are_good ≡ list_all is_element_answer rows };
+
+    fn take(&mut self, row: &Row) -> Result<(), StoreFault> {
+        if !is_element(row) {
+            self.are_good = false;
+        }
+        Ok(())
+    }
+}
+
+/// Whether the elements are such as a catalogue has, where each unit can be read. The table is read whole, row by row.
+pub(crate) fn elements_are_good<S: Alter>(conn: &mut Connection<S>) -> Result<bool, StoreFault>
+    requires inside { InOffice (state S.Store conn.old) }
+    ensures reads { Reads (state S.Store conn.old) (state S.Store conn.new) result }
+    ensures tells { HasCleanDisk (state S.Store conn.new) → (version : Version)
+        → has_unread read_unit ((state S.Store conn.old).now.trees tables.unit.tree) ≡ false
+        → IfOk result (λ good. good ≡ not (elements_are_doubtful version (state S.Store conn.old).now.trees)) }
+    ensures faults { FaultsHaveCause (state S.Store conn.old) (state S.Store conn.new) result }
+{
+    // The rows of an open connection keep the foreign keys of its tables: each element has its unit.
+    let _ = conn.schema();
+    let all = gather(
+        conn,
+        "SELECT unit, k, value FROM element",
+        Elements { are_good: true },
+    )?;
+    Ok(all.are_good)
+}

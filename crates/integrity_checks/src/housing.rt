@@ -1,0 +1,133 @@
+//! Whether what lies in the containers can be a catalogue's, whatever the cells are.
+
+ghost use Rattle.std.specs.Prelude.{◌≡◌, false, nat_le, length, option_map, IfOk};
+ghost use Rattle.sqlite.specs.Held.{state};
+ghost use Rattle.sqlite.specs.State.{HasCleanDisk};
+ghost use Rattle.tree_core.specs.Versions.{Version};
+ghost use Rattle.office_tables.specs.Asking.{Reads};
+ghost use Rattle.office_tables.specs.CatalogueCells.{read_unit};
+ghost use Rattle.office_tables.specs.Cells.{has_unread};
+ghost use Rattle.office_tables.specs.Faults.{FaultsHaveCause};
+ghost use Rattle.office_tables.specs.Schema as tables;
+ghost use Rattle.office_tables.specs.Step.{InOffice};
+ghost use Rattle.integrity_checks.specs.ScanAnswers.{said_placed};
+ghost use Rattle.integrity_checks.specs.Filled.{higher as higher_of, housed};
+ghost use Rattle.row_decoding.specs.TableRows.{containers_in};
+ghost use Rattle.integrity_checks.specs.CatalogueJudging.{good_housings_in};
+
+use office_tables::{Gathering, StoreFault, gather};
+use row_decoding::{cell, number_in};
+use sqlite::{Alter, Connection, Row};
+
+/// A container of a unit, at its place in the unit's order.
+#[derive(Drop)]
+struct Housed {
+    unit: u64,
+    ord: u64,
+    container: u64,
+}
+
+/// What a row says, where its place and its container have numbers from 1 on.
+fn housed_in(row: &Row) -> Option<Housed>
+    ensures { option_map housed result ≡ said_placed row.now }
+{
+    let unit = number_in(cell(row, 0))?;
+    let ord = number_in(cell(row, 1))?;
+    let container = number_in(cell(row, 2))?;
+    if ord < 1 || container < 1 {
+        return None;
+    }
+    Some(Housed {
+        unit,
+        ord,
+        container,
+    })
+}
+
+/// The higher of two numbers.
+fn higher(a: u64, b: u64) -> u64
+    ensures { result ≡ higher_of a b }
+{
+    if a <= b { b } else { a }
+}
+
+/// The rows that were taken, those of a unit one after the other.
+#[derive(Drop)]
+struct Housings {
+    /// Each row says something, and no place of a unit before the last is above the number of the unit's rows.
+    are_good: bool,
+    /// The unit of the last row, how many rows it has, and the highest place among them.
+    unit: u64,
+    count: u64,
+    highest: u64,
+    /// The highest container of all.
+    last: u64,
+}
+
+impl Housings {
+    /// Whether no place of the last unit is above the number of its rows.
+    fn is_filled(&self) -> bool
+        ensures { result ≡ nat_le self.now.highest self.now.count }
+    {
+        self.highest <= self.count
+    }
+}
+
+impl Gathering for Housings {
+    ghost use Rattle.integrity_checks.specs.Filled.{AreHoused};
+
+    ghost holds = { λ rows all. AreHoused rows all.are_good all.unit all.count all.highest all.last };
+
+    fn take(&mut self, row: &Row) -> Result<(), StoreFault> {
+        if self.count >= u64::MAX {
+            return Err(StoreFault::Memory);
+        }
+        let Some(housed) = housed_in(row) else {
+            self.are_good = false;
+            return Ok(());
+        };
+        self.last = higher(self.last, housed.container);
+        if housed.unit == self.unit {
+            self.count += 1;
+            self.highest = higher(self.highest, housed.ord);
+            return Ok(());
+        }
+        if !self.is_filled() {
+            self.are_good = false;
+        }
+        self.unit = housed.unit;
+        self.count = 1;
+        self.highest = housed.ord;
+        Ok(())
+    }
+}
+
+/// Whether what lies in so many containers is such as a catalogue has, where each unit can be read. The table is read
+/// whole, row by row.
+pub(crate) fn housings_are_good<S: Alter>(
+    conn: &mut Connection<S>,
+    containers: u64,
+) -> Result<bool, StoreFault>
+    requires inside { InOffice (state S.Store conn.old) }
+    ensures reads { Reads (state S.Store conn.old) (state S.Store conn.new) result }
+    ensures tells { HasCleanDisk (state S.Store conn.new) → (version : Version)
+        → has_unread read_unit ((state S.Store conn.old).now.trees tables.unit.tree) ≡ false
+        → length (containers_in (state S.Store conn.old).now.trees) ≡ containers
+        → IfOk result (λ good. good ≡ good_housings_in version (state S.Store conn.old).now.trees) }
+    ensures faults { FaultsHaveCause (state S.Store conn.old) (state S.Store conn.new) result }
+{
+    // The rows of an open connection keep the foreign keys of its tables: what lies in a container is of a unit.
+    let _ = conn.schema();
+    let all = gather(
+        conn,
+        "SELECT unit, ord, container FROM housing ORDER BY unit, ord",
+        Housings {
+            are_good: true,
+            unit: 0,
+            count: 0,
+            highest: 0,
+            last: 0,
+        },
+    )?;
+    Ok(all.are_good && all.is_filled() && all.last <= containers)
+}

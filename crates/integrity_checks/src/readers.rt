@@ -1,0 +1,122 @@
+//! Whether the rows of the readers can be a desk's, whatever their cells are.
+
+ghost use Rattle.std.specs.Prelude.{◌≡◌, ◌&&◌, nat_le, nat_eq, not, false, IfOk};
+ghost use Rattle.std.specs.List.{list_all};
+ghost use Rattle.std.specs.Option.{option_map_or};
+ghost use Rattle.sqlite.specs.Held.{state};
+ghost use Rattle.sqlite.specs.Value.{owned};
+ghost use Rattle.sqlite.specs.State.{HasCleanDisk};
+ghost use Rattle.isad_core.specs.Days.{is_day_number};
+ghost use Rattle.desk_core.specs.Names.{is_name as is_name_of};
+ghost use Rattle.office_tables.specs.Asking.{Reads};
+ghost use Rattle.office_tables.specs.Cells.{whole_in, text_in};
+ghost use Rattle.office_tables.specs.Faults.{FaultsHaveCause};
+ghost use Rattle.office_tables.specs.Step.{InOffice};
+ghost use Rattle.integrity_checks.specs.ReaderRows.{is_reader_answer, number_registered};
+
+use isad_core::is_blank;
+use office_tables::{Gathering, StoreFault, gather};
+use row_decoding::{cell, number_in};
+use sqlite::types::ValueRef;
+use sqlite::{Alter, Connection, Row};
+
+/// How many tickets an office gives.
+const MOST_TICKETS: u64 = 1_000_000;
+
+/// Whether it is a day of the calendar.
+fn is_day(value: ValueRef<'_>) -> bool
+    ensures { result ≡ option_map_or is_day_number (whole_in (owned value.entry)) false }
+{
+    match value {
+        ValueRef::Int(n) => -25_567 <= n && n <= 2_932_896,
+        _ => false,
+    }
+}
+
+/// Whether no byte is a control character.
+fn is_printed(bytes: &[u8]) -> bool
+    ensures { result ≡ list_all (λ b. nat_le 32 b && not (nat_eq b 127)) bytes.now }
+{
+    bytes.iter().all(|b| 32 <= *b && *b != 127)
+}
+
+/// Whether it is a name that a reader may have.
+fn is_name(name: &str) -> bool
+    ensures { result ≡ is_name_of name.now }
+{
+    1 <= name.len() && name.len() <= 100 && !is_blank(name) && is_printed(name.as_bytes())
+}
+
+/// Whether it is a text, in UTF-8, and such a name.
+fn tells_name(value: ValueRef<'_>) -> bool
+    ensures { result ≡ option_map_or is_name_of (text_in (owned value.entry)) false }
+{
+    match value {
+        ValueRef::Text(bytes) => match std::str::from_utf8(bytes) {
+            Ok(text) => is_name(text),
+            Err(_) => false,
+        },
+        _ => false,
+    }
+}
+
+/// Whether the cells of a row say the reader with this ticket.
+fn is_reader(row: &Row, ticket: u64) -> bool
+    ensures { result ≡ is_reader_answer ticket row.now }
+{
+    let Some(number) = number_in(cell(row, 0)) else {
+        return false;
+    };
+    number == ticket && is_day(cell(row, 1)) && tells_name(cell(row, 2))
+}
+
+/// The readers that were taken, in the order of their tickets.
+#[derive(Drop)]
+struct Readers {
+    count: u64,
+    /// Their tickets were given from 1 on, and each has a name and a last day.
+    are_good: bool,
+}
+
+impl Gathering for Readers {
+    ghost use Rattle.std.specs.Prelude.{◌≡◌, length};
+    ghost use Rattle.integrity_checks.specs.ReaderRows.{are_reader_answers};
+
+    ghost holds = { λ rows all. (all.count ≡ length rows) × (all.are_good ≡ are_reader_answers 1 rows) };
+
+    fn take(&mut self, row: &Row) -> Result<(), StoreFault> {
+        if self.count >= u64::MAX {
+            return Err(StoreFault::Memory);
+        }
+        self.count += 1;
+        if !is_reader(row, self.count) {
+            self.are_good = false;
+        }
+        Ok(())
+    }
+}
+
+/// How many readers there are, unless their rows are such as no desk has. The table is read whole,
+/// row by row.
+pub(crate) fn registered<S: Alter>(conn: &mut Connection<S>) -> Result<Option<u64>, StoreFault>
+    requires inside { InOffice (state S.Store conn.old) }
+    ensures reads { Reads (state S.Store conn.old) (state S.Store conn.new) result }
+    ensures tells { HasCleanDisk (state S.Store conn.new)
+        → IfOk result (λ count. count ≡ number_registered (state S.Store conn.old).now.trees) }
+    ensures faults { FaultsHaveCause (state S.Store conn.old) (state S.Store conn.new) result }
+{
+    let all = gather(
+        conn,
+        "SELECT ticket, until, name FROM reader ORDER BY ticket",
+        Readers {
+            count: 0,
+            are_good: true,
+        },
+    )?;
+    let are_sound = all.are_good && all.count <= MOST_TICKETS;
+    if are_sound {
+        Ok(Some(all.count))
+    } else {
+        Ok(None)
+    }
+}

@@ -1,0 +1,133 @@
+//! Whether the units can be a catalogue's, whatever their cells are.
+
+ghost use Rattle.std.specs.Prelude.{◌≡◌, not, nat_lt, IfOk};
+ghost use Rattle.std.specs.List.{list_all};
+ghost use Rattle.sqlite.specs.Held.{state};
+ghost use Rattle.sqlite.specs.State.{HasCleanDisk};
+ghost use Rattle.tree_core.specs.Versions.{Version};
+ghost use Rattle.catalogue_core.specs.CatalogueRows.{places_said};
+ghost use Rattle.catalogue_core.specs.Moves.{height as height_of};
+ghost use Rattle.office_tables.specs.Asking.{Reads};
+ghost use Rattle.office_tables.specs.Faults.{FaultsHaveCause};
+ghost use Rattle.office_tables.specs.Step.{InOffice};
+ghost use Rattle.row_decoding.specs.TableRows.{places_in};
+ghost use Rattle.integrity_checks.specs.PlaceChecks.{AreUnitsPlaced};
+ghost use Rattle.integrity_checks.specs.ScanAnswers.{is_described_answer, said_described};
+ghost use Rattle.integrity_checks.specs.CatalogueChecks.{units_are_doubtful};
+ghost use Rattle.integrity_checks.specs.CatalogueJudging.{are_good_numbers};
+
+use crate::ascending_numbers::Ascending;
+use crate::cells::{is_day_or_null, is_flag, is_short, tells, tells_source};
+use office_tables::{Gathering, StoreFault, gather};
+use row_decoding::{cell, number_in};
+use sqlite::{Alter, Connection, Row};
+use std::alloc::Global;
+
+/// How many units an office has at most.
+const MOST_UNITS: usize = 200_000;
+
+/// How many units stand above one another at most, the lowest among them.
+const MOST_DEEP: u64 = 64;
+
+/// Whether the cells of a row, but for its number, are such as a unit has.
+fn is_described(row: &Row) -> bool
+    ensures { result ≡ is_described_answer row.now }
+{
+    is_flag(cell(row, 4))
+        && is_day_or_null(cell(row, 5))
+        && tells_source(cell(row, 1))
+        && tells(cell(row, 2))
+        && is_short(cell(row, 2))
+        && is_short(cell(row, 3))
+}
+
+/// The number of the unit that a row says, where the rest of the row is such as a unit has.
+fn described_in(row: &Row) -> Option<u64>
+    ensures { result ≡ said_described row.now }
+{
+    let number = number_in(cell(row, 0))?;
+    if is_described(row) {
+        Some(number)
+    } else {
+        None
+    }
+}
+
+/// The units that were taken.
+#[derive(Drop)]
+struct Units {
+    numbers: Vec<u64>,
+    /// Each row but for its number is such as a unit has.
+    are_good: bool,
+}
+
+impl Gathering for Units {
+    ghost use Rattle.integrity_checks.specs.ScanAnswers.{said_described};
+    ghost use Rattle.row_decoding.specs.Readings.{AreGathered};
+
+    ghost holds = { λ rows all. AreGathered (λ n. n) said_described rows all.numbers.items all.are_good };
+
+    fn take(&mut self, row: &Row) -> Result<(), StoreFault> {
+        match described_in(row) {
+            Some(number) => self.numbers.push(number)?,
+            None => self.are_good = false,
+        }
+        Ok(())
+    }
+}
+
+/// Whether all are below the next number.
+fn are_below(numbers: &[u64], next: u64) -> bool
+    ensures { result ≡ list_all (λ n. nat_lt n next) numbers.now }
+{
+    numbers.iter().all(|number| *number < next)
+}
+
+/// Whether these are the numbers of the units that have a place, below the next, not too many, and none lies too deep.
+fn are_good(units: &Ascending, places: &Ascending, height: u64, next: u64) -> bool
+    ensures { result ≡ are_good_numbers next places.now height units.now }
+{
+    are_below(units.as_slice(), next)
+        && places.contains_all(units.as_slice())
+        && units.contains_all(places.as_slice())
+        && units.as_slice().len() <= MOST_UNITS
+        && height <= MOST_DEEP
+}
+
+/// The same of numbers that may come in any order.
+fn are_placed(numbers: Vec<u64>, placed: Vec<u64>, height: u64, next: u64) -> bool
+    ensures { result ≡ are_good_numbers next placed.items height numbers.items }
+{
+    let units = Ascending::sorted(numbers);
+    let places = Ascending::sorted(placed);
+    are_good(&units, &places, height, next)
+}
+
+/// Whether the units are such as a catalogue has, where these have a place, the deepest lies so deep, and this is the
+/// number of the next one. The table is read whole, row by row; the numbers are held while it runs.
+pub(crate) fn units_are_good<S: Alter>(
+    alloc: Global,
+    conn: &mut Connection<S>,
+    placed: Vec<u64>,
+    height: u64,
+    next: u64,
+) -> Result<bool, StoreFault>
+    requires inside { InOffice (state S.Store conn.old) }
+    ensures reads { Reads (state S.Store conn.old) (state S.Store conn.new) result }
+    ensures tells { HasCleanDisk (state S.Store conn.new) → (version : Version)
+        → AreUnitsPlaced (places_in version (state S.Store conn.old).now.trees) placed.items
+        → height ≡ height_of (places_said (places_in version (state S.Store conn.old).now.trees))
+        → IfOk result (λ good. good ≡ not (units_are_doubtful version next (state S.Store conn.old).now.trees)) }
+    ensures faults { FaultsHaveCause (state S.Store conn.old) (state S.Store conn.new) result }
+{
+    let all = gather(
+        conn,
+        "SELECT id, source, legacy, level, draft, until FROM unit",
+        Units {
+            numbers: Vec::new(alloc),
+            are_good: true,
+        },
+    )?;
+    let fit = are_placed(all.numbers, placed, height, next);
+    Ok(all.are_good && fit)
+}

@@ -1,0 +1,343 @@
+//! An office, readers and writers for tests of sessions.
+
+ghost use Rattle.std.specs.Prelude.{◌<◌};
+
+use isad_core::List;
+use office_core::{Answer, Busy, Command, Done, Machine, Query, Reply};
+use std::alloc::Global;
+use std::cell::Cell;
+use std::io::{self, ErrorKind, Read, Write};
+
+/// Tells one fonds, and gives tickets.
+#[derive(Drop)]
+pub struct Counter {
+    pub tickets: u64,
+}
+
+impl Machine for Counter {
+    ghost represents = { λ office s. ⊥ };
+
+    ghost is_intact = { λ office. Prim.Unit {0} };
+
+    fn apply(&mut self, alloc: Global, _command: Command) -> Result<Reply, Busy> {
+        let Ok(json) = Vec::from_slice(alloc, b"{\"ticket\":1}") else {
+            return Err(Busy::Memory);
+        };
+        self.tickets = self.tickets.wrapping_add(1);
+        Ok(Reply {
+            done: Ok(Done::Register {
+                ticket: self.tickets,
+            }),
+            json: List(json),
+        })
+    }
+
+    fn ask(&mut self, alloc: Global, _query: Query) -> Result<Answer, Busy> {
+        let Ok(text) = Vec::from_slice(alloc, b"1 GB 0999 HUL [Fonds] Hull Dock Company\n") else {
+            return Err(Busy::Memory);
+        };
+        Ok(Answer::Text(List(text)))
+    }
+}
+
+/// How reads or writes go on once all bytes are given, or no room is left.
+#[derive(Clone, Copy, PartialEq, Eq, Drop)]
+pub enum Then {
+    Ends,
+    Fails,
+    Waits,
+}
+
+/// Gives its bytes in pieces. A shy one is interrupted before each piece.
+#[derive(Drop)]
+pub struct Pieces<'a> {
+    pub bytes: &'a [u8],
+    pub piece: usize,
+    pub then: Then,
+    pub shy: bool,
+    pub ready: bool,
+    pub reads: u64,
+}
+
+impl<'a> Pieces<'a> {
+    pub fn new(bytes: &'a [u8], piece: usize, then: Then) -> Pieces<'a> {
+        Pieces {
+            bytes,
+            piece,
+            then,
+            shy: false,
+            ready: false,
+            reads: 0,
+        }
+    }
+}
+
+impl Read for Pieces<'_> {
+    fn read(&mut self, buf: &mut [u8]) -> io::Result<usize> {
+        self.reads = self.reads.wrapping_add(1);
+        self.ready = !self.ready;
+        if self.shy && self.ready {
+            return Err(io::Error::from(ErrorKind::Interrupted));
+        }
+        if self.bytes.is_empty() {
+            match self.then {
+                Then::Ends => return Ok(0),
+                Then::Fails => return Err(io::Error::from(ErrorKind::Other)),
+                Then::Waits => return Err(io::Error::from(ErrorKind::Interrupted)),
+            }
+        }
+        let n = self.piece.min(self.bytes.len()).min(buf.len());
+        for i in 0..n {
+            buf[i] = self.bytes[i];
+        }
+        self.bytes = &self.bytes[n..];
+        Ok(n)
+    }
+}
+
+/// Gives one request again and again.
+#[derive(Drop)]
+pub struct Again<'a> {
+    pub bytes: &'a [u8],
+}
+
+impl Read for Again<'_> {
+    fn read(&mut self, buf: &mut [u8]) -> io::Result<usize> {
+        let n = self.bytes.len().min(buf.len());
+        for i in 0..n {
+            buf[i] = self.bytes[i];
+        }
+        Ok(n)
+    }
+}
+
+/// Takes that many bytes, in pieces.
+#[derive(Drop)]
+pub struct Narrow {
+    pub held: Vec<u8>,
+    pub room: usize,
+    pub piece: usize,
+    pub then: Then,
+    pub calls: u64,
+    pub flushes: u64,
+    pub flushes_wait: bool,
+}
+
+impl Narrow {
+    pub fn new(alloc: Global, room: usize, piece: usize, then: Then) -> Narrow {
+        Narrow {
+            held: Vec::new(alloc),
+            room,
+            piece,
+            then,
+            calls: 0,
+            flushes: 0,
+            flushes_wait: false,
+        }
+    }
+}
+
+impl Write for Narrow {
+    fn write(&mut self, buf: &[u8]) -> io::Result<usize> {
+        self.calls = self.calls.wrapping_add(1);
+        if self.room == 0 {
+            match self.then {
+                Then::Ends => return Ok(0),
+                Then::Fails => return Err(io::Error::from(ErrorKind::Other)),
+                Then::Waits => return Err(io::Error::from(ErrorKind::Interrupted)),
+            }
+        }
+        let n = buf.len().min(self.room).min(self.piece);
+        self.held.extend_from_slice(&buf[..n])?;
+        self.room -= n;
+        Ok(n)
+    }
+
+    fn flush(&mut self) -> io::Result<()> {
+        self.calls = self.calls.wrapping_add(1);
+        self.flushes = self.flushes.wrapping_add(1);
+        if self.flushes_wait {
+            return Err(io::Error::from(ErrorKind::Interrupted));
+        }
+        Ok(())
+    }
+}
+
+/// Gives its bytes in two parts.
+#[derive(Drop)]
+pub struct Halves<'a> {
+    pub first: &'a [u8],
+    pub second: &'a [u8],
+}
+
+impl Read for Halves<'_> {
+    fn read(&mut self, buf: &mut [u8]) -> io::Result<usize> {
+        if self.first.is_empty() {
+            self.first = self.second;
+            self.second = &[];
+        }
+        let n = self.first.len().min(buf.len());
+        for i in 0..n {
+            buf[i] = self.first[i];
+        }
+        self.first = &self.first[n..];
+        Ok(n)
+    }
+}
+
+/// Keeps what is written, and asks for no memory.
+#[derive(Drop)]
+pub struct Fixed {
+    pub bytes: [u8; 1024],
+    pub len: usize,
+}
+
+impl Write for Fixed {
+    fn write(&mut self, buf: &[u8]) -> io::Result<usize> {
+        let room = self.bytes.len().saturating_sub(self.len);
+        let n = buf.len().min(room);
+        for i in 0..n {
+            let at = self.len.saturating_add(i);
+            if at < self.bytes.len() {
+                self.bytes[at] = buf[i];
+            }
+        }
+        self.len = self.len.saturating_add(n);
+        Ok(n)
+    }
+
+    fn flush(&mut self) -> io::Result<()> {
+        Ok(())
+    }
+}
+
+/// Gives a head, and then a body. It notes a body that is asked for before so many bytes were flushed.
+#[derive(Drop)]
+pub struct Waiting<'a> {
+    pub head: &'a [u8],
+    pub body: &'a [u8],
+    pub flushed: &'a Cell<usize>,
+    pub leave: usize,
+    pub early: bool,
+}
+
+impl Read for Waiting<'_> {
+    fn read(&mut self, buf: &mut [u8]) -> io::Result<usize> {
+        if self.head.is_empty() {
+            self.early = self.early || self.flushed.get() < self.leave;
+            self.head = self.body;
+            self.body = &[];
+        }
+        let n = self.head.len().min(buf.len());
+        for i in 0..n {
+            buf[i] = self.head[i];
+        }
+        self.head = &self.head[n..];
+        Ok(n)
+    }
+}
+
+/// Tells how many bytes were flushed. Its first flushes are interrupted.
+#[derive(Drop)]
+pub struct Telling<'a> {
+    pub held: Vec<u8>,
+    pub flushed: &'a Cell<usize>,
+    pub shy: u32,
+    pub writes: u64,
+}
+
+impl Write for Telling<'_> {
+    fn write(&mut self, buf: &[u8]) -> io::Result<usize> {
+        self.writes = self.writes.wrapping_add(1);
+        self.held.extend_from_slice(buf)?;
+        Ok(buf.len())
+    }
+
+    fn flush(&mut self) -> io::Result<()> {
+        if self.shy > 0 {
+            self.shy -= 1;
+            return Err(io::Error::from(ErrorKind::Interrupted));
+        }
+        self.flushed.set(self.held.len());
+        Ok(())
+    }
+}
+
+/// Tells a text of so many bytes.
+#[derive(Drop)]
+pub struct Long {
+    pub size: usize,
+}
+
+impl Machine for Long {
+    ghost represents = { λ office s. ⊥ };
+
+    ghost is_intact = { λ office. Prim.Unit {0} };
+
+    fn apply(&mut self, _alloc: Global, _command: Command) -> Result<Reply, Busy> {
+        Err(Busy::Memory)
+    }
+
+    fn ask(&mut self, alloc: Global, _query: Query) -> Result<Answer, Busy> {
+        let mut text = Vec::new(alloc);
+        for _byte in 0..self.size {
+            if text.push(b'x').is_err() {
+                return Err(Busy::Memory);
+            }
+        }
+        Ok(Answer::Text(List(text)))
+    }
+}
+
+/// Counts the commands of each kind.
+#[derive(Drop)]
+pub struct Tally {
+    pub counts: [u64; 18],
+}
+
+fn kind_of(command: &Command) -> usize
+    ensures { result < 18 }
+{
+    match command {
+        Command::OpenDay { .. } => 0,
+        Command::Import { .. } => 1,
+        Command::SetStatus { .. } => 2,
+        Command::SetClosure { .. } => 3,
+        Command::Move { .. } => 4,
+        Command::Remove { .. } => 5,
+        Command::Register { .. } => 6,
+        Command::Renew { .. } => 7,
+        Command::TakeSeat { .. } => 8,
+        Command::LeaveSeat { .. } => 9,
+        Command::Order { .. } => 10,
+        Command::Cancel { .. } => 11,
+        Command::Run => 12,
+        Command::Reshelve => 13,
+        Command::Issue { .. } => 14,
+        Command::Return { .. } => 15,
+        Command::Permit { .. } => 16,
+        Command::Revoke { .. } => 17,
+    }
+}
+
+impl Machine for Tally {
+    ghost represents = { λ office s. ⊥ };
+
+    ghost is_intact = { λ office. Prim.Unit {0} };
+
+    fn apply(&mut self, alloc: Global, command: Command) -> Result<Reply, Busy> {
+        let Ok(json) = Vec::from_slice(alloc, b"{\"ticket\":1}") else {
+            return Err(Busy::Memory);
+        };
+        let kind = kind_of(&command);
+        self.counts[kind] = self.counts[kind].wrapping_add(1);
+        Ok(Reply {
+            done: Ok(Done::Register { ticket: 1 }),
+            json: List(json),
+        })
+    }
+
+    fn ask(&mut self, _alloc: Global, _query: Query) -> Result<Answer, Busy> {
+        Err(Busy::Memory)
+    }
+}

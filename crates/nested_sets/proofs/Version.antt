@@ -1,0 +1,82 @@
+-- The statement that writes the version: what its text means, what it leaves, and why it fails.
+use Rattle.std.proofs.Common.{◌≡◌, ℕ, pos, List, [], ◌∷◌, drop, codes, true, false, Result, OnOk, IfErr, refl}
+use Rattle.std.proofs.Math.Nat.{le_refl}
+use Rattle.sqlite.specs.declared.types.Value.TheVariants.{Null, Int}
+use Rattle.sqlite.specs.Order.{Row}
+use Rattle.sqlite.specs.Cast.{cast_row}
+use Rattle.sqlite.specs.Term.{Term, lit, col, op2}
+use Rattle.sqlite.specs.Collation.TheVariants.{Binary}
+use Rattle.sqlite.specs.Command.{Command}
+use Rattle.sqlite.specs.Command.TheVariants.{Update}
+use Rattle.sqlite.specs.Listing.{understood}
+use Rattle.sqlite.specs.State.{State, IsLive}
+use Rattle.sqlite_sql.specs.declared.ops.BinaryOp.TheVariants.{Compare}
+use Rattle.sqlite_sql.specs.declared.ops.CompareOp.TheVariants.{Eq}
+use Rattle.sqlite_tied.specs.Compute.{everything}
+use Rattle.tree_core.specs.Versions.{Version, Links, Spans}
+use Rattle.office_tables.specs.Changing.{Ran}
+use Rattle.office_tables.specs.Faults.{IsUnlimited, HasCause}
+use Rattle.office_tables.specs.Meaning.{Means}
+use Rattle.office_tables.specs.Schema.{schema, office}
+use Rattle.office_tables.specs.Step.{HasRows, OnlyTouches}
+use Rattle.office_tables.specs.declared.fault.StoreFault.{StoreFault}
+use Rattle.catalogue_statements.specs.Rows.{office_row}
+use Rattle.catalogue_statements.specs.declared.office.OfficeRow.{OfficeRow}
+use Rattle.office_tables.proofs.Casts.{cast_int, cast_null}
+use Rattle.office_tables.proofs.Queries.{choosing}
+use Rattle.office_tables.proofs.statements.LeafOf.{office_kept}
+use Rattle.office_tables.proofs.statements.OnlyOf.{update_only}
+use Rattle.office_tables.proofs.statements.UpdateOf.{update_leaves, update_faults}
+use Rattle.office_tables.proofs.Tests.{only, same_number}
+
+-- what a row of the table tells: the version, and the rest
+abbrev Telling : Type 0
+Telling = Version × OfficeRow
+
+abbrev telling_row : Telling → Row
+telling_row x = office_row x.0 x.1
+
+abbrev pub set_version_text : List ℕ
+set_version_text = codes "UPDATE office SET version = ?1 WHERE one = 1"
+
+abbrev the_one : List Term
+the_one = op2 (Compare Eq Binary) (col 1 0) (lit (Int (pos 1))) ∷ []
+
+abbrev set_version_columns : List Term
+set_version_columns = col 1 0 ∷ col 1 0 ∷ lit Null ∷ col 0 0 ∷ col 1 3 ∷ col 1 4 ∷ col 1 5 ∷ col 1 6 ∷ col 1 7 ∷ col 1 8 ∷ col 1 9 ∷ col 1 10 ∷ []
+
+abbrev pub set_version_command : Command
+set_version_command = Update 7 (choosing office the_one set_version_columns)
+
+pub set_version_means : Means Spans set_version_text 1 set_version_command
+unfolding understood everything
+set_version_means = record { is = refl; plain = (refl, refl); whole = (le_refl _, refl, refl); unlisted = refl }
+
+module _ (old new : State) (has : old.now.schema ≡ schema Spans) (r : Result Unit StoreFault) (ran : Ran set_version_text (Int (pos 2) ∷ []) old new r) where
+  pub set_version_only : OnOk r (OnlyTouches (office.tree ∷ []) old.now new.now)
+  set_version_only = update_only Spans 7 office refl set_version_text _ (Int (pos 2) ∷ []) old new has set_version_means r ran
+
+  module _ (o : OfficeRow) (stored : old.now.trees office.tree ≡ office_row Links o ∷ []) where
+    abbrev one : List Telling
+    one = (Links, o) ∷ []
+
+    abbrev changed : Telling → Telling
+    changed x = (Spans, x.1)
+
+    abbrev source : Telling → Row
+    source x = Int (pos 1) ∷ telling_row (changed x)
+
+    casts : (x : Telling) → cast_row office (drop 1 (source x)) ≡ telling_row (changed x)
+    casts x =
+        rw (cast_int (pos 1), cast_null, cast_int (pos 2), cast_int (pos x.1.seats), cast_int (pos x.1.daily), cast_int (pos x.1.hands), cast_int (pos x.1.run_size), cast_int x.1.day, cast_int (pos x.1.next_unit)) refl
+
+    pub set_version_leaves : OnOk r (HasRows office.tree (office_row Spans o ∷ []) old.now new.now)
+    set_version_leaves =
+        update_leaves Spans 7 office refl set_version_text the_one set_version_columns (Int (pos 2) ∷ []) set_version_means old new has telling_row (λ _. pos 1) (λ _. refl) one stored (tt, tt)
+        (λ _. true) (λ _. only (same_number 1 1)) source (λ _. refl) (λ _. refl) changed (λ _. refl) (λ x _ _. casts x) r ran
+
+    pub set_version_faults : IsUnlimited old → IsLive old → IfErr r (HasCause old new)
+    set_version_faults free live =
+        update_faults Spans 7 office refl set_version_text the_one set_version_columns (Int (pos 2) ∷ []) set_version_means old new has telling_row (λ _. pos 1) (λ _. refl) one stored (tt, tt)
+        (λ _. true) (λ _. only (same_number 1 1)) source (λ _. refl) (λ _. refl) changed (λ _. refl) (λ x _ _. casts x)
+        (λ _. false) (office_kept Spans) (λ x p h. absurd (let k : false ≡ true = h in cc)) (λ _. refl) (λ _. refl) (λ _. refl) refl free live r ran

@@ -1,0 +1,50 @@
+-- An office over tables of any origin, against which there is no cause.
+use Rattle.std.proofs.Common.{◌≡◌, ℕ, None, IsTrue, refl, sym, subst}
+use Rattle.sqlite.specs.Effect.{Database}
+use Rattle.sqlite.specs.State as store
+use Rattle.sqlite.specs.State.{IsLive}
+use Rattle.sqlite.specs.Tree.{Trees}
+use Rattle.tree_core.specs.Forest.{Forest}
+use Rattle.tree_core.specs.Versions.{Version}
+use Rattle.adoption.specs.Verdicts.{IsVerdict}
+use Rattle.adoption.specs.declared.verdict.Verdict.{Verdict}
+use Rattle.adoption.specs.declared.verdict.Verdict.TheVariants as verdict
+use Rattle.office_core.specs.SoundOffice.{IsSoundOffice}
+use Rattle.adoption.specs.Found.{AreSoundTables}
+use Rattle.adoption.specs.Tables.{SoundTablesShowTheirState}
+use Rattle.adoption.specs.WholeTables.{AreWholeTables}
+use Rattle.office.specs.Adopting.{IsAdopted, refusal_of, state_in}
+use Rattle.office.specs.Resting.{IsAsBefore, IsIn}
+use Rattle.refinement.specs.Represents.{RepresentsState}
+
+-- no fault is told of a sound office's tables alone
+pub none_refused : (v : Verdict) → refusal_of v ≡ None → v ≡ verdict.Sound
+none_refused verdict.Sound none = refl
+none_refused verdict.NoOffice none = absurd cc
+none_refused verdict.OldVersion none = absurd cc
+none_refused verdict.NewVersion none = absurd cc
+none_refused verdict.OtherTables none = absurd cc
+none_refused (verdict.Unsound n) none = absurd cc
+
+module _ (version : Version) (old new : store.State) (told : Verdict) (none : refusal_of told ≡ None) (is : IsVerdict version old.now told) (back : IsAsBefore old new) where
+  are_sound : IsVerdict version old.now verdict.Sound
+  are_sound = subst (IsVerdict version old.now) (none_refused told none) is
+
+  pub adopted : IsAdopted version old new
+  adopted = record { sound = are_sound; same = back.now }
+
+  sound_tables : IsLive old → IsTrue new.is_open → AreWholeTables old.now → AreSoundTables version old.now
+  sound_tables live opened whole = record {
+    schema_is = are_sound.0.schema_is;
+    live = (live (back.was_open opened)).0;
+    whole = whole;
+    causeless = are_sound.1 whole;
+  }
+
+  module _ (places : Trees → Forest ℕ → Type 0) (law : (db : Database) → SoundTablesShowTheirState places version db) (live : IsLive old) where
+    pub adopted_sound : IsTrue new.is_open → AreWholeTables old.now → IsSoundOffice (state_in version old.now.trees)
+    adopted_sound opened whole = (law old.now (sound_tables live opened whole)).sound
+
+    pub adopted_shown : AreWholeTables old.now → IsIn places version (state_in version old.now.trees) new
+    adopted_shown whole opened =
+        subst (λ (db : Database). RepresentsState places version db (state_in version old.now.trees)) (sym (back.now opened)) (law old.now (sound_tables live opened whole)).represents

@@ -1,0 +1,82 @@
+-- An office of version 1, judged and brought to version 2.
+use Rattle.std.proofs.Common.{◌≡◌, [], ◌∷◌, ◌≤◌, None, Result, Ok, Err, IfErr, IsTrue, inl, inr, sym, arith, subst, ◌∙◌}
+use Rattle.std.specs.Prelude.{IsErrAnd}
+use Rattle.sqlite.specs.Effect.{Database, IsDatabase}
+use Rattle.sqlite.specs.State.{State}
+use Rattle.tree_core.specs.Versions.{Links, Spans}
+use Rattle.catalogue_statements.specs.Represents.{RepresentsLinkRows}
+use Rattle.adoption.specs.Verdicts.{IsVerdict}
+use Rattle.adoption.specs.declared.verdict.Verdict.{Verdict}
+use Rattle.adoption.specs.declared.verdict.Verdict.TheVariants as verdict
+use Rattle.office_core.specs.State as office
+use Rattle.office_tables.specs.Faults.{HasCause}
+use Rattle.office_tables.specs.Schema as tables
+use Rattle.office_tables.specs.Step.{OnlyTouches}
+use Rattle.office_tables.specs.declared.fault.StoreFault.{StoreFault}
+use Rattle.office_tables.specs.declared.fault.StoreFault.TheVariants as store
+use Rattle.row_completeness.proofs.KeptPlaces.{links_show}
+use Rattle.adoption.proofs.catalogue.Shown.{catalogue_shown}
+use Rattle.adoption.proofs.tables.ShownTables.{sound_are_good, sound_state}
+use Rattle.adoption.specs.Found.{AreSoundTables}
+use Rattle.adoption.specs.Tables.{RepresentsItsState}
+use Rattle.adoption.specs.WholeTables.{AreWholeTables}
+use Rattle.office.specs.Adopting.{HasAdoptCause, refusal_of, state_in}
+use Rattle.office.specs.Migrating.{IsMigrated}
+use Rattle.office.specs.Opening.{open_fault_of}
+use Rattle.office.specs.declared.faults.OpenFault.{OpenFault}
+use Rattle.office.specs.declared.faults.OpenFault.TheVariants as fault
+use Rattle.office.proofs.Adoptions.{none_refused}
+use Rattle.refinement.specs.Represents.{RepresentsState}
+use Rattle.nested_sets.specs.Represents.{RepresentsSpanRows}
+
+-- tables that are judged to be a sound office's
+module _ (db : Database) (told : Verdict) (none : refusal_of told ≡ None) (is : IsVerdict Links db told) where
+  pub judged_sound : IsVerdict Links db verdict.Sound
+  judged_sound = subst (IsVerdict Links db) (none_refused told none) is
+
+  module _ (live : IsDatabase db) where
+    -- if they are whole, they show the state that their rows say
+    pub shows_its_state : AreWholeTables db → RepresentsItsState RepresentsLinkRows Links db
+    shows_its_state whole =
+        let tables : AreSoundTables Links db = record { schema_is = judged_sound.0.schema_is; live = live; whole = whole; causeless = judged_sound.1 whole } in
+        sound_state RepresentsLinkRows Links db tables (catalogue_shown Links db (sound_are_good Links db tables) RepresentsLinkRows links_show)
+
+    pub migrated : (new : Database) → ((s : office.State) → RepresentsState RepresentsLinkRows Links db s → RepresentsState RepresentsSpanRows Spans new s)
+        → OnlyTouches (tables.office.tree ∷ tables.link.tree ∷ []) db new → IsMigrated db new
+    migrated new brings only = record {
+      judged = judged_sound;
+      sound = λ whole. (shows_its_state whole).sound;
+      represents = λ whole. brings (state_in Links db.trees) (shows_its_state whole).represents;
+      only = only;
+    }
+
+-- ---- why not
+
+-- a call that follows the judging fails only for want of memory or by the disk, where the tables are whole
+pub cause_of_call : (old mid new : State) (f : StoreFault) → (AreWholeTables old.now → HasCause mid new f) → old.faults ≤ mid.faults → mid.is_open ≡ old.is_open
+    → HasAdoptCause Links old new (open_fault_of f)
+cause_of_call old mid new store.Memory why counts opened = tt
+cause_of_call old mid new store.Disk why counts opened = λ whole. elim (why whole) [
+  | inl more ↦ inl (omega arith)
+  | inr shut ↦ inr (sym opened ∙ shut)
+]
+cause_of_call old mid new store.Schema why counts opened = λ whole. absurd (why whole)
+
+-- what was the cause inside the transaction is one of the whole call
+module _ (before old new after : State) (counts : before.faults ≤ old.faults) (counts_after : new.faults ≤ after.faults) (same : old.now ≡ before.now) (opened : IsTrue old.is_open) where
+  pub cause_outside : (f : OpenFault) → HasAdoptCause Links old new f → HasAdoptCause Links before after f
+  cause_outside fault.Memory why = tt
+  cause_outside fault.Disk why = λ whole. elim (why (subst AreWholeTables (sym same) whole)) [
+    | inl more ↦ inl (omega arith)
+    | inr shut ↦ absurd cc
+  ]
+  cause_outside fault.Schema why = λ whole. subst (λ (db : Database). IsVerdict Links db verdict.OtherTables) same (why (subst AreWholeTables (sym same) whole))
+  cause_outside fault.NoOffice why = subst (λ (db : Database). IsVerdict Links db verdict.NoOffice) same why
+  cause_outside fault.OldVersion why = why
+  cause_outside fault.NewVersion why = subst (λ (db : Database). IsVerdict Links db verdict.NewVersion) same why
+  cause_outside (fault.Unsound n) why = subst (λ (db : Database). IsVerdict Links db (verdict.Unsound n)) same why
+
+-- what a call leaves of a refusal that was made of a fault
+pub told_as : {X Y : Type 0} (r : Result X Y) (o : Y) (P : Y → Type 0) → IsErrAnd r (λ e. e ≡ o) → P o → IfErr r P
+told_as (Ok x) o P is why = tt
+told_as (Err e) o P is why = subst P (sym is) why

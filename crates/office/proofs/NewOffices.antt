@@ -1,0 +1,28 @@
+-- The tables of a new office show it.
+use Rattle.std.proofs.Common.{◌≡◌, ℕ, List, sym, ap, subst}
+use Rattle.sqlite.specs.Effect.{Database}
+use Rattle.sqlite.specs.Tree.{Trees}
+use Rattle.tree_core.specs.Forest.{Forest}
+use Rattle.tree_core.specs.Versions.{Version}
+use Rattle.desk_core.specs.DeskRows.{SeatRow}
+use Rattle.desk_store.specs.Represents.{RepresentsDesk}
+use Rattle.office_core.specs.SoundOffice.{IsSoundOffice}
+use Rattle.office_core.proofs.Texts.{starts_sound_office}
+use Rattle.state_encoding.specs.Reading.{tables}
+use Rattle.refinement.proofs.EmptySeats.{none_seated}
+use Rattle.office.specs.Founding.{Founding, IsGood, founded}
+use Rattle.office.specs.Opening.{RepresentsNew, new_desk}
+use Rattle.refinement.specs.Represents.{RepresentsState, office_of}
+
+pub founded_sound : (f : Founding) → IsGood f → IsSoundOffice (founded f)
+founded_sound f good = starts_sound_office f.settings f.day good.settings good.day
+
+desk_is : (version : Version) (f : Founding) → new_desk ≡ (tables version (founded f)).desk
+desk_is version f = ap (λ (seats : List SeatRow). record new_desk { seats = seats }) (sym (none_seated 1 f.settings.seats))
+
+pub shows_founded : (places : Trees → Forest ℕ → Type 0) (version : Version) (db : Database) (f : Founding) → IsGood f → RepresentsNew places version db (office_of (founded f)) → RepresentsState places version db (founded f)
+shows_founded places version db f good it = record {
+  catalogue = it.catalogue;
+  desk = subst (RepresentsDesk db.trees) (desk_is version f) it.desk;
+  texts = (founded_sound f good).texts;
+}

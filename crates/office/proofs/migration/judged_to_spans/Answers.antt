@@ -1,0 +1,38 @@
+use Rattle.std.proofs.Common.{[], ◌∷◌, ◌∙◌, subst, sym}
+use Rattle.sqlite.specs.Effect.{Database}
+use Rattle.sqlite.specs.Held.{state}
+use Rattle.tree_core.specs.Versions.{Links}
+use Rattle.catalogue_statements.specs.Represents.{RepresentsLinkRows}
+use Rattle.office_tables.specs.Schema as tables
+use Rattle.office_tables.specs.Step.{OnlyTouches}
+use Rattle.office_tables.proofs.Calls.{early}
+use Rattle.refinement.specs.Represents.{RepresentsState}
+use Rattle.office.specs.Adopting.{HasAdoptCause, state_in}
+use Rattle.office.proofs.Migrations.{cause_of_call, migrated, shows_its_state, told_as}
+use Rattle.office.proofs.migration.judged_to_spans.Goals as goal
+
+pub returns-in_err-to_spans-clause-cause : goal.returns-in_err-to_spans-clause-cause
+returns-in_err-to_spans-clause-cause g c clean opened =
+    let old = state g.S.Store c.args.conn.now in
+    let mid = state g.S.Store c.judge.new.conn in
+    let new = state g.S.Store c.to_spans.new.conn in
+    let reads = c.in_ok-verdict.ensures.reads in
+    let clean_mid = early mid new _ c.in_err-to_spans.ensures.cut.crash clean in
+    let its_state = shows_its_state old.now c.in_ok-verdict.verdict (sym c.refusal.ensures ∙ c.in_default.is) (c.in_ok-verdict.ensures.tells clean_mid) (c.schema.ensures.live opened).0 in
+    told_as c.from_residual-in_err-to_spans.result _ (HasAdoptCause Links old new) c.from_residual-in_err-to_spans.ensures.1
+    (cause_of_call old mid new _
+    (λ whole.
+    let shown = subst (λ (db : Database). RepresentsState RepresentsLinkRows Links db (state_in Links old.now.trees)) (sym (reads.looks.same clean_mid)) (its_state whole).represents in
+    c.in_err-to_spans.ensures.faults (state_in Links old.now.trees) (its_state whole).sound shown clean (reads.crash.limit ∙ c.requires.unlimited))
+    reads.crash.counts (reads.looks.goes.on.within clean_mid).opened)
+
+pub returns-clause-same : goal.returns-clause-same
+returns-clause-same g c clean opened =
+    let old = state g.S.Store c.args.conn.now in
+    let mid = state g.S.Store c.judge.new.conn in
+    let new = state g.S.Store c.to_spans.new.conn in
+    let clean_mid = early mid new _ c.in_ok-to_spans.ensures.goes.crash clean in
+    let same = c.in_ok-verdict.ensures.reads.looks.same clean_mid in
+    migrated old.now c.in_ok-verdict.verdict (sym c.refusal.ensures ∙ c.in_default.is) (c.in_ok-verdict.ensures.tells clean_mid) (c.schema.ensures.live opened).0 new.now
+    (λ s shown. c.in_ok-to_spans.ensures.represents clean s (subst (λ (db : Database). RepresentsState RepresentsLinkRows Links db s) (sym same) shown))
+    (subst (λ (db : Database). OnlyTouches (tables.office.tree ∷ tables.link.tree ∷ []) db new.now) same (c.in_ok-to_spans.ensures.only clean))

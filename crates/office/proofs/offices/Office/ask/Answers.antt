@@ -1,0 +1,12 @@
+use Rattle.std.proofs.Common.{rules}
+use Rattle.sqlite.specs.Held.{state}
+use Rattle.office_tables.proofs.Calls.{early}
+use Rattle.office.proofs.Machines.{answered_call}
+use Rattle.office.proofs.offices.Office.ask.Goals as goal
+
+pub returns-clause-call : goal.returns-clause-call
+returns-clause-call g c =
+    let told = c.ask_in.ensures in
+    let call = answered_call g.S.Store g.P.Places.represents g.P.Places.version c.self.inside.conn c.ask_in.new.conn c.args.query c.ask_in.result
+    (early (state g.S.Store c.self.inside.conn) (state g.S.Store c.ask_in.new.conn) _ told.crash) told.answers told.same in
+    search (rules, call)

@@ -1,0 +1,39 @@
+-- An office goes from version 1 to version 2: what is then there, and what a crash may find.
+use Rattle.std.specs.Prelude.{[], ◌∷◌}
+use Rattle.sqlite.specs.Effect.{Database}
+use Rattle.sqlite.specs.State as store
+use Rattle.sqlite.specs.Tree.{Trees}
+use Rattle.tree_core.specs.Versions.{Links, Spans}
+use Rattle.catalogue_statements.specs.Represents.{RepresentsLinkRows}
+use Rattle.adoption.specs.Verdicts.{IsVerdict}
+use Rattle.adoption.specs.declared.verdict.Verdict.TheVariants as verdict
+use Rattle.office_core.specs.SoundOffice.{IsSoundOffice}
+use Rattle.office_core.specs.State.{State}
+use Rattle.office_tables.specs.Schema as tables
+use Rattle.office_tables.specs.Schema.{schema}
+use Rattle.office_tables.specs.Step.{OnlyTouches}
+use Rattle.adoption.specs.WholeTables.{AreWholeTables}
+use Rattle.office.specs.Adopting.{state_in}
+use Rattle.office.specs.Resting.{IsIn}
+use Rattle.refinement.specs.Represents.{RepresentsState}
+use Rattle.nested_sets.specs.Represents.{RepresentsSpanRows}
+
+-- ---- of an office that is open
+
+-- beside what it might have found before: the same state in version 2, whole
+abbrev pub MayFindSpans : store.State → Trees → Type 0
+MayFindSpans old db = (s : State) → IsIn RepresentsLinkRows Links s old → RepresentsState RepresentsSpanRows Spans (record { schema = schema Spans; trees = db }) s
+
+-- ---- of tables of any origin
+
+-- The tables were a sound office's of version 1, and are now one's of version 2, in the same state. The table of links has
+-- given way to that of nested sets, the office's row tells the version, and no other table has other rows.
+pub record IsMigrated (old new : Database) : Type 0 where
+  pub judged : IsVerdict Links old verdict.Sound
+  pub sound : AreWholeTables old → IsSoundOffice (state_in Links old.trees)
+  pub represents : AreWholeTables old → RepresentsState RepresentsSpanRows Spans new (state_in Links old.trees)
+  pub only : OnlyTouches (tables.office.tree ∷ tables.link.tree ∷ []) old new
+
+-- beside what it might have found before: all of that
+abbrev pub MayFindMigrated : store.State → Trees → Type 0
+MayFindMigrated old db = IsMigrated old.now (record { schema = schema Spans; trees = db })

@@ -1,0 +1,62 @@
+-- Calls on an office, one after another, and the run of the machine.
+use Rattle.std.specs.Prelude.{◌≡◌, List, [], ◌∷◌, Option, Some, None, Result, Ok, Err}
+use Rattle.office_core.specs.MixedRuns.{Asked, ToDo, ToTell, Told, Replied, Answered, next_state, told_of, state_after_all, all_told}
+use Rattle.office_core.specs.State.{State}
+use Rattle.office_core.specs.declared.command.Command.{Command}
+use Rattle.office_core.specs.declared.machine.Reply.{Reply}
+use Rattle.office_core.specs.declared.query.Answer.{Answer}
+use Rattle.office_core.specs.declared.query.Query.{Query}
+
+-- what the office is asked, and what it tells: nothing, where it is busy
+pub record Call : Type 0 where
+  pub asked : Asked
+  pub told : Option Told
+
+abbrev pub applied : {E : Type 0} → Command → Result Reply E → Call
+applied asked (Ok reply) = record { asked = ToDo asked; told = Some (Replied reply.done) }
+applied asked (Err busy) = record { asked = ToDo asked; told = None }
+
+abbrev pub answered : {E : Type 0} → Query → Result Answer E → Call
+answered asked (Ok told) = record { asked = ToTell asked; told = Some (Answered told) }
+answered asked (Err busy) = record { asked = ToTell asked; told = None }
+
+-- what was asked while the office was not busy
+abbrev pub with_heard : Asked → Option Told → List Asked → List Asked
+with_heard asked (Some told) later = asked ∷ later
+with_heard asked None later = later
+
+abbrev pub heard : List Call → List Asked
+heard [] = []
+heard (call ∷ later) = with_heard call.asked call.told (heard later)
+
+-- what was told
+abbrev pub with_told : Option Told → List Told → List Told
+with_told (Some told) later = told ∷ later
+with_told None later = later
+
+abbrev pub all_heard : List Call → List Told
+all_heard [] = []
+all_heard (call ∷ later) = with_told call.told (all_heard later)
+
+-- An office is seen in a state, and its store has returned what was written to it.
+module _ {M : Type 0} (represents : M → State → Type 0) (is_intact : M → Type 0) where
+  -- what is told is what the machine tells, in its next state; an office that is busy stays as it is
+  abbrev pub Follows : State → Asked → Option Told → M → Type 0
+  Follows s asked (Some told) new = represents new (next_state s asked) × (told ≡ told_of s asked)
+  Follows s asked None new = represents new s
+
+  -- one call
+  pub record IsCall (old new : M) (call : Call) : Type 0 where
+    pub intact : is_intact new → is_intact old
+    pub follows : is_intact new → (s : State) → represents old s → Follows s call.asked call.told new
+
+  -- one call after another
+  abbrev pub AreCalls : M → M → List Call → Type 0
+  AreCalls old new [] = old ≡ new
+  AreCalls old new (call ∷ later) = (mid : M) × IsCall old mid call × AreCalls mid new later
+
+  -- what is told is what the machine tells over what it is asked, and the office is then in the machine's state
+  abbrev pub IsMachinesRun : M → M → List Call → Type 0
+  IsMachinesRun old new calls =
+      is_intact new → (s : State) → represents old s
+      → represents new (state_after_all s (heard calls)) × (all_heard calls ≡ all_told s (heard calls))

@@ -1,0 +1,23 @@
+//! An office over its tables is an office.
+
+use crate::offices::Office;
+use catalogue_store::Places;
+use office_core::{Answer, Busy, Command, Machine, Query, Reply};
+use sqlite::Alter;
+use std::alloc::Global;
+
+impl<P: Places, S: Alter> Machine for Office<P, S> {
+    ghost use Rattle.office.specs.Resting.{is_clean, is_shown};
+
+    ghost represents = { is_shown S.Store P.represents P.version };
+
+    ghost is_intact = { is_clean S.Store };
+
+    fn apply(&mut self, alloc: Global, command: Command) -> Result<Reply, Busy> {
+        Office::apply(self, alloc, &command)
+    }
+
+    fn ask(&mut self, alloc: Global, query: Query) -> Result<Answer, Busy> {
+        Office::ask(self, alloc, query)
+    }
+}

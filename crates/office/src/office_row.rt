@@ -1,0 +1,41 @@
+//! The office's own row.
+
+ghost use Rattle.std.specs.Prelude.{◌≡◌, ⊤};
+ghost use Rattle.sqlite.specs.Held.{state};
+ghost use Rattle.office_core.specs.SoundOffice.{IsSoundOffice};
+ghost use Rattle.office_tables.specs.Calls.{Answers};
+ghost use Rattle.office_tables.specs.Step.{InTransaction};
+ghost use Rattle.office.specs.Rows.{limits_told};
+ghost use Rattle.refinement.specs.Judging.{RepresentsWhole};
+ghost use Rattle.refinement.specs.Represents.{office_of};
+
+use catalogue_statements::OfficeRow;
+use catalogue_store::{Places, settings};
+use desk_core::Limits;
+use office_tables::StoreFault;
+use sqlite::{Alter, Connection};
+use std::alloc::Global;
+
+/// What the office's own row tells: its settings, its day, and the number of its next unit.
+pub(crate) fn own_row<P: Places, S: Alter>(
+    alloc: Global,
+    conn: &mut Connection<S>,
+) -> Result<OfficeRow, StoreFault>
+    requires inside { InTransaction P.version (state S.Store conn.old) }
+    ensures tells { Answers S.Store (RepresentsWhole P.represents P.version) IsSoundOffice conn.old conn.new result (λ _. ⊤)
+        (λ _ s row. row ≡ office_of s) }
+{
+    settings::<P, S>(alloc, conn)
+}
+
+/// Its settings, as the desk's limits.
+pub(crate) fn limits_in(row: &OfficeRow) -> Limits
+    ensures { result ≡ limits_told row.now }
+{
+    Limits {
+        seats: row.seats,
+        daily: row.daily,
+        hands: row.hands,
+        run: row.run_size,
+    }
+}

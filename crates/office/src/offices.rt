@@ -1,0 +1,251 @@
+//! An office over its tables.
+
+ghost use Rattle.std.specs.Prelude.{◌≡◌, false, Err, IfErr, IfOk, IsErr, IsOk, IsTrue, OnErr};
+ghost use Rattle.sqlite.specs.Held.{state};
+ghost use Rattle.sqlite.specs.State.{HasCleanDisk, Survives};
+ghost use Rattle.tree_core.specs.Versions.{Links, Spans};
+ghost use Rattle.catalogue_statements.specs.Represents.{RepresentsLinkRows};
+ghost use Rattle.office_core.specs.Json.{reply_text};
+ghost use Rattle.office_core.specs.Queries.{answer};
+ghost use Rattle.office_core.specs.Rules.{step};
+ghost use Rattle.office_core.specs.SoundOffice.{IsSoundOffice};
+ghost use Rattle.office_core.specs.State.{State};
+ghost use Rattle.adoption.specs.WholeTables.{AreWholeTables};
+ghost use Rattle.office_tables.specs.Faults.{IsUnlimited};
+ghost use Rattle.office_tables.specs.Schema.{no_schema, schema};
+ghost use Rattle.office.specs.Adopting.{HasAdoptCause, IsAdopted, state_in};
+ghost use Rattle.office.specs.Applying.{HasBusyCause, MayFind, TakesStep};
+ghost use Rattle.office.specs.Founding.{founded};
+ghost use Rattle.office.specs.Migrating.{MayFindSpans};
+ghost use Rattle.office.specs.Opening.{HasOpenCause};
+ghost use Rattle.office.specs.Resting.{IsAsBefore, IsIn, is_clean, is_shown};
+ghost use Rattle.office.specs.Runs.{IsCall, answered, applied};
+ghost use Rattle.refinement.specs.Represents.{RepresentsState};
+ghost use Rattle.nested_sets.specs.Represents.{RepresentsSpanRows};
+
+use crate::commands::apply_to;
+use crate::faults::{OpenFault, busy, refusal};
+use crate::inspection::look_over;
+use crate::migration::bring_to_spans;
+use crate::names::names_days_and_texts;
+use crate::new_office::found;
+use crate::queries::ask_in;
+use crate::settings::Settings;
+use catalogue_store::{LinkPlaces, Places};
+use desk_store::is_blank;
+use integrity_checks::CheckedPlaces;
+use nested_sets::SpanPlaces;
+use office_core::{Answer, Busy, Command, Query, Reply};
+use sqlite::{Alter, Connection};
+use std::alloc::Global;
+use std::marker::{Model, PhantomData};
+
+/// An office over its tables, whose places are kept as `P` has them. Between its calls no transaction is open, and the
+/// connection has the tables of an office, as they were committed.
+pub struct Office<P: Places, S: Alter> {
+    conn: Connection<S>,
+    places: PhantomData<P>,
+}
+
+impl<P: Places, S: Alter> Model for Office<P, S> {
+    ghost use Rattle.sqlite.specs.Held.{Held, held_code, state};
+    ghost use Rattle.office.specs.Resting.{IsOffice};
+
+    ghost Value = { Held S };
+
+    ghost coded = { held_code S.code };
+
+    ghost view = { λ o. o.conn };
+
+    ghost invariant = { λ o. IsOffice P.version (state S.Store o.conn) };
+}
+
+impl<P: Places, S: Alter> Office<P, S> {
+    /// Makes a new office where there are no tables; otherwise the connection is given back, with its tables as they
+    /// were.
+    pub fn create(
+        conn: Connection<S>,
+        settings: Settings,
+    ) -> Result<Office<P, S>, (OpenFault, Connection<S>)>
+        requires outside { HasCleanDisk (state S.Store conn) → (state S.Store conn).in_transaction ≡ false }
+        requires unlimited { IsUnlimited (state S.Store conn) }
+        ensures sound { IsSoundOffice (founded settings) }
+        ensures represents { IfOk result (λ office. HasCleanDisk (state S.Store office)
+            → IsIn P.represents P.version (founded settings) (state S.Store office)) }
+        ensures kept { IfOk result (λ office. HasCleanDisk (state S.Store office)
+            → IsTrue (state S.Store office).is_open) }
+        ensures there { ((state S.Store conn).now.schema ≡ no_schema → ⊥)
+            → result ≡ Err (OpenFault.Schema, conn) }
+        ensures back { IfErr result (λ e. HasCleanDisk (state S.Store e.1)
+            → IsAsBefore (state S.Store conn) (state S.Store e.1)) }
+        ensures cause { (state S.Store conn).now.schema ≡ no_schema
+            → IfErr result (λ e. HasCleanDisk (state S.Store e.1)
+            → HasOpenCause (state S.Store conn) (state S.Store e.1) e.0) }
+        ensures crash { IfOk result (λ office. Survives (state S.Store conn) (state S.Store office)
+            (λ db. RepresentsState P.represents P.version (record { schema = schema P.version; trees = db })
+            (founded settings))) }
+        ensures crash_back { IfErr result (λ e. Survives (state S.Store conn) (state S.Store e.1)
+            (λ db. RepresentsState P.represents P.version (record { schema = schema P.version; trees = db })
+            (founded settings))) }
+    {
+        let mut conn = conn;
+        let row = settings.into_row();
+        // Outside a transaction a connection that is open shows what was committed.
+        let _ = conn.is_autocommit();
+        if !is_blank(&conn) {
+            return Err((OpenFault::Schema, conn));
+        }
+        match found::<P, S>(&mut conn, &row) {
+            Ok(()) => Ok(Office {
+                conn,
+                places: PhantomData,
+            }),
+            Err(fault) => Err((OpenFault::from(fault), conn)),
+        }
+    }
+
+    /// Carries out a command. What is accepted was committed: the connection is open, and its tables are as the disk
+    /// has them. A refusal changes nothing, nor does an office that is busy; a crash finds what was committed before,
+    /// or the state after the command. Where a failure of the disk had shut the connection before, the office is busy
+    /// for ever, but for names of no form, which are refused before any statement.
+    pub fn apply(&mut self, alloc: Global, command: &Command) -> Result<Reply, Busy>
+        ensures steps { HasCleanDisk (state S.Store self.new)
+            → (s : State) → IsSoundOffice s → IsIn P.represents P.version s (state S.Store self.old)
+            → IfOk result (λ reply. TakesStep P.represents P.version s command.now reply.done (state S.Store self.new)) }
+        ensures sound { (s : State) → IsSoundOffice s → IsSoundOffice (step s command.now).0 }
+        ensures kept { HasCleanDisk (state S.Store self.new)
+            → IfOk result (λ reply. IsOk reply.done → IsTrue (state S.Store self.new).is_open) }
+        ensures bytes { IfOk result (λ reply. reply.json ≡ reply_text reply.done) }
+        ensures refused { HasCleanDisk (state S.Store self.new) → IfOk result (λ reply. IsErr reply.done
+            → IsAsBefore (state S.Store self.old) (state S.Store self.new)) }
+        ensures busy { HasCleanDisk (state S.Store self.new)
+            → OnErr result (IsAsBefore (state S.Store self.old) (state S.Store self.new)) }
+        ensures cause { HasCleanDisk (state S.Store self.new)
+            → (s : State) → IsSoundOffice s → IsIn P.represents P.version s (state S.Store self.old)
+            → IfErr result (HasBusyCause (state S.Store self.old) (state S.Store self.new)) }
+        ensures crash { Survives (state S.Store self.old) (state S.Store self.new)
+            (MayFind P.represents P.version command.now (state S.Store self.old)) }
+        ensures call { IsCall (is_shown S.Store P.represents P.version) (is_clean S.Store) self.old self.new
+            (applied command.now result) }
+    {
+        names_days_and_texts(command);
+        match apply_to::<P, S>(alloc, &mut self.conn, command) {
+            Ok(reply) => Ok(reply),
+            Err(fault) => Err(busy(fault)),
+        }
+    }
+
+    /// Answers a question. Nothing is changed by it, whatever comes.
+    pub fn ask(&mut self, alloc: Global, query: Query) -> Result<Answer, Busy>
+        ensures answers { HasCleanDisk (state S.Store self.new)
+            → (s : State) → IsSoundOffice s → IsIn P.represents P.version s (state S.Store self.old)
+            → IfOk result (λ told. told ≡ answer s query) }
+        ensures same { HasCleanDisk (state S.Store self.new)
+            → IsAsBefore (state S.Store self.old) (state S.Store self.new) }
+        ensures cause { HasCleanDisk (state S.Store self.new)
+            → (s : State) → IsSoundOffice s → IsIn P.represents P.version s (state S.Store self.old)
+            → IfErr result (HasBusyCause (state S.Store self.old) (state S.Store self.new)) }
+        ensures crash { Survives (state S.Store self.old) (state S.Store self.new) (λ _. ⊥) }
+        ensures call { IsCall (is_shown S.Store P.represents P.version) (is_clean S.Store) self.old self.new
+            (answered query result) }
+    {
+        match ask_in::<P, S>(alloc, &mut self.conn, query) {
+            Ok(answer) => Ok(answer),
+            Err(fault) => Err(busy(fault)),
+        }
+    }
+
+    /// The connection. No transaction is open, and no limit is set on the steps of a statement.
+    pub fn into_connection(self) -> Connection<S>
+        ensures same { result ≡ self }
+        ensures ended { HasCleanDisk (state S.Store result) → (state S.Store result).in_transaction ≡ false }
+        ensures unlimited { IsUnlimited (state S.Store result) }
+    {
+        let Office { conn, places: _ } = self;
+        conn
+    }
+}
+
+impl<S: Alter> Office<LinkPlaces, S> {
+    /// Brings the office from version 1 to version 2, in one transaction: its state stays, and the places of its units
+    /// become nested sets. Where that fails, the office is given back as it was; a crash finds version 1 or version 2,
+    /// whole.
+    pub fn migrate(
+        self,
+        alloc: Global,
+    ) -> Result<Office<SpanPlaces, S>, (OpenFault, Office<LinkPlaces, S>)>
+        ensures same { IfOk result (λ office. HasCleanDisk (state S.Store office)
+            → (s : State) → IsIn RepresentsLinkRows Links s (state S.Store self)
+            → IsIn RepresentsSpanRows Spans s (state S.Store office)) }
+        ensures kept { IfOk result (λ office. HasCleanDisk (state S.Store office)
+            → IsTrue (state S.Store office).is_open) }
+        ensures back { IfErr result (λ e. HasCleanDisk (state S.Store e.1)
+            → IsAsBefore (state S.Store self) (state S.Store e.1)) }
+        ensures cause { IfErr result (λ e. HasCleanDisk (state S.Store e.1)
+            → (s : State) → IsSoundOffice s → IsIn RepresentsLinkRows Links s (state S.Store self)
+            → HasOpenCause (state S.Store self) (state S.Store e.1) e.0) }
+        ensures crash { IfOk result (λ office. Survives (state S.Store self) (state S.Store office)
+            (MayFindSpans (state S.Store self))) }
+        ensures crash_back { IfErr result (λ e. Survives (state S.Store self) (state S.Store e.1)
+            (MayFindSpans (state S.Store self))) }
+    {
+        let Office { conn, places: _ } = self;
+        let mut conn = conn;
+        match bring_to_spans(alloc, &mut conn) {
+            Ok(()) => Ok(Office {
+                conn,
+                places: PhantomData,
+            }),
+            Err(fault) => Err((
+                OpenFault::from(fault),
+                Office {
+                    conn,
+                    places: PhantomData,
+                },
+            )),
+        }
+    }
+}
+
+impl<P: CheckedPlaces, S: Alter> Office<P, S> {
+    /// Opens an office over tables of any origin, where they are a sound office's. Otherwise the connection is given
+    /// back, with its tables as they were; nothing is changed in either case.
+    pub fn adopt(
+        alloc: Global,
+        conn: Connection<S>,
+    ) -> Result<Office<P, S>, (OpenFault, Connection<S>)>
+        requires outside { HasCleanDisk (state S.Store conn) → (state S.Store conn).in_transaction ≡ false }
+        requires unlimited { IsUnlimited (state S.Store conn) }
+        ensures opens { IfOk result (λ office. HasCleanDisk (state S.Store office)
+            → IsAdopted P.version (state S.Store conn) (state S.Store office)) }
+        ensures sound { IfOk result (λ office. HasCleanDisk (state S.Store office)
+            → IsTrue (state S.Store office).is_open → AreWholeTables (state S.Store conn).now
+            → IsSoundOffice (state_in P.version (state S.Store conn).now.trees)) }
+        ensures represents { IfOk result (λ office. HasCleanDisk (state S.Store office)
+            → AreWholeTables (state S.Store conn).now
+            → IsIn P.represents P.version (state_in P.version (state S.Store conn).now.trees) (state S.Store office)) }
+        ensures back { IfErr result (λ e. HasCleanDisk (state S.Store e.1)
+            → IsAsBefore (state S.Store conn) (state S.Store e.1)) }
+        ensures cause { IfErr result (λ e. HasCleanDisk (state S.Store e.1)
+            → HasAdoptCause P.version (state S.Store conn) (state S.Store e.1) e.0) }
+        ensures crash { IfOk result (λ office. Survives (state S.Store conn) (state S.Store office) (λ _. ⊥)) }
+        ensures crash_back { IfErr result (λ e. Survives (state S.Store conn) (state S.Store e.1) (λ _. ⊥)) }
+    {
+        let mut conn = conn;
+        // Outside a transaction a connection that is open shows what was committed.
+        let _ = conn.is_autocommit();
+        // Its rows keep the rules of its tables.
+        let _ = conn.schema();
+        let verdict = match look_over::<P, S>(alloc, &mut conn) {
+            Ok(verdict) => verdict,
+            Err(fault) => return Err((OpenFault::from(fault), conn)),
+        };
+        match refusal(verdict) {
+            Some(fault) => Err((fault, conn)),
+            None => Ok(Office {
+                conn,
+                places: PhantomData,
+            }),
+        }
+    }
+}

@@ -1,0 +1,74 @@
+//! How the transaction of a command ends.
+
+ghost use Rattle.std.specs.Prelude.{◌≡◌, ◌⊎◌, Err, Ok, IfErr, IfOk, IsErr, IsOk, IsTrue, OnErr, OnOk};
+ghost use Rattle.sqlite.specs.Held.{state};
+ghost use Rattle.sqlite.specs.State.{HasCleanDisk, Survives};
+ghost use Rattle.office_core.specs.declared.machine.Reply.{Reply};
+ghost use Rattle.office_tables.specs.Faults.{HasCause};
+ghost use Rattle.office_tables.specs.Transactions.{Committed};
+ghost use Rattle.office.specs.Resting.{IsEnded};
+
+use office_core::Reply;
+use office_tables::{StoreFault, commit, roll_back};
+use sqlite::{Alter, Connection};
+
+/// Takes back what was done, whether the transaction is still open or not.
+pub(crate) fn take_back<S: Alter>(conn: &mut Connection<S>)
+    ensures ended { HasCleanDisk (state S.Store conn.new)
+        → IsEnded (state S.Store conn.old) (state S.Store conn.new) }
+    ensures crash { Survives (state S.Store conn.old) (state S.Store conn.new) (λ _. ⊥) }
+{
+    roll_back(conn);
+}
+
+/// Commits what was done; where that fails, it is taken back.
+pub(crate) fn keep<S: Alter>(conn: &mut Connection<S>) -> Result<(), StoreFault>
+    ensures committed { HasCleanDisk (state S.Store conn.new)
+        → OnOk result (Committed (state S.Store conn.old) (state S.Store conn.new)) }
+    ensures ended { HasCleanDisk (state S.Store conn.new)
+        → OnErr result (IsEnded (state S.Store conn.old) (state S.Store conn.new)) }
+    ensures faults { HasCleanDisk (state S.Store conn.new) → IsTrue (state S.Store conn.old).in_transaction
+        → IfErr result (HasCause (state S.Store conn.old) (state S.Store conn.new)) }
+    ensures crash { Survives (state S.Store conn.old) (state S.Store conn.new)
+        (λ db. db ≡ (state S.Store conn.old).now.trees) }
+{
+    if let Err(fault) = commit(conn) {
+        take_back(conn);
+        return Err(fault);
+    }
+    Ok(())
+}
+
+/// Ends the transaction: what was done is committed; what was refused, or failed, is taken back.
+pub(crate) fn settle<S: Alter>(
+    conn: &mut Connection<S>,
+    outcome: Result<Reply, StoreFault>,
+) -> Result<Reply, StoreFault>
+    ensures same { IfOk result (λ reply. outcome ≡ Ok reply) }
+    ensures committed { HasCleanDisk (state S.Store conn.new) → IfOk result (λ reply. IsOk reply.done
+        → Committed (state S.Store conn.old) (state S.Store conn.new)) }
+    ensures refused { HasCleanDisk (state S.Store conn.new) → IfOk result (λ reply. IsErr reply.done
+        → IsEnded (state S.Store conn.old) (state S.Store conn.new)) }
+    ensures failed { HasCleanDisk (state S.Store conn.new)
+        → OnErr result (IsEnded (state S.Store conn.old) (state S.Store conn.new)) }
+    ensures faults { HasCleanDisk (state S.Store conn.new) → IfErr result (λ e. (outcome ≡ Err e)
+        ⊎ (IsOk outcome × (IsTrue (state S.Store conn.old).in_transaction
+        → HasCause (state S.Store conn.old) (state S.Store conn.new) e))) }
+    ensures crash { Survives (state S.Store conn.old) (state S.Store conn.new)
+        (λ db. (reply : Reply) × (outcome ≡ Ok reply) × IsOk reply.done
+        × (db ≡ (state S.Store conn.old).now.trees)) }
+{
+    let reply = match outcome {
+        Ok(reply) => reply,
+        Err(fault) => {
+            take_back(conn);
+            return Err(fault);
+        }
+    };
+    if reply.done.is_err() {
+        take_back(conn);
+        return Ok(reply);
+    }
+    keep(conn)?;
+    Ok(reply)
+}

@@ -1,6 +1,0 @@
-//! The files that keep offices: they are made, found and closed.
-#![tactic(auto)]
-
-mod files;
-
-pub use files::{FileFault, FileStoreFrom, close, find, make, unmake};

@@ -1,5 +1,0 @@
-use Rattle.office_rows.proofs.CellCauses.{cells_are_said}
-use Rattle.office_rows.proofs.laws.cells_without_a_cause.Goals as goal
-
-pub returns : goal.returns
-returns c = cells_are_said

@@ -1,6 +1,0 @@
-use Rattle.office_rows.proofs.DeskSound.{desk_sound}
-use Rattle.office_rows.proofs.JudgedWhole.{rows_are_said}
-use Rattle.office_rows.proofs.laws.rows_without_a_cause.Goals as goal
-
-pub returns : goal.returns
-returns c = λ version t. rows_are_said version t (desk_sound version t)

@@ -1,6 +1,0 @@
-use Rattle.office_rows.proofs.DeskPasses.{desk_passes}
-use Rattle.office_rows.proofs.JudgedWhole.{tables_are_shown}
-use Rattle.office_rows.proofs.laws.tables_have_no_cause.Goals as goal
-
-pub returns : goal.returns
-returns c = λ version s. tables_are_shown version s (desk_passes version s)

@@ -1,5 +1,0 @@
-use Rattle.office_rows.proofs.Whole.{says_the_state}
-use Rattle.office_rows.proofs.laws.tables_say_the_state.Goals as goal
-
-pub returns : goal.returns
-returns c = says_the_state

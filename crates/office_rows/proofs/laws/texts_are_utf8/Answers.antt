@@ -1,5 +1,0 @@
-use Rattle.office_tables.proofs.CellTexts.{says_text, says_nothing}
-use Rattle.office_rows.proofs.laws.texts_are_utf8.Goals as goal
-
-pub returns : goal.returns
-returns c t = record { said = says_text t; nothing = says_nothing t }

@@ -1,5 +1,0 @@
-use Rattle.office_rows.proofs.shown_cells.TreesOfOffices.{has_trees}
-use Rattle.office_rows.proofs.laws_of_offices.states_are_shown.Goals as goal
-
-pub returns : goal.returns
-returns c = has_trees

@@ -1,5 +1,0 @@
-use Rattle.std.proofs.Common.{refl}
-use Rattle.office_rows.proofs.laws_of_offices.versions_differ_in_places.Goals as goal
-
-pub returns : goal.returns
-returns c = λ s. refl

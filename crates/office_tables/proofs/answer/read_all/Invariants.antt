@@ -1,5 +1,0 @@
-use Rattle.std.proofs.Common.{◌≡◌, map, take}
-use Rattle.office_tables.proofs.answer.read_all.Given as goal
-
-abbrev pub invariant-loop-row : goal.invariant-loop-row
-invariant-loop-row g l = (xs : _) → l.rows ≡ map g.T.FromRow.cells xs → l.all.items ≡ take l.row-index xs

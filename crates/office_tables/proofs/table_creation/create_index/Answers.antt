@@ -1,0 +1,42 @@
+use Rattle.std.proofs.Common.{IsUtf8, rules, refl}
+use Rattle.sqlite.specs.Held.{state}
+use Rattle.sqlite.specs.Command.TheVariants.{CreateIndex}
+use Rattle.office_tables.specs.Step.{IsAborted}
+use Rattle.office_tables.proofs.Calls.{early, known_in, write_cut, write_continues}
+use Rattle.office_tables.proofs.Creations.{indexes}
+use Rattle.office_tables.proofs.CreationCauses.{index_cause}
+use Rattle.office_tables.proofs.WriteCauses.{write_disk}
+use Rattle.office_tables.proofs.table_creation.create_index.Goals as goal
+
+pub returns-in_err-execute-clause-cut : goal.returns-in_err-execute-clause-cut
+returns-in_err-execute-clause-cut g c there start before after making defines =
+    let old = state g.S.Store c.args.conn.now in
+    let new = state g.S.Store c.execute.new.self in
+    let cut : IsAborted old new = write_cut c.args.text.now _ old new (CreateIndex defines.at) refl (λ clean. known_in before c.args.text.now (CreateIndex defines.at) old (making clean).0.schema_is (making clean).1 defines.says.is defines.says.plain)
+    c.in_err-execute.field-0.0 c.in_err-execute.ensures.runs c.execute.ensures.survives in
+    search (rules, cut)
+
+pub returns-clause-made : goal.returns-clause-made
+returns-clause-made g c there start before after making defines =
+    let old = state g.S.Store c.args.conn.now in
+    let new = state g.S.Store c.execute.new.self in
+    let on = write_continues c.args.text.now _ old new (CreateIndex defines.at) refl (λ clean. known_in before c.args.text.now (CreateIndex defines.at) old (making clean).0.schema_is (making clean).1 defines.says.is defines.says.plain)
+    (λ clean. (indexes there before after c.args.text.now start old new c.in_ok-execute.field-0 (making (early old new _ c.execute.ensures.survives clean)).0 (c.in_ok-execute.ensures.runs clean) defines).1) c.execute.ensures.survives in
+    (on, λ clean. ((indexes there before after c.args.text.now start old new c.in_ok-execute.field-0 (making (early old new _ on.crash clean)).0 (c.in_ok-execute.ensures.runs clean) defines).0, (on.within clean).is_inside))
+
+pub returns-in_err-execute-clause-disk : goal.returns-in_err-execute-clause-disk
+returns-in_err-execute-clause-disk g c there start before after making defines clean =
+    let old = state g.S.Store c.args.conn.now in
+    let new = state g.S.Store c.execute.new.self in
+    let before_clean = early old new _ c.execute.ensures.survives clean in
+    let fair = write_disk c.args.text.now _ old new (CreateIndex defines.at) refl (known_in before c.args.text.now (CreateIndex defines.at) old (making before_clean).0.schema_is (making before_clean).1 defines.says.is defines.says.plain) c.in_err-execute.field-0.0 (c.in_err-execute.ensures.runs clean) in
+    search (rules, fair)
+
+pub returns-in_err-execute-clause-faults : goal.returns-in_err-execute-clause-faults
+returns-in_err-execute-clause-faults g c there start before after making defines clean =
+    let old = state g.S.Store c.args.conn.now in
+    let new = state g.S.Store c.execute.new.self in
+    let made = (making (early old new _ c.execute.ensures.survives clean)).0 in
+    let utf8 : IsUtf8 c.args.text.now = search rules in
+    let why = index_cause there before after c.args.text.now utf8 defines start old new c.schema.ensures.live made c.in_err-execute.field-0.0 (c.in_err-execute.ensures.runs clean) in
+    search (rules, why)

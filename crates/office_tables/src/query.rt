@@ -1,0 +1,52 @@
+//! One query.
+
+ghost use Rattle.std.specs.Prelude.{◌<◌, ◌^◌, pos, [], ◌∷◌, IfOk, IfErr};
+ghost use Rattle.sqlite.specs.Held.{state};
+ghost use Rattle.sqlite.specs.State.{HasCleanDisk};
+ghost use Rattle.sqlite.specs.Values.{bound};
+ghost use Rattle.sqlite.specs.declared.types.Value.TheVariants.{Int};
+ghost use Rattle.office_tables.specs.Asking.{IsOurQuery, Reads, Finds, FindsFirst, Misses};
+
+use crate::fault::StoreFault;
+use crate::from_row::{FromRow, first_or_zero, read_all};
+use sqlite::types::ValueRef;
+use sqlite::{Alter, Connection};
+use std::alloc::Global;
+
+/// The records that a query of ours shows.
+pub fn find<T: FromRow + Drop, S: Alter>(
+    alloc: Global,
+    conn: &mut Connection<S>,
+    sql: &str,
+    params: &[ValueRef<'_>],
+) -> Result<Vec<T>, StoreFault>
+    requires { IsOurQuery sql.now (state S.Store conn.old) }
+    ensures reads { Reads (state S.Store conn.old) (state S.Store conn.new) result }
+    ensures found { HasCleanDisk (state S.Store conn.new)
+        → IfOk result (λ found. Finds T.cells sql.now (bound params.now) (state S.Store conn.old)
+        (state S.Store conn.new) found.items) }
+    ensures missed { HasCleanDisk (state S.Store conn.new)
+        → IfErr result (Misses T.cells T.is_legible sql.now (bound params.now) (state S.Store conn.old)
+        (state S.Store conn.new)) }
+{
+    let rows = conn.query_all(sql, params)?;
+    read_all(alloc, &rows)
+}
+
+/// The number in the first row that a query of ours shows, or 0 where it shows none.
+pub fn find_number<S: Alter>(
+    conn: &mut Connection<S>,
+    sql: &str,
+    params: &[ValueRef<'_>],
+) -> Result<u32, StoreFault>
+    requires { IsOurQuery sql.now (state S.Store conn.old) }
+    ensures reads { Reads (state S.Store conn.old) (state S.Store conn.new) result }
+    ensures found { HasCleanDisk (state S.Store conn.new)
+        → IfOk result (FindsFirst sql.now (bound params.now) (state S.Store conn.old) (state S.Store conn.new)) }
+    ensures missed { HasCleanDisk (state S.Store conn.new)
+        → IfErr result (Misses (λ n. Int (pos n) ∷ []) (λ n. n < 2 ^ 32) sql.now (bound params.now)
+        (state S.Store conn.old) (state S.Store conn.new)) }
+{
+    let rows = conn.query_all(sql, params)?;
+    first_or_zero(&rows)
+}

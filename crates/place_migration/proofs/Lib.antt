@@ -1,3 +1,0 @@
-pub mod Dropping
-pub mod Version
-pub mod Migrating

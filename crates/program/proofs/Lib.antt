@@ -1,0 +1,10 @@
+pub mod Ordered
+pub mod GivenSettings
+pub mod Judgments
+pub mod KeptLemmas
+pub mod Named
+pub mod PerformedLemmas
+pub mod StreamLemmas
+pub mod RefusalLines
+pub mod StoreLemmas
+pub mod Trials

@@ -1,0 +1,169 @@
+-- Lemmas on what a command did with its streams.
+use Rattle.std.proofs.Common.{◌≡◌, List, [], Result, Ok, Err, Option, Some, None, inl, inr, ℕ, IfErr, subst, sym}
+use Rattle.std.specs.Prelude.{IsErrAnd}
+use Rattle.std.specs.Io.KnownBytes.{Appends, Consumes}
+use Rattle.std.proofs.KnownBytes.{Appends-nil}
+use Rattle.sqlite_trees.specs.declared.store.Store.{Ghosts}
+use Rattle.sqlite.specs.Recovery.{Image}
+use Rattle.clap.specs.Simple.{subcommand_of}
+use Rattle.clap.specs.Walk.{Text}
+use Rattle.atom_csv.specs.declared.file.FileFault.{FileFault}
+use Rattle.atom_csv.specs.declared.file.FileFault.TheVariants as files
+use Rattle.atom_csv.specs.Reads.{IsBad}
+use Rattle.office_core.specs.Rules.{Reply}
+use Rattle.office.specs.Founding.{Founding}
+use Rattle.command_line.specs.CommandLine.{program}
+use Rattle.office.specs.declared.faults.OpenFault.{OpenFault}
+use Rattle.office.specs.declared.faults.OpenFault.TheVariants as opening
+use Rattle.program.specs.Faults.{IsUnopened, RefusesFile, fault_of_opening}
+use Rattle.program.specs.Performed.{ComplaintFails, Fails, FailsWith, IsSilent, JudgmentFails, Known, LineFails, PreviewFails, PrintsNothing, Reads, ReplyFails, ServerFails, TalkFails, TrialFails, complaint_of, previewed}
+use Rattle.program.specs.Streams.{IsFront}
+use Rattle.program.specs.Tasks.{IsTaskOf}
+use Rattle.program.specs.declared.faults.Fault.{Fault}
+use Rattle.program.specs.declared.faults.Fault.TheVariants.{Refused, Words, Date, Settings, File, Memory}
+use Rattle.program.specs.declared.tasks.Task.{Task}
+use Rattle.program.specs.declared.tasks.Task.TheVariants.{Preview, Init, Trial, Import, Talk, Serve, Check, Migrate}
+
+-- a preview that was broken off while it printed
+pub broken_off : {X : Type 0} (country repo : Text) (path : Option Text) (left left_after held held_after : Known) (r : Result X Fault)
+    → IsErrAnd r (λ fault. fault ≡ File)
+    → ((file aids front : List ℕ) × Reads path left left_after file × (previewed country repo file ≡ Ok aids) × IsFront front aids × Appends held held_after front)
+    → IfErr r (PreviewFails country repo path left left_after held held_after)
+broken_off country repo path left left_after held held_after (Ok x) is why = tt
+broken_off country repo path left left_after held held_after (Err fault) is why =
+    subst (PreviewFails country repo path left left_after held held_after) (sym is) (inr why)
+
+-- a file that gives no finding aids ends a preview, and nothing was printed
+pub refused_fails : (country repo : Text) (path : Option Text) (left left_after held : Known) (file gone : List ℕ) (why : FileFault) (fault : Fault)
+    → RefusesFile why fault → Reads path left left_after file → IsBad why (λ row cause. previewed country repo file ≡ Err (row, cause)) → Consumes left left_after gone
+    → PreviewFails country repo path left left_after held held fault
+refused_fails country repo path left left_after held file gone (files.Bad row cause) (Refused line) told reads refused front =
+    (file, row, cause, reads, refused, told, Appends-nil held)
+refused_fails country repo path left left_after held file gone (files.Bad row cause) Memory told reads refused front = (gone, front, Appends-nil held)
+refused_fails country repo path left left_after held file gone (files.Bad row cause) _ told reads refused front = absurd told
+refused_fails country repo path left left_after held file gone files.Memory fault told reads refused front =
+    subst (PreviewFails country repo path left left_after held held) (sym told) (gone, front, Appends-nil held)
+
+-- ---- no task fails by its words, and where memory is wanting nothing is printed
+
+abbrev OfWords : Fault → Type 0
+OfWords (Words text) = Unit {0}
+OfWords Date = Unit {0}
+OfWords Settings = Unit {0}
+OfWords _ = ⊥
+
+unopened_no : (f : Fault) → OfWords f → IsUnopened f → ⊥
+unopened_no (Words text) of why = why
+unopened_no Date of why = why
+unopened_no Settings of why = why
+unopened_no _ of why = of
+
+reply_no : (reply : Reply) (held held_after : Known) (f : Fault) → OfWords f → ReplyFails reply held held_after f → ⊥
+reply_no (Ok done) held held_after (Words text) of why = why
+reply_no (Ok done) held held_after Date of why = why
+reply_no (Ok done) held held_after Settings of why = why
+reply_no (Ok done) held held_after _ of why = of
+reply_no (Err refusal) held held_after (Words text) of why = why.0
+reply_no (Err refusal) held held_after Date of why = why.0
+reply_no (Err refusal) held held_after Settings of why = why.0
+reply_no (Err refusal) held held_after _ of why = of
+
+line_no : (line : List ℕ) (held held_after : Known) (f : Fault) → OfWords f → LineFails line held held_after f → ⊥
+line_no line held held_after (Words text) of why = why
+line_no line held held_after Date of why = why
+line_no line held held_after Settings of why = why
+line_no line held held_after _ of why = of
+
+server_no : (port : ℕ) (held held_after : Known) (f : Fault) → OfWords f → ServerFails port held held_after f → ⊥
+server_no port held held_after (Words text) of why = why
+server_no port held held_after Date of why = why
+server_no port held held_after Settings of why = why
+server_no port held held_after _ of why = of
+
+opening_no : (why_not : OpenFault) (f : Fault) → OfWords f → f ≡ fault_of_opening why_not → ⊥
+opening_no opening.Memory f of is = subst OfWords is of
+opening_no _ f of is = subst OfWords is of
+
+complaint_no : (why_not : OpenFault) (line : Option (List ℕ)) (held held_after : Known) (f : Fault) → OfWords f → ComplaintFails why_not line held held_after f → ⊥
+complaint_no why_not (Some line) held held_after (Words text) of why = why
+complaint_no why_not (Some line) held held_after Date of why = why
+complaint_no why_not (Some line) held held_after Settings of why = why
+complaint_no why_not (Some line) held held_after _ of why = of
+complaint_no why_not None held held_after f of why = opening_no why_not f of why.0
+
+judgment_no : (judged : Option OpenFault) (held held_after : Known) (f : Fault) → OfWords f → JudgmentFails judged held held_after f → ⊥
+judgment_no None held held_after f of why = line_no _ held held_after f of why
+judgment_no (Some why_not) held held_after f of why = complaint_no why_not (complaint_of why_not) held held_after f of why
+
+preview_no : (country repo : Text) (path : Option Text) (left left_after held held_after : Known) (f : Fault) → OfWords f → PreviewFails country repo path left left_after held held_after f → ⊥
+preview_no country repo path left left_after held held_after (Words text) of why = why
+preview_no country repo path left left_after held held_after Date of why = why
+preview_no country repo path left left_after held held_after Settings of why = why
+preview_no country repo path left left_after held held_after _ of why = of
+
+trial_no : (founding : Founding) (left left_after held held_after : Known) (f : Fault) → OfWords f → TrialFails founding left left_after held held_after f → ⊥
+trial_no founding left left_after held held_after (Words text) of why = why
+trial_no founding left left_after held held_after Date of why = why
+trial_no founding left left_after held held_after Settings of why = why
+trial_no founding left left_after held held_after _ of why = of
+
+silent_reply : (reply : Reply) (held held_after : Known) → ReplyFails reply held held_after Memory → IsSilent held held_after
+silent_reply (Ok done) held held_after why = absurd why
+silent_reply (Err refusal) held held_after why = why.1
+
+silent_complaint : (why_not : OpenFault) (line : Option (List ℕ)) (held held_after : Known) → ComplaintFails why_not line held held_after Memory → IsSilent held held_after
+silent_complaint why_not (Some line) held held_after why = why
+silent_complaint why_not None held held_after why = why.1
+
+silent_judgment : (judged : Option OpenFault) (held held_after : Known) → JudgmentFails judged held held_after Memory → IsSilent held held_after
+silent_judgment None held held_after why = why
+silent_judgment (Some why_not) held held_after why = silent_complaint why_not (complaint_of why_not) held held_after why
+
+-- ---- with an office in a store
+
+module _ {S : Type 0} (store : Ghosts S) (image : Image) where
+  talk_no : (left left_after held held_after : Known) (f : Fault) → OfWords f → TalkFails store image left left_after held held_after f → ⊥
+  talk_no left left_after held held_after (Words text) of why = why.0
+  talk_no left left_after held held_after Date of why = why.0
+  talk_no left left_after held held_after Settings of why = why.0
+  talk_no left left_after held held_after _ of why = of
+
+  none_of_words : (task : Task) (left left_after held held_after : Known) (f : Fault) → OfWords f → FailsWith store image task left left_after held held_after f → ⊥
+  none_of_words (Preview country repo path) left left_after held held_after f of why = preview_no country repo path left left_after held held_after f of why
+  none_of_words (Init path founding) left left_after held held_after f of why = unopened_no f of why.0
+  none_of_words (Trial founding) left left_after held held_after f of why = trial_no founding left left_after held held_after f of why
+  none_of_words (Import path source file) left left_after held held_after f of (unread, inl why) = unopened_no f of why.0
+  none_of_words (Import path source file) left left_after held held_after f of (unread, inr (reply, taken, why)) = reply_no reply held held_after f of why
+  none_of_words (Talk path) left left_after held held_after f of why = talk_no left left_after held held_after f of why
+  none_of_words (Serve path port connections) left left_after held held_after f of (unread, inl why) = unopened_no f of why.0
+  none_of_words (Serve path port connections) left left_after held held_after f of (unread, inr (served, why)) = server_no port held held_after f of why
+  none_of_words (Check path) left left_after held held_after f of (unread, inl why) = unopened_no f of why.0
+  none_of_words (Check path) left left_after held held_after f of (unread, inr (judged, was, why)) = judgment_no judged held held_after f of why
+  none_of_words (Migrate path) left left_after held held_after f of (unread, inl why) = unopened_no f of why.0
+  none_of_words (Migrate path) left left_after held held_after f of (unread, inr (inl (stays, quiet))) = opening_no stays.why f of stays.told
+  none_of_words (Migrate path) left left_after held held_after f of (unread, inr (inr (brought, why))) = line_no _ held held_after f of why
+
+  silent : (task : Task) (left left_after held held_after : Known) → FailsWith store image task left left_after held held_after Memory → PrintsNothing left left_after held held_after
+  silent (Preview country repo path) left left_after held held_after why = why
+  silent (Init path founding) left left_after held held_after why = ([], why.1.0, why.1.1)
+  silent (Trial founding) left left_after held held_after why = ([], why.0, why.1)
+  silent (Import path source file) left left_after held held_after (unread, inl why) = ([], unread, why.1)
+  silent (Import path source file) left left_after held held_after (unread, inr (reply, taken, why)) = ([], unread, silent_reply reply held held_after why)
+  silent (Talk path) left left_after held held_after why = ([], why.1.0, why.1.1)
+  silent (Serve path port connections) left left_after held held_after (unread, inl why) = ([], unread, why.1)
+  silent (Serve path port connections) left left_after held held_after (unread, inr (served, why)) = ([], unread, why)
+  silent (Check path) left left_after held held_after (unread, inl why) = ([], unread, why.1)
+  silent (Check path) left left_after held held_after (unread, inr (judged, was, why)) = ([], unread, silent_judgment judged held held_after why)
+  silent (Migrate path) left left_after held held_after (unread, inl why) = ([], unread, why.1)
+  silent (Migrate path) left left_after held held_after (unread, inr (inl (stays, quiet))) = ([], unread, quiet)
+  silent (Migrate path) left left_after held held_after (unread, inr (inr (brought, why))) = ([], unread, why)
+
+  -- a fault that ended a task ended its words
+  pub fails : (words : List Text) (task : Task) (left left_after held held_after : Known) (fault : Fault)
+      → IsTaskOf (subcommand_of program words) task → FailsWith store image task left left_after held held_after fault
+      → Fails store image words left left_after held held_after fault
+  fails words task left left_after held held_after (Words text) is why = absurd (none_of_words task left left_after held held_after (Words text) tt why)
+  fails words task left left_after held held_after Date is why = absurd (none_of_words task left left_after held held_after Date tt why)
+  fails words task left left_after held held_after Settings is why = absurd (none_of_words task left left_after held held_after Settings tt why)
+  fails words task left left_after held held_after Memory is why = silent task left left_after held held_after why
+  fails words task left left_after held held_after _ is why = (task, is, why)

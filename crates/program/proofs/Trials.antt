@@ -1,0 +1,59 @@
+-- What a session with a new office in memory did.
+use Rattle.std.proofs.Common.{◌≡◌, ℕ, Result, Ok, Err, inl, inr, subst, sym, arith}
+use Rattle.std.specs.Prelude.{IfErr, OnOk}
+use Rattle.std.proofs.KnownBytes.{Appends-nil, Consumes-nil}
+use Rattle.sqlite.specs.Held.{Held, state}
+use Rattle.sqlite.specs.State.{HasCleanDisk}
+use Rattle.sqlite.specs.Steps.{over_memory}
+use Rattle.sqlite.specs.Tree.{Trees}
+use Rattle.sqlite.proofs.Callers.{memory_is_clean}
+use Rattle.sqlite_trees.specs.declared.memory.MemStore.{MemStore}
+use Rattle.tree_core.specs.Forest.{Forest}
+use Rattle.tree_core.specs.Versions.{Version}
+use Rattle.office_core.specs.SoundOffice.{IsSoundOffice}
+use Rattle.office.specs.Founding.{Founding, founded}
+use Rattle.office.specs.Opening.{HasOpenCause}
+use Rattle.office.specs.Resting.{IsIn, is_clean, is_shown}
+use Rattle.office.specs.declared.faults.OpenFault.{OpenFault}
+use Rattle.office.specs.declared.faults.OpenFault.TheVariants as opening
+use Rattle.http_desk.specs.Talking.{AtEndIf, Talks}
+use Rattle.http_desk.specs.declared.session_end.Ended.{Ended}
+use Rattle.http_desk.specs.declared.session_end.Next.TheVariants.{Ends}
+use Rattle.program.specs.Faults.{fault_of_opening}
+use Rattle.program.specs.Performed.{EndsWell, Known, Talked, TrialDone, TrialFails, ended_by}
+use Rattle.program.specs.declared.faults.Break.{Break}
+use Rattle.program.specs.declared.faults.Fault.{Fault}
+use Rattle.program.specs.declared.faults.Fault.TheVariants as fault
+
+-- In memory, where no disk fails, an office is not opened for want of memory alone. Nobody talks to it.
+pub not_opened : (founding : Founding) (left held : Known) (old new : Held MemStore) (f : OpenFault) → HasOpenCause (state over_memory old) (state over_memory new) f
+    → TrialFails founding left left held held (fault_of_opening f)
+not_opened founding left held old new opening.Memory why = (Consumes-nil left, Appends-nil held)
+not_opened founding left held old new opening.Disk (inl more) = absurd (omega arith)
+not_opened founding left held old new opening.Disk (inr shut) = absurd cc
+not_opened founding left held old new opening.Schema why = absurd why
+not_opened founding left held old new opening.NoOffice why = absurd why
+not_opened founding left held old new opening.OldVersion why = absurd why
+not_opened founding left held old new opening.NewVersion why = absurd why
+not_opened founding left held old new (opening.Unsound n) why = absurd why
+
+module _ (places : Trees → Forest ℕ → Type 0) (version : Version) (founding : Founding) (left left_after held held_after : Known) (before after : Held MemStore) (end : Ended) where
+  -- what was said to a new office is a session with it
+  pub talked : IsSoundOffice (founded founding) → (HasCleanDisk (state over_memory before) → IsIn places version (founded founding) (state over_memory before))
+      → Talks (is_shown over_memory places version) (is_clean over_memory) left left_after held held_after before end after → AtEndIf left_after (Ends end)
+      → Talked founding left left_after held held_after end
+  talked sound shown (read, written, gone, told, through) at_end =
+      let (t, is, session) = through (memory_is_clean after) (founded founding) (sound, shown (memory_is_clean before)) in
+      (read, written, gone, at_end, told, t, session)
+
+-- it ended well, or broke off
+pub done_by : (founding : Founding) (left left_after held held_after : Known) (end : Ended) (r : Result (Unit {0}) Fault) → Talked founding left left_after held held_after end
+    → OnOk r (EndsWell end) → OnOk r (TrialDone founding left left_after held held_after)
+done_by founding left left_after held held_after end (Ok u) talk well = (end, well, talk)
+done_by founding left left_after held held_after end (Err f) talk well = tt
+
+pub broken_by : (founding : Founding) (left left_after held held_after : Known) (end : Ended) (r : Result (Unit {0}) Fault) → Talked founding left left_after held held_after end
+    → IfErr r (λ f. (broken : Break) × (f ≡ fault.Session broken) × (end ≡ ended_by broken)) → IfErr r (TrialFails founding left left_after held held_after)
+broken_by founding left left_after held held_after end (Ok u) talk why = tt
+broken_by founding left left_after held held_after end (Err f) talk (broken, is, by) =
+    subst (TrialFails founding left left_after held held_after) (sym is) (subst (Talked founding left left_after held held_after) by talk)

@@ -1,0 +1,315 @@
+-- What a command did with its streams: left and left_after are the bytes that standard input has before and
+-- after it, held and held_after those that standard output holds.
+use Rattle.std.specs.Prelude.{◌≡◌, ◌⊎◌, ◌++◌, [], List, Option, Some, None, Result, Ok, Err, ℕ, codes, true, false}
+use Rattle.std.specs.Fmt.{decimal}
+use Rattle.std.specs.Io.KnownBytes.{Appends, Consumes, IsAtEnd}
+use Rattle.sqlite_trees.specs.declared.store.Store.{Ghosts}
+use Rattle.sqlite.specs.Recovery.{Image}
+use Rattle.clap.specs.Simple.{subcommand_of}
+use Rattle.clap.specs.Takes.{takes}
+use Rattle.clap.specs.Walk.{Text}
+use Rattle.finding_aids.specs.Preview.{preview_of}
+use Rattle.office_core.specs.State.{State}
+use Rattle.office.specs.Founding.{Founding, founded}
+use Rattle.http_desk.specs.Session as http
+use Rattle.http_desk.specs.Talking.{AtEndIf}
+use Rattle.http_desk.specs.declared.session_end.Ended.{Ended}
+use Rattle.http_desk.specs.declared.session_end.Ended.TheVariants as ended
+use Rattle.http_desk.specs.declared.session_end.Next.TheVariants.{Ends}
+use Rattle.office_core.specs.Json.{reply_text}
+use Rattle.office_core.specs.Rules.{Reply}
+use Rattle.desk_core.specs.declared.refusal.Refusal.TheVariants.{BadFile}
+use Rattle.command_line.specs.CommandLine.{program}
+use Rattle.office.specs.declared.faults.OpenFault.{OpenFault}
+use Rattle.office.specs.declared.faults.OpenFault.TheVariants as opening
+use Rattle.program.specs.Faults.{IsUnopened, Refuses, fault_of_opening, line_of, message_of, status_of}
+use Rattle.program.specs.Stores.{HasServed, HasTakenIn, IsBroughtOver, IsMade, IsNotBroughtOver, IsTalkedWith, WasJudged}
+use Rattle.program.specs.Streams.{IsFront}
+use Rattle.program.specs.Tasks.{IsRefusedIn, IsTaskOf}
+use Rattle.program.specs.declared.faults.Break.{Break}
+use Rattle.program.specs.declared.faults.Break.TheVariants as break
+use Rattle.program.specs.declared.faults.Fault.{Fault}
+use Rattle.program.specs.declared.faults.Fault.TheVariants.{Refused, NotSound, Words, Date, Settings, File, Store}
+use Rattle.program.specs.declared.faults.Fault.TheVariants.{Net, Session, Memory}
+use Rattle.program.specs.declared.tasks.Task.{Task}
+use Rattle.program.specs.declared.tasks.Task.TheVariants.{Preview, Init, Trial, Import, Talk, Serve, Check, Migrate}
+use Rattle.program.specs.declared.tasks.TaskFault.TheVariants as tasks
+
+abbrev pub Known : Type 0
+Known = Option (List ℕ)
+
+-- standard input read to its end, or the bytes of the file of that name, while standard input stays
+abbrev pub Reads : Option Text → Known → Known → List ℕ → Type 0
+Reads None left left_after bytes = Consumes left left_after bytes × IsAtEnd left_after
+Reads (Some path) left left_after bytes = Consumes left left_after []
+
+-- nothing was read or printed
+abbrev pub DoesNothing : Known → Known → Known → Known → Type 0
+DoesNothing left left_after held held_after = Consumes left left_after [] × Appends held held_after []
+
+-- nothing was printed, whatever was read of standard input
+abbrev pub PrintsNothing : Known → Known → Known → Known → Type 0
+PrintsNothing left left_after held held_after =
+    (gone : List ℕ) × Consumes left left_after gone × Appends held held_after []
+
+-- the finding aids of a file, or the row and the cause of its first fault
+abbrev pub previewed : Text → Text → List ℕ → Result Text (ℕ × ℕ)
+previewed country repo file = preview_of (record { country = country; repo = repo }) file
+
+-- a preview that is done: the finding aids of what it read were printed
+abbrev pub PreviewDone : Text → Text → Option Text → Known → Known → Known → Known → Type 0
+PreviewDone country repo path left left_after held held_after =
+    (file aids : List ℕ) × Reads path left left_after file × (previewed country repo file ≡ Ok aids)
+    × Appends held held_after aids
+
+-- a preview that a fault ended: what it read is refused with that line, or a front of the finding aids was
+-- printed, or nothing
+abbrev pub PreviewFails : Text → Text → Option Text → Known → Known → Known → Known → Fault → Type 0
+PreviewFails country repo path left left_after held held_after (Refused line) =
+    (file : List ℕ) × (row cause : ℕ) × Reads path left left_after file
+    × (previewed country repo file ≡ Err (row, cause)) × (line ≡ line_of (BadFile row cause)) × Appends held held_after []
+PreviewFails country repo path left left_after held held_after File =
+    PrintsNothing left left_after held held_after
+    ⊎ ((file aids front : List ℕ) × Reads path left left_after file × (previewed country repo file ≡ Ok aids)
+    × IsFront front aids × Appends held held_after front)
+PreviewFails country repo path left left_after held held_after Memory =
+    PrintsNothing left left_after held held_after
+PreviewFails country repo path left left_after held held_after _ = ⊥
+
+-- a session with an office that began so: what was read is its input, and what was written its output; where it ends
+-- with its input, all of standard input was read
+abbrev pub Talked : Founding → Known → Known → Known → Known → Ended → Type 0
+Talked founding left left_after held held_after end =
+    (input output : List ℕ) × Consumes left left_after input × AtEndIf left_after (Ends end)
+    × Appends held held_after output × (new : State) × http.Session (founded founding) input output end new
+
+-- it ended after an answer
+abbrev pub EndsWell : Ended → Type 0
+EndsWell ended.End = Unit {0}
+EndsWell ended.Closed = Unit {0}
+EndsWell _ = ⊥
+
+abbrev pub ended_by : Break → Ended
+ended_by break.Cut = ended.Cut
+ended_by break.Read = ended.ReadFault
+ended_by break.Write = ended.WriteFault
+ended_by break.Bound = ended.Bound
+
+-- a trial that is done: a session that ended after an answer
+abbrev pub TrialDone : Founding → Known → Known → Known → Known → Type 0
+TrialDone founding left left_after held held_after =
+    (end : Ended) × EndsWell end × Talked founding left left_after held held_after end
+
+-- a trial that a fault ended: its session broke off, or there was no memory for an office
+abbrev pub TrialFails : Founding → Known → Known → Known → Known → Fault → Type 0
+TrialFails founding left left_after held held_after (Session broken) =
+    Talked founding left left_after held held_after (ended_by broken)
+TrialFails founding left left_after held held_after Memory = DoesNothing left left_after held held_after
+TrialFails founding left left_after held held_after _ = ⊥
+
+-- ---- what is printed of an office
+
+-- nothing was printed
+abbrev pub IsSilent : Known → Known → Type 0
+IsSilent held held_after = Appends held held_after []
+
+-- a front of the text was printed: all of it, or as much as standard output took
+abbrev pub PrintsFront : List ℕ → Known → Known → Type 0
+PrintsFront text held held_after = (front : List ℕ) × IsFront front text × Appends held held_after front
+
+-- an office is busy: there is no memory, or its store fails
+abbrev pub IsBusy : Fault → Type 0
+IsBusy Store = Unit {0}
+IsBusy Memory = Unit {0}
+IsBusy _ = ⊥
+
+abbrev pub line_feed : List ℕ
+line_feed = codes "\n"
+
+-- what was done was printed, as a line
+abbrev pub ReplyPrinted : Reply → Known → Known → Type 0
+ReplyPrinted (Ok done) held held_after = Appends held held_after (reply_text (Ok done) ++ line_feed)
+ReplyPrinted (Err why) held held_after = ⊥
+
+-- it was refused, with that line; or standard output failed
+abbrev pub ReplyFails : Reply → Known → Known → Fault → Type 0
+ReplyFails (Ok done) held held_after File = PrintsFront (reply_text (Ok done) ++ line_feed) held held_after
+ReplyFails (Ok done) held held_after _ = ⊥
+ReplyFails (Err why) held held_after fault = Refuses why fault × IsSilent held held_after
+
+abbrev pub listening : ℕ → List ℕ
+listening port = codes "listening " ++ decimal port ++ line_feed
+
+-- a server has said that it listens
+abbrev pub Listens : ℕ → Known → Known → Type 0
+Listens port held held_after = Appends held held_after (listening port)
+
+-- it had no port or no memory, or standard output failed; or a connection could not be taken
+abbrev pub ServerFails : ℕ → Known → Known → Fault → Type 0
+ServerFails port held held_after Net = IsSilent held held_after ⊎ Listens port held held_after
+ServerFails port held held_after File = PrintsFront (listening port) held held_after
+ServerFails port held held_after Memory = IsSilent held held_after
+ServerFails port held held_after _ = ⊥
+
+-- what is told of an office that is not sound, or of the other version
+abbrev pub complaint_of : OpenFault → Option (List ℕ)
+complaint_of opening.OldVersion = Some (codes "old version\n")
+complaint_of (opening.Unsound cause) = Some (codes "not sound " ++ decimal cause ++ line_feed)
+complaint_of _ = None
+
+-- no fault was found, and that was printed
+abbrev pub JudgmentPrinted : Option OpenFault → Known → Known → Type 0
+JudgmentPrinted None held held_after = Appends held held_after (codes "sound\n")
+JudgmentPrinted (Some why) held held_after = ⊥
+
+-- a line that there is to print was not printed whole: there was no memory for it, or standard output failed
+abbrev pub LineFails : List ℕ → Known → Known → Fault → Type 0
+LineFails line held held_after File = PrintsFront line held held_after
+LineFails line held held_after Memory = IsSilent held held_after
+LineFails line held held_after _ = ⊥
+
+-- what was found was printed as a complaint, or not whole; where there is none, the fault is that of opening
+abbrev pub ComplaintFails : OpenFault → Option (List ℕ) → Known → Known → Fault → Type 0
+ComplaintFails why (Some line) held held_after NotSound = Appends held held_after line
+ComplaintFails why (Some line) held held_after fault = LineFails line held held_after fault
+ComplaintFails why None held held_after fault = (fault ≡ fault_of_opening why) × IsSilent held held_after
+
+abbrev pub JudgmentFails : Option OpenFault → Known → Known → Fault → Type 0
+JudgmentFails None held held_after fault = LineFails (codes "sound\n") held held_after fault
+JudgmentFails (Some why) held held_after fault = ComplaintFails why (complaint_of why) held held_after fault
+
+abbrev pub migrated : List ℕ
+migrated = codes "migrated\n"
+
+-- nothing was read of standard input
+abbrev pub Unread : Known → Known → Type 0
+Unread left left_after = Consumes left left_after []
+
+-- ---- offices in stores, of which one with this image was found
+
+module _ {S : Type 0} (store : Ghosts S) (image : Image) where
+  -- a new office that is made
+  abbrev pub InitDone : Founding → Known → Known → Known → Known → Type 0
+  InitDone founding left left_after held held_after =
+      IsMade store image founding × DoesNothing left left_after held held_after
+
+  -- an import that is done: it was one step, whose reply was printed
+  abbrev pub ImportDone : Text → Known → Known → Type 0
+  ImportDone source held held_after =
+      (reply : Reply) × HasTakenIn store image source reply × ReplyPrinted reply held held_after
+
+  -- an import that a fault ended: the office was not opened or is busy; or its step was refused, or was not printed
+  abbrev pub ImportFails : Text → Known → Known → Fault → Type 0
+  ImportFails source held held_after fault =
+      (IsUnopened fault × IsSilent held held_after)
+      ⊎ ((reply : Reply) × HasTakenIn store image source reply × ReplyFails reply held held_after fault)
+
+  -- a talk that is done: a session that ended after an answer
+  abbrev pub TalkDone : Known → Known → Known → Known → Type 0
+  TalkDone left left_after held held_after =
+      (end : Ended) × EndsWell end × IsTalkedWith store image left left_after held held_after end
+
+  -- a talk that a fault ended: its session broke off, or the office was not opened
+  abbrev pub TalkFails : Known → Known → Known → Known → Fault → Type 0
+  TalkFails left left_after held held_after (Session broken) =
+      IsTalkedWith store image left left_after held held_after (ended_by broken)
+  TalkFails left left_after held held_after fault = IsUnopened fault × DoesNothing left left_after held held_after
+
+  -- a server that is done: it has said that it listens, and served all connections
+  abbrev pub ServeDone : ℕ → ℕ → Known → Known → Type 0
+  ServeDone port connections held held_after =
+      HasServed store image connections true × Listens port held held_after
+
+  -- a server that a fault ended: the office was not opened, or it did not listen or not take all connections
+  abbrev pub ServeFails : ℕ → ℕ → Known → Known → Fault → Type 0
+  ServeFails port connections held held_after fault =
+      (IsUnopened fault × IsSilent held held_after)
+      ⊎ (HasServed store image connections false × ServerFails port held held_after fault)
+
+  -- a check that is done: the tables are a sound office's, and that was printed
+  abbrev pub CheckDone : Known → Known → Type 0
+  CheckDone held held_after = WasJudged store image None × JudgmentPrinted None held held_after
+
+  -- a check that a fault ended: no store was opened; or its tables are not such, or that they are was not printed
+  abbrev pub CheckFails : Known → Known → Fault → Type 0
+  CheckFails held held_after fault =
+      (IsUnopened fault × IsSilent held held_after)
+      ⊎ ((judged : Option OpenFault) × WasJudged store image judged × JudgmentFails judged held held_after fault)
+
+  -- a migration that is done, and was told
+  abbrev pub MigrateDone : Known → Known → Type 0
+  MigrateDone held held_after = IsBroughtOver store image × Appends held held_after migrated
+
+  -- a migration that a fault ended: no store was opened; or its tables stay as they are; or it was done, and not told
+  -- whole
+  abbrev pub MigrateFails : Known → Known → Fault → Type 0
+  MigrateFails held held_after fault =
+      (IsUnopened fault × IsSilent held held_after)
+      ⊎ ((IsNotBroughtOver store image fault × IsSilent held held_after)
+      ⊎ (IsBroughtOver store image × LineFails migrated held held_after fault))
+
+  -- a task that is done
+  abbrev pub Does : Task → Known → Known → Known → Known → Type 0
+  Does (Preview country repo path) left left_after held held_after =
+      PreviewDone country repo path left left_after held held_after
+  Does (Init path founding) left left_after held held_after = InitDone founding left left_after held held_after
+  Does (Trial founding) left left_after held held_after = TrialDone founding left left_after held held_after
+  Does (Import path source file) left left_after held held_after =
+      Unread left left_after × ImportDone source held held_after
+  Does (Talk path) left left_after held held_after = TalkDone left left_after held held_after
+  Does (Serve path port connections) left left_after held held_after =
+      Unread left left_after × ServeDone port connections held held_after
+  Does (Check path) left left_after held held_after = Unread left left_after × CheckDone held held_after
+  Does (Migrate path) left left_after held held_after = Unread left left_after × MigrateDone held held_after
+
+  -- a task that a fault ended
+  abbrev pub FailsWith : Task → Known → Known → Known → Known → Fault → Type 0
+  FailsWith (Preview country repo path) left left_after held held_after fault =
+      PreviewFails country repo path left left_after held held_after fault
+  FailsWith (Init path founding) left left_after held held_after fault =
+      IsUnopened fault × DoesNothing left left_after held held_after
+  FailsWith (Trial founding) left left_after held held_after fault =
+      TrialFails founding left left_after held held_after fault
+  FailsWith (Import path source file) left left_after held held_after fault =
+      Unread left left_after × ImportFails source held held_after fault
+  FailsWith (Talk path) left left_after held held_after fault = TalkFails left left_after held held_after fault
+  FailsWith (Serve path port connections) left left_after held held_after fault =
+      Unread left left_after × ServeFails port connections held held_after fault
+  FailsWith (Check path) left left_after held held_after fault =
+      Unread left left_after × CheckFails held held_after fault
+  FailsWith (Migrate path) left left_after held held_after fault =
+      Unread left left_after × MigrateFails held held_after fault
+
+  -- words whose task is done
+  abbrev pub IsDone : List Text → Known → Known → Known → Known → Type 0
+  IsDone words left left_after held held_after =
+      (task : Task) × IsTaskOf (subcommand_of program words) task
+      × Does task left left_after held held_after
+
+  -- words that a fault ended: they name no task, or its values are refused, and nothing was read or printed; or their
+  -- task failed
+  abbrev pub Fails : List Text → Known → Known → Known → Known → Fault → Type 0
+  Fails words left left_after held held_after (Words text) =
+      (takes program words ≡ false) × DoesNothing left left_after held held_after
+  Fails words left left_after held held_after Date =
+      IsRefusedIn (subcommand_of program words) tasks.Date × DoesNothing left left_after held held_after
+  Fails words left left_after held held_after Settings =
+      IsRefusedIn (subcommand_of program words) tasks.Settings × DoesNothing left left_after held held_after
+  Fails words left left_after held held_after Memory = PrintsNothing left left_after held held_after
+  Fails words left left_after held held_after fault =
+      (task : Task) × IsTaskOf (subcommand_of program words) task × FailsWith task left left_after held held_after fault
+
+-- ---- with standard error
+
+-- on standard error, which held told and then holds told_after, a front of the text was written: all of it, or
+-- as much as it took
+abbrev pub Tells : Known → Known → List ℕ → Type 0
+Tells told told_after text = (front : List ℕ) × IsFront front text × Appends told told_after front
+
+-- the words were done, and nothing was told, or a fault ended them, and its message was told; this is the
+-- exit status
+abbrev pub Performs : {S : Type 0} → Ghosts S → Image → List Text → Known → Known → Known → Known → Known → Known → ℕ → Type 0
+Performs store image words left left_after held held_after told told_after status =
+    ((status ≡ 0) × IsDone store image words left left_after held held_after × Appends told told_after [])
+    ⊎ ((fault : Fault) × (status ≡ status_of fault) × Fails store image words left left_after held held_after fault
+    × Tells told told_after (message_of fault))

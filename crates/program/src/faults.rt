@@ -1,0 +1,197 @@
+//! Why a command was not done, with its exit status and its message.
+ghost use Rattle.std.specs.Prelude.{◌≡◌, IfOk};
+ghost use Rattle.program.specs.Faults.{Refuses, line_of, message_of, status_of};
+
+use crate::files::FileFault;
+use crate::streams::{ReadFault, WriteFault};
+use crate::tasks::TaskFault;
+use isad_core::Text;
+use office::{Busy, OpenFault, Refusal};
+use std::alloc::{AllocError, Global};
+
+/// How a session ended that was not closed after an answer, nor by the end of its input after one.
+#[derive(Clone, Copy, Debug, PartialEq, Eq, Drop)]
+pub enum Break {
+    /// The input ended inside a message.
+    Cut,
+    /// A read failed.
+    Read,
+    /// A write or a flush failed.
+    Write,
+    /// Too many calls were made for one message.
+    Bound,
+}
+
+/// Why a command was not done.
+#[derive(Debug, Drop)]
+pub enum Fault {
+    /// It was refused. This is the line that says so.
+    Refused(Text),
+    /// A check has found no sound office of this version, and has said so on standard output.
+    NotSound,
+    /// The words name no task. This is what to tell their writer.
+    Words(Text),
+    /// A day is none of the calendar.
+    Date,
+    /// A setting is not within its limits.
+    Settings,
+    /// A file or a standard stream could not be read or written.
+    File,
+    /// The store could not be opened, read or written.
+    Store,
+    /// A port could not be had, or a connection not be taken.
+    Net,
+    /// A session broke off.
+    Session(Break),
+    /// There was no memory.
+    Memory,
+}
+
+impl Fault {
+    /// The exit status.
+    pub fn status(&self) -> u8
+        ensures { result ≡ status_of self.now }
+    {
+        match self {
+            Fault::Refused(_) | Fault::NotSound => 1,
+            Fault::Words(_) | Fault::Date | Fault::Settings => 2,
+            Fault::File | Fault::Store | Fault::Net | Fault::Session(_) | Fault::Memory => 3,
+        }
+    }
+
+    /// What stands on standard error.
+    pub fn message(&self) -> &str
+        ensures { result.now ≡ message_of self.now }
+    {
+        match self {
+            Fault::Refused(line) => line.as_str(),
+            Fault::NotSound => "",
+            Fault::Words(text) => text.as_str(),
+            Fault::Date => "bad date\n",
+            Fault::Settings => "bad settings\n",
+            Fault::File => "file fault\n",
+            Fault::Store => "store fault\n",
+            Fault::Net => "net fault\n",
+            Fault::Session(Break::Cut) => "cut\n",
+            Fault::Session(Break::Read) => "read fault\n",
+            Fault::Session(Break::Write) => "write fault\n",
+            Fault::Session(Break::Bound) => "bound\n",
+            Fault::Memory => "no memory\n",
+        }
+    }
+}
+
+/// The line that tells a refusal: its number and name, and where it is.
+pub fn refusal_line(alloc: Global, why: Refusal) -> Result<Text, AllocError>
+    ensures { IfOk result (λ t. t ≡ line_of why) }
+{
+    let code = why.code();
+    let name = why.name();
+    match why {
+        Refusal::BadFile { row, cause } => Ok(Text(format!(in alloc;
+            "refused {code} {name} row {row} cause {cause}\n"
+        )?)),
+        Refusal::WithReader { container } => Ok(Text(format!(in alloc;
+            "refused {code} {name} container {container}\n"
+        )?)),
+        _ => Ok(Text(format!(in alloc; "refused {code} {name}\n")?)),
+    }
+}
+
+/// What is refused, with its line where there is memory for it.
+pub fn refused(alloc: Global, why: Refusal) -> Fault
+    ensures { Refuses why result }
+{
+    match refusal_line(alloc, why) {
+        Ok(line) => Fault::Refused(line),
+        Err(_) => Fault::Memory,
+    }
+}
+
+impl From<AllocError> for Fault {
+    ghost use Rattle.program.specs.declared.faults.Fault.TheVariants.{Memory};
+
+    ghost from_gives = { λ _ e. e ≡ Memory };
+
+    fn from(_: AllocError) -> Fault {
+        Fault::Memory
+    }
+}
+
+impl From<TaskFault> for Fault {
+    ghost use Rattle.program.specs.Faults.{fault_of_words};
+
+    ghost from_gives = { λ f e. e ≡ fault_of_words f };
+
+    fn from(fault: TaskFault) -> Fault {
+        match fault {
+            TaskFault::Memory => Fault::Memory,
+            TaskFault::Words(text) => Fault::Words(text),
+            TaskFault::Date => Fault::Date,
+            TaskFault::Settings => Fault::Settings,
+        }
+    }
+}
+
+impl From<OpenFault> for Fault {
+    ghost use Rattle.program.specs.Faults.{fault_of_opening};
+
+    ghost from_gives = { λ f e. e ≡ fault_of_opening f };
+
+    fn from(fault: OpenFault) -> Fault {
+        match fault {
+            OpenFault::Memory => Fault::Memory,
+            _ => Fault::Store,
+        }
+    }
+}
+
+impl From<FileFault> for Fault {
+    ghost use Rattle.program.specs.Faults.{fault_of_file};
+
+    ghost from_gives = { λ f e. e ≡ fault_of_file f };
+
+    fn from(fault: FileFault) -> Fault {
+        match fault {
+            FileFault::Memory => Fault::Memory,
+            FileFault::Absent => Fault::File,
+            FileFault::Unopened => Fault::Store,
+        }
+    }
+}
+
+impl From<Busy> for Fault {
+    ghost use Rattle.program.specs.Faults.{fault_of_busy};
+
+    ghost from_gives = { λ f e. e ≡ fault_of_busy f };
+
+    fn from(busy: Busy) -> Fault {
+        match busy {
+            Busy::Memory => Fault::Memory,
+            Busy::Disk | Busy::Schema => Fault::Store,
+        }
+    }
+}
+
+impl From<ReadFault> for Fault {
+    ghost use Rattle.program.specs.Faults.{fault_of_reading};
+
+    ghost from_gives = { λ f e. e ≡ fault_of_reading f };
+
+    fn from(fault: ReadFault) -> Fault {
+        match fault {
+            ReadFault::Memory => Fault::Memory,
+            ReadFault::Failed => Fault::File,
+        }
+    }
+}
+
+impl From<WriteFault> for Fault {
+    ghost use Rattle.program.specs.declared.faults.Fault.TheVariants.{File};
+
+    ghost from_gives = { λ _ e. e ≡ File };
+
+    fn from(_: WriteFault) -> Fault {
+        Fault::File
+    }
+}

@@ -1,0 +1,113 @@
+//! A connection to the file of an office.
+ghost use Rattle.std.specs.Prelude.{IfOk};
+ghost use Rattle.sqlite.specs.WalFiles.{image_at};
+ghost use Rattle.sqlite.specs.Files.{IsOpened, file_state};
+ghost use Rattle.sqlite.specs.Held.{IsNew};
+ghost use Rattle.sqlite.specs.Start.{FindsIn};
+ghost use Rattle.sqlite.specs.State.{HasCleanDisk};
+ghost use Rattle.program.specs.Rows.{StandInOrder};
+
+use sqlite::{Connection, Error, ErrorCode, FileFrom, FileStore, Start};
+use std::alloc::AllocError;
+use std::fs;
+use std::fs::File;
+
+/// Why no file was opened.
+#[derive(Clone, Copy, Debug, PartialEq, Eq, Drop)]
+pub enum FileFault {
+    /// There is no memory.
+    Memory,
+    /// It is not there, or it is there and was to be made.
+    Absent,
+    /// It is there, and no store is opened on it.
+    Unopened,
+}
+
+impl From<AllocError> for FileFault {
+    fn from(_: AllocError) -> FileFault {
+        FileFault::Memory
+    }
+}
+
+/// A store in a file that held what `S` says.
+pub type FileStoreFrom<S> = FileStore<FileFrom<S>>;
+
+// Opens the file.
+fn open<S: Start>(
+    rt: &HostRuntime,
+    path: &str,
+    start: S,
+) -> Result<Connection<FileStoreFrom<S>>, FileFault>
+    ensures opened { IfOk result (λ conn. HasCleanDisk (file_state conn) → IsOpened conn) }
+    ensures found { IfOk result (λ conn. HasCleanDisk (file_state conn)
+        → FindsIn (image_at S.Start) (file_state conn)) }
+    ensures ordered { IfOk result (λ conn. HasCleanDisk (file_state conn) → StandInOrder (file_state conn).now) }
+    ensures fresh { IfOk result IsNew }
+{
+    match Connection::open_from(rt, path, false, start) {
+        Ok(conn) => Ok(conn),
+        Err((Error::SqliteFailure(ErrorCode::OutOfMemory), _)) => Err(FileFault::Memory),
+        Err(_) => Err(FileFault::Unopened),
+    }
+}
+
+// The name of the log that stands beside a file.
+fn log_of(rt: &HostRuntime, path: &str) -> Result<String, AllocError> {
+    format!(in rt.alloc(); "{path}-wal")
+}
+
+/// Makes a file that is not there yet, nor its log, with a store that has no tables. Nobody else makes it at the same
+/// time. Where no store is opened on it, it is taken away again.
+pub fn make<S: Start>(
+    rt: &HostRuntime,
+    path: &str,
+    start: S,
+) -> Result<Connection<FileStoreFrom<S>>, FileFault>
+    ensures opened { IfOk result (λ conn. HasCleanDisk (file_state conn) → IsOpened conn) }
+    ensures found { IfOk result (λ conn. HasCleanDisk (file_state conn)
+        → FindsIn (image_at S.Start) (file_state conn)) }
+    ensures ordered { IfOk result (λ conn. HasCleanDisk (file_state conn) → StandInOrder (file_state conn).now) }
+    ensures fresh { IfOk result IsNew }
+{
+    // A log without its file may have what another office was told last.
+    let log = log_of(rt, path)?;
+    if !matches!(fs::exists(rt, log.as_str()), Ok(false)) || File::create_new(rt, path).is_err() {
+        return Err(FileFault::Absent);
+    }
+    let opened = open(rt, path, start);
+    if opened.is_err() {
+        unmake(rt, path);
+    }
+    opened
+}
+
+/// Takes a file away that was made and is closed, with its log, so that it can be made again.
+pub fn unmake(rt: &HostRuntime, path: &str) {
+    let _ = fs::remove_file(rt, path);
+    if let Ok(log) = log_of(rt, path) {
+        let _ = fs::remove_file(rt, log.as_str());
+    }
+}
+
+/// Opens a file that is there, with what it keeps.
+pub fn find<S: Start>(
+    rt: &HostRuntime,
+    path: &str,
+    start: S,
+) -> Result<Connection<FileStoreFrom<S>>, FileFault>
+    ensures opened { IfOk result (λ conn. HasCleanDisk (file_state conn) → IsOpened conn) }
+    ensures found { IfOk result (λ conn. HasCleanDisk (file_state conn)
+        → FindsIn (image_at S.Start) (file_state conn)) }
+    ensures ordered { IfOk result (λ conn. HasCleanDisk (file_state conn) → StandInOrder (file_state conn).now) }
+    ensures fresh { IfOk result IsNew }
+{
+    match fs::exists(rt, path) {
+        Ok(true) => open(rt, path, start),
+        _ => Err(FileFault::Absent),
+    }
+}
+
+/// Closes the file. What was committed is in it, or in its log where it could not be brought over: nothing is lost.
+pub fn close<S: Start>(conn: Connection<FileStoreFrom<S>>) {
+    let _ = conn.close();
+}

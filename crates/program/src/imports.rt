@@ -1,0 +1,59 @@
+//! Takes the descriptions of a file into an office.
+ghost use Rattle.std.specs.Prelude.{◌≡◌, IfErr, IfOk, IsOk, IsTrue, OnOk};
+ghost use Rattle.sqlite.specs.Held.{state};
+ghost use Rattle.sqlite.specs.State.{HasCleanDisk, Survives};
+ghost use Rattle.office_core.specs.Json.{reply_text};
+ghost use Rattle.office_core.specs.SoundOffice.{IsSoundOffice};
+ghost use Rattle.office_core.specs.State.{State};
+ghost use Rattle.office.specs.Applying.{MayFind, TakesStep};
+ghost use Rattle.office.specs.Resting.{IsIn};
+ghost use Rattle.program.specs.Performed.{IsBusy, ReplyFails, ReplyPrinted};
+
+use crate::faults::{Fault, refused};
+use crate::streams::write_line;
+use catalogue_store::Places;
+use isad_core::{List, Text};
+use office::{Command, Office, Reply};
+use sqlite::Alter;
+use std::alloc::Global;
+use std::io::Write;
+
+/// Has the office take a file in: one command, one step.
+pub fn take_in<P: Places, S: Alter>(
+    alloc: Global,
+    office: &mut Office<P, S>,
+    source: Text,
+    file: Vec<u8>,
+) -> Result<Reply, Fault>
+    ensures steps { HasCleanDisk (state S.Store office.new)
+        → (s : State) → IsSoundOffice s → IsIn P.represents P.version s (state S.Store office.old)
+        → IfOk result (λ reply. TakesStep P.represents P.version s (Command.Import source file.items) reply.done
+        (state S.Store office.new)) }
+    ensures kept { HasCleanDisk (state S.Store office.new)
+        → IfOk result (λ reply. IsOk reply.done → IsTrue (state S.Store office.new).is_open) }
+    ensures bytes { IfOk result (λ reply. reply.json ≡ reply_text reply.done) }
+    ensures busy { IfErr result IsBusy }
+    ensures crash { Survives (state S.Store office.old) (state S.Store office.new)
+        (MayFind P.represents P.version (Command.Import source file.items) (state S.Store office.old)) }
+{
+    let import = Command::Import {
+        source,
+        file: List(file),
+    };
+    Ok(office.apply(alloc, &import)?)
+}
+
+/// Prints what was done, or gives the line of why it was refused.
+pub fn tell_reply<W: Write>(alloc: Global, reply: Reply, out: &mut W) -> Result<(), Fault>
+    requires { reply.json ≡ reply_text reply.done }
+    ensures done { OnOk result (ReplyPrinted reply.done (W.contents out.old) (W.contents out.new)) }
+    ensures fault { IfErr result (ReplyFails reply.done (W.contents out.old) (W.contents out.new)) }
+{
+    match reply.done {
+        Ok(_) => {
+            write_line(out, reply.json.as_slice())?;
+            Ok(())
+        }
+        Err(why) => Err(refused(alloc, why)),
+    }
+}

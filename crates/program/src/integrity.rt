@@ -1,0 +1,79 @@
+//! Tells whether the tables of a store are those of a sound office.
+ghost use Rattle.std.specs.Prelude.{◌≡◌, None, false, IfErr, IfNone, IfOk, IfSome, OnOk};
+ghost use Rattle.sqlite.specs.Files.{file_state};
+ghost use Rattle.sqlite.specs.Held.{state};
+ghost use Rattle.sqlite.specs.State.{HasCleanDisk, Survives};
+ghost use Rattle.sqlite.specs.WalFiles.{image_at};
+ghost use Rattle.adoption.specs.Verdicts.{IsVerdict};
+ghost use Rattle.adoption.specs.declared.verdict.Verdict.TheVariants as verdict;
+ghost use Rattle.office_tables.specs.Faults.{IsUnlimited};
+ghost use Rattle.office.specs.Adopting.{HasAdoptCause};
+ghost use Rattle.tree_core.specs.Versions.{Spans};
+ghost use Rattle.program.specs.Kept.{IsJudgedIn};
+ghost use Rattle.program.specs.Performed.{JudgmentFails, JudgmentPrinted};
+
+use crate::faults::Fault;
+use crate::files::{FileFault, FileStoreFrom, find};
+use crate::streams::write_whole;
+use isad_core::Text;
+use nested_sets::SpanPlaces;
+use office::{Office, OpenFault};
+use sqlite::{Alter, Connection, Start};
+use std::alloc::Global;
+use std::io::Write;
+
+/// Why no office of this version is opened on the store, or none where one is. The store stays as it was.
+pub fn judge<S: Alter>(alloc: Global, conn: Connection<S>) -> (Option<OpenFault>, Connection<S>)
+    requires outside { HasCleanDisk (state S.Store conn) → (state S.Store conn).in_transaction ≡ false }
+    requires unlimited { IsUnlimited (state S.Store conn) }
+    ensures sound { HasCleanDisk (state S.Store result.1)
+        → IfNone result.0 (IsVerdict Spans (state S.Store conn).now verdict.Sound) }
+    ensures cause { HasCleanDisk (state S.Store result.1)
+        → IfSome result.0 (HasAdoptCause Spans (state S.Store conn) (state S.Store result.1)) }
+    ensures crash { Survives (state S.Store conn) (state S.Store result.1) (λ _. ⊥) }
+{
+    match Office::<SpanPlaces, S>::adopt(alloc, conn) {
+        Ok(office) => (None, office.into_connection()),
+        Err((fault, conn)) => (Some(fault), conn),
+    }
+}
+
+/// The same of the tables in a file.
+pub fn judge_file<S: Start>(
+    rt: &HostRuntime,
+    alloc: Global,
+    store: &Text,
+    start: S,
+) -> Result<(Option<OpenFault>, Connection<FileStoreFrom<S>>), FileFault>
+    ensures { IfOk result (λ r. HasCleanDisk (file_state r.1) → IsJudgedIn (image_at S.Start) r.0) }
+{
+    let conn = find(rt, store.as_str(), start)?;
+    Ok(judge(alloc, conn))
+}
+
+/// Prints what was judged.
+pub fn tell_judgment<W: Write>(
+    alloc: Global,
+    judged: Option<OpenFault>,
+    out: &mut W,
+) -> Result<(), Fault>
+    ensures done { OnOk result (JudgmentPrinted judged (W.contents out.old) (W.contents out.new)) }
+    ensures fault { IfErr result (JudgmentFails judged (W.contents out.old) (W.contents out.new)) }
+{
+    match judged {
+        None => {
+            write_whole(out, b"sound\n")?;
+            Ok(())
+        }
+        Some(OpenFault::OldVersion) => {
+            write_whole(out, b"old version\n")?;
+            Err(Fault::NotSound)
+        }
+        Some(OpenFault::Unsound(cause)) => {
+            let line = format!(in alloc; "not sound {cause}\n")?;
+            write_whole(out, line.as_bytes())?;
+            Err(Fault::NotSound)
+        }
+        Some(fault) => Err(Fault::from(fault)),
+    }
+}

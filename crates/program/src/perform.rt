@@ -1,0 +1,47 @@
+//! One command, from its words and streams to its exit status.
+ghost use Rattle.std.specs.Prelude.{◌≡◌, ◌≤◌, map};
+ghost use Rattle.std.specs.String.{string_bytes};
+ghost use Rattle.sqlite.specs.WalFiles.{image_at};
+ghost use Rattle.program.specs.Faults.{message_of, status_of};
+ghost use Rattle.program.specs.Performed.{Performs, Tells};
+
+use crate::commands::run;
+use crate::faults::Fault;
+use crate::files::FileStoreFrom;
+use crate::streams::write_whole;
+use sqlite::Start;
+use sqlite_trees::store::Store;
+use std::alloc::Global;
+use std::io::{Read, Write};
+
+/// Does one command with these as standard input, output and error, and gives the exit status. A file that it opens
+/// as a store may have held anything: that is what `S` says.
+pub fn perform<S: Start, R: Read, W: Write, E: Write>(
+    rt: &HostRuntime,
+    alloc: Global,
+    words: &[String],
+    reader: &mut R,
+    out: &mut W,
+    err: &mut E,
+    start: S,
+) -> u8
+    ensures performs { Performs ⟦<FileStoreFrom<S> as Store>⟧ (image_at S.Start) (map string_bytes words.now)
+        (R.remaining reader.old) (R.remaining reader.new) (W.contents out.old) (W.contents out.new)
+        (E.contents err.old) (E.contents err.new) result }
+    ensures status { result ≤ 3 }
+{
+    match run(rt, alloc, words, reader, out, start) {
+        Ok(()) => 0,
+        Err(fault) => tell(&fault, err),
+    }
+}
+
+/// Tells on standard error why a command was not done, and gives the exit status, which stands whether or not
+/// standard error takes the text.
+pub fn tell<E: Write>(fault: &Fault, err: &mut E) -> u8
+    ensures status { result ≡ status_of fault.now }
+    ensures told { Tells (E.contents err.old) (E.contents err.new) (message_of fault.now) }
+{
+    let _ = write_whole(err, fault.message().as_bytes());
+    fault.status()
+}

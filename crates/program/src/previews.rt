@@ -1,0 +1,76 @@
+//! Prints the finding aids of a file.
+ghost use Rattle.std.specs.Prelude.{ℕ, List, IfErr, IfOk, OnOk};
+ghost use Rattle.std.specs.Io.KnownBytes.{Consumes};
+ghost use Rattle.std.specs.Option.{option_copied};
+ghost use Rattle.program.specs.Faults.{RefusesFile};
+ghost use Rattle.program.specs.Performed.{PreviewDone, PreviewFails, Reads};
+
+use crate::faults::{Fault, refused};
+use crate::streams::{ReadFault, read_to_end, write_whole};
+use atom_csv::FileFault;
+use isad_core::Text;
+use office::{Refusal, preview};
+use std::alloc::Global;
+use std::fs::File;
+use std::io::{Read, Write};
+use std::rt::Files;
+
+/// The bytes of the file of that name.
+pub fn file_bytes<F: Files>(rt: &F, alloc: Global, path: &Text) -> Result<Vec<u8>, ReadFault> {
+    match File::open(rt, path.as_str()) {
+        Ok(mut file) => read_to_end(alloc, &mut file),
+        Err(_) => Err(ReadFault::Failed),
+    }
+}
+
+// The bytes of the file of that name, or of standard input where there is no name.
+fn read_file<F: Files, R: Read>(
+    rt: &F,
+    alloc: Global,
+    path: Option<&Text>,
+    reader: &mut R,
+) -> Result<Vec<u8>, ReadFault>
+    ensures reads { IfOk result (λ v.
+        Reads (option_copied path.entry) (R.remaining reader.old) (R.remaining reader.new) v.items) }
+    ensures front { (gone : List ℕ) × Consumes (R.remaining reader.old) (R.remaining reader.new) gone }
+{
+    match path {
+        Some(path) => file_bytes(rt, alloc, path),
+        None => read_to_end(alloc, reader),
+    }
+}
+
+// The fault of a file that gives no finding aids.
+fn refused_file(alloc: Global, fault: FileFault) -> Fault
+    ensures { RefusesFile fault result }
+{
+    match fault {
+        FileFault::Memory => Fault::Memory,
+        FileFault::Bad { row, cause } => refused(alloc, Refusal::BadFile { row, cause }),
+    }
+}
+
+/// Prints the finding aids of a file.
+pub fn print_preview<F: Files, R: Read, W: Write>(
+    rt: &F,
+    alloc: Global,
+    country: &Text,
+    repo: &Text,
+    path: Option<&Text>,
+    reader: &mut R,
+    out: &mut W,
+) -> Result<(), Fault>
+    ensures done { OnOk result (PreviewDone country.now repo.now (option_copied path.entry)
+        (R.remaining reader.old) (R.remaining reader.new) (W.contents out.old) (W.contents out.new)) }
+    ensures fault { IfErr result (PreviewFails country.now repo.now (option_copied path.entry)
+        (R.remaining reader.old) (R.remaining reader.new) (W.contents out.old) (W.contents out.new)) }
+{
+    let file = read_file(rt, alloc, path, reader)?;
+    match preview(alloc, file.as_slice(), country.as_str(), repo.as_str()) {
+        Ok(aids) => {
+            write_whole(out, aids.as_slice())?;
+            Ok(())
+        }
+        Err(fault) => Err(refused_file(alloc, fault)),
+    }
+}

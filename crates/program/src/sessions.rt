@@ -1,0 +1,68 @@
+//! Talks with an office over streams.
+ghost use Rattle.std.specs.Prelude.{◌≡◌, IfErr, OnOk};
+ghost use Rattle.http_desk.specs.Talking.{AtEndIf, Talks};
+ghost use Rattle.program.specs.Performed.{EndsWell, TrialDone, TrialFails, ended_by};
+
+use crate::faults::{Break, Fault};
+use http_desk::session::talk;
+use http_desk::session_end::{Ended, Next};
+use nested_sets::SpanPlaces;
+use office::{Machine, Office, Settings};
+use sqlite::{Connection, MemStore};
+use std::alloc::Global;
+use std::io::{Read, Write};
+
+// What comes after a session: nothing, or how it broke off.
+fn after(ended: Ended) -> Result<(), Fault>
+    ensures well { OnOk result (EndsWell ended) }
+    ensures broken { IfErr result (λ f. (broken : Break) × (f ≡ Fault.Session broken) × (ended ≡ ended_by broken)) }
+{
+    match ended {
+        Ended::End | Ended::Closed => Ok(()),
+        Ended::Cut => Err(Fault::Session(Break::Cut)),
+        Ended::ReadFault => Err(Fault::Session(Break::Read)),
+        Ended::WriteFault => Err(Fault::Session(Break::Write)),
+        Ended::Bound => Err(Fault::Session(Break::Bound)),
+    }
+}
+
+/// Answers requests on an office.
+pub fn talk_with<M: Machine, R: Read, W: Write>(
+    alloc: Global,
+    office: &mut M,
+    reader: &mut R,
+    out: &mut W,
+) -> Result<(), Fault>
+    ensures done { OnOk result ((end : Ended) × EndsWell end × AtEndIf (R.remaining reader.new) (Next.Ends end)
+        × Talks M.represents M.is_intact (R.remaining reader.old) (R.remaining reader.new)
+        (W.contents out.old) (W.contents out.new) office.old end office.new) }
+    ensures broken { IfErr result (λ f. (broken : Break) × (f ≡ Fault.Session broken)
+        × AtEndIf (R.remaining reader.new) (Next.Ends (ended_by broken))
+        × Talks M.represents M.is_intact (R.remaining reader.old) (R.remaining reader.new)
+        (W.contents out.old) (W.contents out.new) office.old (ended_by broken) office.new) }
+    ensures intact { M.is_intact office.new → M.is_intact office.old }
+{
+    after(talk(alloc, reader, out, office))
+}
+
+/// Answers requests on a new office in memory.
+pub fn try_office<R: Read, W: Write>(
+    alloc: Global,
+    settings: Settings,
+    reader: &mut R,
+    out: &mut W,
+) -> Result<(), Fault>
+    ensures done { OnOk result (TrialDone settings (R.remaining reader.old) (R.remaining reader.new)
+        (W.contents out.old) (W.contents out.new)) }
+    ensures fault { IfErr result (TrialFails settings (R.remaining reader.old) (R.remaining reader.new)
+        (W.contents out.old) (W.contents out.new)) }
+{
+    let conn = Connection::open_in_memory(alloc)?;
+    let mut office = match Office::<SpanPlaces, MemStore>::create(conn, settings) {
+        Ok(office) => office,
+        Err((fault, _)) => return Err(Fault::from(fault)),
+    };
+    let ended = talk(alloc, reader, out, &mut office);
+    let _ = office.into_connection();
+    after(ended)
+}

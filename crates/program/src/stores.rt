@@ -1,0 +1,73 @@
+//! Offices in files.
+//!
+//! What is said of a file's content is said for every start `S`: for whatever the file held when it was opened.
+ghost use Rattle.std.specs.Prelude.{IfErr, IfOk, IsTrue};
+ghost use Rattle.sqlite.specs.Files.{file_state};
+ghost use Rattle.sqlite.specs.State.{HasCleanDisk};
+ghost use Rattle.sqlite.specs.WalFiles.{image_at};
+ghost use Rattle.office.specs.Founding.{founded};
+ghost use Rattle.office.specs.Resting.{IsIn};
+ghost use Rattle.nested_sets.specs.Represents.{RepresentsSpanRows};
+ghost use Rattle.tree_core.specs.Versions.{Spans};
+ghost use Rattle.program.specs.Faults.{IsUnopened};
+ghost use Rattle.program.specs.Kept.{IsFound};
+
+use crate::faults::Fault;
+use crate::files::{FileStoreFrom, close, find, make, unmake};
+use isad_core::Text;
+use nested_sets::SpanPlaces;
+use office::{Office, Settings};
+use sqlite::Start;
+use std::alloc::Global;
+
+/// An office in a file that held what `S` says.
+pub type KeptOffice<S> = Office<SpanPlaces, FileStoreFrom<S>>;
+
+/// Makes a new office in a file that is not there yet. Where that fails, the file is taken away again.
+pub fn make_office<S: Start>(
+    rt: &HostRuntime,
+    store: &Text,
+    settings: Settings,
+    start: S,
+) -> Result<KeptOffice<S>, Fault>
+    ensures founded { IfOk result (λ office. HasCleanDisk (file_state office)
+        → IsIn RepresentsSpanRows Spans (founded settings) (file_state office)) }
+    ensures kept { IfOk result (λ office. HasCleanDisk (file_state office) → IsTrue (file_state office).is_open) }
+    ensures fault { IfErr result IsUnopened }
+{
+    let conn = make(rt, store.as_str(), start)?;
+    match KeptOffice::<S>::create(conn, settings) {
+        Ok(office) => Ok(office),
+        Err((fault, conn)) => {
+            close(conn);
+            unmake(rt, store.as_str());
+            Err(Fault::from(fault))
+        }
+    }
+}
+
+/// Opens the office in a file: the one that the tables in the file say.
+pub fn open_office<S: Start>(
+    rt: &HostRuntime,
+    alloc: Global,
+    store: &Text,
+    start: S,
+) -> Result<KeptOffice<S>, Fault>
+    ensures found { IfOk result (λ office. HasCleanDisk (file_state office)
+        → IsFound (image_at S.Start) (file_state office)) }
+    ensures fault { IfErr result IsUnopened }
+{
+    let conn = find(rt, store.as_str(), start)?;
+    match KeptOffice::<S>::adopt(alloc, conn) {
+        Ok(office) => Ok(office),
+        Err((fault, conn)) => {
+            close(conn);
+            Err(Fault::from(fault))
+        }
+    }
+}
+
+/// Closes the file of an office.
+pub fn close_office<S: Start>(office: KeptOffice<S>) {
+    close(office.into_connection());
+}

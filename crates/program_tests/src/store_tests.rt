@@ -1,0 +1,273 @@
+//! The commands on an office in a file.
+
+use crate::fakes::{Page, Pieces};
+use crate::tests::{FONDS, Host, expect};
+use crate::{FileStoreFrom, close, find, make, unmake};
+use catalogue_store::LinkPlaces;
+use isad_core::Day;
+use nested_sets::SpanPlaces;
+use office::{Office, Settings};
+use program::server::serve;
+use sqlite::{Connection, MemStore, Wary};
+use std::alloc::Global;
+use std::io::{Read, Write};
+use std::net::{Ipv4Addr, Shutdown, SocketAddr, SocketAddrV4, TcpListener, TcpStream};
+use std::process::Abort;
+use std::test::Fail;
+use std::{env, fs};
+
+const SETTINGS: &str =
+    "--country GB --repo 0999 --seats 2 --daily 3 --hands 1 --run 2 --day 2024-03-01";
+
+const IMPORTED: &str =
+    "{\"changed\":0,\"new\":2,\"remarks\":[{\"kind\":2,\"row\":2}],\"same\":0,\"translations\":0}\n";
+
+const AGAIN: &str =
+    "{\"changed\":0,\"new\":0,\"remarks\":[{\"kind\":2,\"row\":2}],\"same\":2,\"translations\":0}\n";
+
+const ASKED: &str = "GET /public/fonds HTTP/1.1\r\nHost: x\r\n\r\n";
+
+const ANSWERED: &str =
+    "HTTP/1.1 200 OK\r\nContent-Type: text/plain; charset=utf-8\r\nContent-Length: 40\r\n\r\n1 GB 0999 HUL [Fonds] Hull Dock Company\n";
+
+const NONE_ANSWERED: &str =
+    "HTTP/1.1 200 OK\r\nContent-Type: text/plain; charset=utf-8\r\nContent-Length: 0\r\n\r\n";
+
+// A file for a test, which is not there yet.
+fn new_path(rt: &HostRuntime, alloc: Global, name: &str) -> Result<String, Fail> {
+    let folder = env::temp_dir(rt)?;
+    let path = folder.join(alloc, name)?;
+    let path = String::from_str(alloc, path.as_str())?;
+    forget(rt, alloc, path.as_str())?;
+    Ok(path)
+}
+
+// Removes a test's file, where it is there.
+fn forget(rt: &HostRuntime, alloc: Global, path: &str) -> Result<(), Fail> {
+    let _ = fs::remove_file(rt, path);
+    let log = format!(in alloc; "{path}-wal")?;
+    let _ = fs::remove_file(rt, log.as_str());
+    Ok(())
+}
+
+// Performs the words with this input, and wants this exit status, this output and this told.
+fn says<R: Abort + Host>(
+    rt: &R,
+    alloc: Global,
+    words: &str,
+    input: &str,
+    wanted: (u8, &str, &str),
+) -> Result<(), Fail> {
+    let (status, printed, told) = wanted;
+    let reader = Pieces::of(input.as_bytes());
+    let out = Page::new(Vec::new(alloc));
+    expect(
+        rt,
+        alloc,
+        words,
+        reader,
+        out,
+        (status, printed.as_bytes(), told),
+    )
+}
+
+// An office is made, filled, asked and checked.
+#[test]
+fn an_office_is_kept(rt: HostRuntime) -> Result<(), Fail> {
+    let alloc = rt.alloc();
+    let store = new_path(&rt, alloc, "record_office_kept.db")?;
+    let file = new_path(&rt, alloc, "record_office_kept.csv")?;
+    let (store, file) = (store.as_str(), file.as_str());
+    fs::write(&rt, file, FONDS)?;
+    let init = format!(in alloc; "init --store {store} {SETTINGS}")?;
+    let import = format!(in alloc; "import --store {store} --source a {file}")?;
+    let bad = format!(in alloc; "import --store {store} --source a,b {file}")?;
+    let talk = format!(in alloc; "talk --store {store}")?;
+    let check = format!(in alloc; "check --store {store}")?;
+    let migrate = format!(in alloc; "migrate --store {store}")?;
+    for (words, input, wanted) in [
+        (check.as_str(), "", (3, "", "file fault\n")),
+        (init.as_str(), "", (0, "", "")),
+        (init.as_str(), "", (3, "", "file fault\n")),
+        (check.as_str(), "", (0, "sound\n", "")),
+        (import.as_str(), "", (0, IMPORTED, "")),
+        (import.as_str(), "", (0, AGAIN, "")),
+        (bad.as_str(), "", (1, "", "refused 27 BadName\n")),
+        (talk.as_str(), ASKED, (0, ANSWERED, "")),
+        (talk.as_str(), "GET", (3, "", "cut\n")),
+        (check.as_str(), "", (0, "sound\n", "")),
+        (migrate.as_str(), "", (3, "", "store fault\n")),
+    ] {
+        says(&rt, alloc, words, input, wanted)?;
+    }
+    fs::write(&rt, file, "")?;
+    let refused = (1, "", "refused 22 BadFile row 1 cause 2\n");
+    says(&rt, alloc, import.as_str(), "", refused)?;
+    forget(&rt, alloc, file)?;
+    says(&rt, alloc, import.as_str(), "", (3, "", "file fault\n"))?;
+    forget(&rt, alloc, store)
+}
+
+// The settings of an office.
+fn settings(alloc: Global) -> Result<Settings, Fail> {
+    let day = Day::parse("2024-03-01").ok_or("no day")?;
+    Ok(
+        Settings::new(alloc, "GB", "0999", 2, 3, 1, 2, day)
+            .ok()
+            .ok_or("no settings")?,
+    )
+}
+
+// An office of version 1 is told so, and brought to version 2 once.
+#[test]
+fn an_old_office_is_migrated(rt: HostRuntime) -> Result<(), Fail> {
+    let alloc = rt.alloc();
+    let store = new_path(&rt, alloc, "record_office_old.db")?;
+    let store = store.as_str();
+    let conn = make(&rt, store, Wary).ok().ok_or("no file")?;
+    let office = Office::<LinkPlaces, FileStoreFrom<Wary>>::create(conn, settings(alloc)?)
+        .ok()
+        .ok_or("no office")?;
+    close(office.into_connection());
+    for (command, wanted) in [
+        ("check", (1, "old version\n", "")),
+        ("talk", (3, "", "store fault\n")),
+        ("migrate", (0, "migrated\n", "")),
+        ("check", (0, "sound\n", "")),
+        ("migrate", (3, "", "store fault\n")),
+        ("talk", (0, "", "")),
+    ] {
+        let words = format!(in alloc; "{command} --store {store}")?;
+        says(&rt, alloc, words.as_str(), "", wanted)?;
+    }
+    forget(&rt, alloc, store)
+}
+
+// Tables that no office has are told by their cause.
+#[test]
+fn an_office_is_not_sound(rt: HostRuntime) -> Result<(), Fail> {
+    let alloc = rt.alloc();
+    let store = new_path(&rt, alloc, "record_office_unsound.db")?;
+    let store = store.as_str();
+    let init = format!(in alloc; "init --store {store} {SETTINGS}")?;
+    says(&rt, alloc, init.as_str(), "", (0, "", ""))?;
+    let mut conn = find(&rt, store, Wary).ok().ok_or("no store")?;
+    let rows = conn.execute("UPDATE office SET seats = 0", &[]);
+    close(conn);
+    assert!(rt; rows.is_ok());
+    for (command, wanted) in [
+        ("check", (1, "not sound 1\n", "")),
+        ("talk", (3, "", "store fault\n")),
+    ] {
+        let words = format!(in alloc; "{command} --store {store}")?;
+        says(&rt, alloc, words.as_str(), "", wanted)?;
+    }
+    forget(&rt, alloc, store)
+}
+
+// A file that is no store, and one that is empty, are there and are not opened.
+#[test]
+fn a_file_is_no_store(rt: HostRuntime) -> Result<(), Fail> {
+    let alloc = rt.alloc();
+    let store = new_path(&rt, alloc, "record_office_junk.db")?;
+    let store = store.as_str();
+    for bytes in ["", "x", FONDS] {
+        forget(&rt, alloc, store)?;
+        fs::write(&rt, store, bytes)?;
+        let init = format!(in alloc; "init --store {store} {SETTINGS}")?;
+        says(&rt, alloc, init.as_str(), "", (3, "", "file fault\n"))?;
+        for command in ["check", "talk", "migrate"] {
+            let words = format!(in alloc; "{command} --store {store}")?;
+            says(&rt, alloc, words.as_str(), "", (3, "", "store fault\n"))?;
+        }
+    }
+    forget(&rt, alloc, store)
+}
+
+// No office is made beside a log that is there, and what was made in vain is taken away whole.
+#[test]
+fn an_office_is_made_again(rt: HostRuntime) -> Result<(), Fail> {
+    let alloc = rt.alloc();
+    let store = new_path(&rt, alloc, "record_office_again.db")?;
+    let store = store.as_str();
+    let log = format!(in alloc; "{store}-wal")?;
+    let init = format!(in alloc; "init --store {store} {SETTINGS}")?;
+    fs::write(&rt, log.as_str(), "x")?;
+    says(&rt, alloc, init.as_str(), "", (3, "", "file fault\n"))?;
+    assert!(rt; fs::exists(&rt, log.as_str())? && !fs::exists(&rt, store)?);
+    forget(&rt, alloc, store)?;
+    let conn = make(&rt, store, Wary).ok().ok_or("no file")?;
+    close(conn);
+    unmake(&rt, store);
+    assert!(rt; !fs::exists(&rt, log.as_str())? && !fs::exists(&rt, store)?);
+    says(&rt, alloc, init.as_str(), "", (0, "", ""))?;
+    forget(&rt, alloc, store)
+}
+
+// Faults are told in their order: the settings before the store, and the file before it.
+#[test]
+fn faults_have_an_order(rt: HostRuntime) -> Result<(), Fail> {
+    let alloc = rt.alloc();
+    for (words, status, told) in [
+        (
+            "init --store /none/none --country gb --repo 0999 --seats 2 --daily 3 --hands 1 --run 2 --day 2024-03-01",
+            2,
+            "bad settings\n",
+        ),
+        (
+            "init --store /none/none --country gb --repo 0999 --seats 2 --daily 3 --hands 1 --run 2 --day today",
+            2,
+            "bad date\n",
+        ),
+        (
+            "preview --country gb --repo 0999 /none/none",
+            2,
+            "bad settings\n",
+        ),
+        (
+            "preview --country GB --repo é /none/none",
+            2,
+            "bad settings\n",
+        ),
+        (
+            "preview --country GB --repo 0999 /none/none",
+            3,
+            "file fault\n",
+        ),
+        (
+            "import --store /none/none --source a /none/none",
+            3,
+            "file fault\n",
+        ),
+        (
+            "serve --store /none/none --port 1 --connections 1",
+            3,
+            "file fault\n",
+        ),
+    ] {
+        says(&rt, alloc, words, "", (status, "", told))?;
+    }
+    Ok(())
+}
+
+// A connection is served: its request waits on the port.
+#[test]
+fn a_connection_is_served(rt: HostRuntime) -> Result<(), Fail> {
+    let alloc = rt.alloc();
+    let here = SocketAddr::V4(SocketAddrV4::new(Ipv4Addr::LOCALHOST, 0));
+    let listener = TcpListener::bind(&rt, here)?;
+    let mut stream = TcpStream::connect(&rt, listener.local_addr()?)?;
+    stream.write_all(ASKED.as_bytes())?;
+    stream.shutdown(Shutdown::Write)?;
+    let conn = Connection::open_in_memory(alloc)?;
+    let mut office = Office::<SpanPlaces, MemStore>::create(conn, settings(alloc)?)
+        .ok()
+        .ok_or("no office")?;
+    let is_served = serve(alloc, listener, 1, &mut office);
+    let _ = office.into_connection();
+    assert!(rt; is_served);
+    let mut read = String::new(alloc);
+    let _length = stream.read_to_string(&mut read)?;
+    assert_eq!(rt; read.as_str(), NONE_ANSWERED);
+    Ok(())
+}

@@ -1,0 +1,26 @@
+//! How many reads and writes are made of a stream.
+
+use crate::fakes::{Page, Pieces};
+use program::streams::{line_within, read_within, write_within};
+use std::test::Fail;
+
+// Three bytes and the end come in eight reads, four of them interrupted, and go in six writes; so do two and a
+// line feed.
+#[test]
+fn calls_are_counted(rt: HostRuntime) -> Result<(), Fail> {
+    for reads in 0..10u32 {
+        let read = read_within(rt.alloc(), &mut Pieces::interrupted(b"abc", 1), reads);
+        assert_eq!(rt; read.is_ok(), reads >= 8, "{reads} reads");
+    }
+    for writes in 0..10u32 {
+        let mut page = Page::interrupted(Vec::new(rt.alloc()), 1);
+        let written = write_within(&mut page, b"abc", writes);
+        assert_eq!(rt; written.is_ok(), writes >= 6, "{writes} writes");
+        let mut page = Page::interrupted(Vec::new(rt.alloc()), 1);
+        let written = line_within(&mut page, b"ab", writes);
+        assert_eq!(rt; written.is_ok(), writes >= 6, "{writes} writes of a line");
+    }
+    let mut full = Page::interrupted(Vec::new(rt.alloc()), 0);
+    assert!(rt; write_within(&mut full, b"abc", 10).is_err());
+    Ok(())
+}

@@ -1,6 +1,0 @@
-use Rattle.std.proofs.Common.{◌≡◌, take}
-use Rattle.public_answers.specs.HeadLines.{ids_of}
-use Rattle.public_answers.proofs.ways.identifiers.Given as goal
-
-abbrev pub invariant-loop-head : goal.invariant-loop-head
-invariant-loop-head l = l.ids.items ≡ ids_of (take l.head-index l.way)

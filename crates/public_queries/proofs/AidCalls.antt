@@ -1,0 +1,55 @@
+-- Calls that read, and what they tell for what calls them.
+use Rattle.std.proofs.Common.{Result, Ok, Err, OnErr, OnOk, subst, sym}
+use Rattle.std.specs.Prelude.{IfOk}
+use Rattle.sqlite.specs.Effect.{Database}
+use Rattle.sqlite.specs.Held.{Held, state}
+use Rattle.sqlite.specs.State.{HasCleanDisk, State, Survives}
+use Rattle.sqlite_trees.specs.declared.store.Store as store
+use Rattle.office_tables.specs.Calls.{Answers}
+use Rattle.office_tables.specs.Step.{IsAborted, LeavesUnchanged}
+use Rattle.office_tables.proofs.CallEnds.{excused_then}
+use Rattle.office_tables.proofs.Calls.{cut_then, early, looks_then, on_err_then, on_ok_then}
+use Rattle.office_tables.specs.declared.fault.StoreFault.{StoreFault}
+
+if_ok_then : {X E : Type 0} (r : Result X E) (P Q : X → Type 0) → ((x : X) → P x → Q x) → IfOk r P → IfOk r Q
+if_ok_then (Ok x) P Q f h = f x h
+if_ok_then (Err e) P Q f h = tt
+
+module _ {S X Stays Model : Type 0} (g : store.Ghosts S) (represents : Database → Stays → Model → Type 0) (kept : Model → Type 0) (before after : Held S) (r : Result X StoreFault) where
+  pub tells_as : (may more : Model → Type 0) (told answer : Stays → Model → X → Type 0) → ((m : Model) → more m → may m) → ((s : Stays) (m : Model) (x : X) → told s m x → answer s m x)
+      → Answers g represents kept before after r may told → Answers g represents kept before after r more answer
+  tells_as may more told answer allows means it = record {
+    answers = λ clean s m shown. if_ok_then r (told s m) (answer s m) (means s m) (it.answers clean s m shown);
+    looks = it.looks;
+    cut = it.cut;
+    faults = λ s m shown allowed within. it.faults s m shown (allows m allowed) within;
+  }
+
+-- a call that reads, after another that did
+module _ {S X Stays Model : Type 0} (g : store.Ghosts S) (represents : Database → Stays → Model → Type 0) (kept : Model → Type 0) (before mid after : Held S) (r : Result X StoreFault) where
+  abbrev a : State
+  a = state g before
+
+  abbrev b : State
+  b = state g mid
+
+  abbrev c : State
+  c = state g after
+
+  looked_crash : {E : Type 0} (r : Result X E) → OnOk r (LeavesUnchanged b c) → OnErr r (IsAborted b c) → Survives b c (λ _. ⊥)
+  looked_crash (Ok x) looks cut = looks.goes.on.crash
+  looked_crash (Err e) looks cut = cut.crash
+
+  pub tells_then : (may more : Model → Type 0) (told answer : Stays → Model → X → Type 0) → LeavesUnchanged a b
+      → (HasCleanDisk b → (s : Stays) (m : Model) → represents a.now s m → more m → may m)
+      → (HasCleanDisk b → (s : Stays) (m : Model) → represents a.now s m → (x : X) → told s m x → answer s m x)
+      → Answers g represents kept mid after r may told → Answers g represents kept before after r more answer
+  tells_then may more told answer looked allows means last =
+      let still = λ (clean : HasCleanDisk c). early b c _ (looked_crash r last.looks last.cut) clean in
+      let shown = λ (at_b : HasCleanDisk b) (s : Stays) (m : Model) (it : represents a.now s m). subst (λ (db : Database). represents db s m) (sym (looked.same at_b)) it in
+      record {
+        answers = λ clean s m it. if_ok_then r (told s m) (answer s m) (means (still clean) s m it) (last.answers clean s m (shown (still clean) s m it));
+        looks = on_ok_then r (LeavesUnchanged b c) (LeavesUnchanged a c) (λ on. looks_then a b c looked on) last.looks;
+        cut = on_err_then r (IsAborted b c) (IsAborted a c) (λ cut. cut_then a b c looked.goes.on cut) last.cut;
+        faults = λ s m it allowed within. excused_then a b c looked.goes.on r last.cut (λ at_b. last.faults s m (shown at_b s m it) (allows at_b s m it allowed) within);
+      }

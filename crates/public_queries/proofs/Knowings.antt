@@ -1,0 +1,47 @@
+-- How answering a question ends, where something is known of the office.
+use Rattle.std.proofs.Common.{◌≡◌, ℕ, Ok, Err, Result, sym, subst}
+use Rattle.sqlite.specs.State as store
+use Rattle.sqlite.specs.State.{HasCleanDisk}
+use Rattle.sqlite.specs.Tree.{Trees}
+use Rattle.tree_core.specs.Forest.{Forest}
+use Rattle.tree_core.specs.Versions.{Version}
+use Rattle.office_core.specs.Queries.{answer}
+use Rattle.office_core.specs.SoundOffice.{IsSoundOffice}
+use Rattle.office_core.specs.State.{State}
+use Rattle.office_core.specs.declared.query.Query.{Query}
+use Rattle.office_core.specs.declared.query.Answer.{Answer}
+use Rattle.office_tables.specs.Faults.{HasCause, IsUnlimited}
+use Rattle.office_tables.specs.Step.{IsAborted, LeavesUnchanged}
+use Rattle.office_tables.proofs.Calls.{cut_after, cut_then}
+use Rattle.office_tables.proofs.Causes.{still_unlimited}
+use Rattle.office_tables.proofs.LaterCauses.{next_cause}
+use Rattle.office_tables.specs.declared.fault.StoreFault.{StoreFault}
+use Rattle.office_tables.specs.declared.fault.StoreFault.TheVariants as fault
+use Rattle.refinement.specs.Represents.{RepresentsState}
+use Rattle.refinement.proofs.Answerings.{still_shown}
+use Rattle.public_queries.specs.Knowing.{AnswersKnowing}
+
+module _ (places : Trees → Forest ℕ → Type 0) (version : Version) (known : State → Type 0) (asked : Query) where
+  -- its first step fails
+  pub knows_not : (a b : store.State) (r : Result Answer StoreFault) (e : StoreFault) → r ≡ Err e → IsAborted a b
+      → ((s : State) → IsSoundOffice s → known s → RepresentsState places version a.now s → HasCleanDisk b → IsUnlimited a → HasCause a b e) → AnswersKnowing places version known asked a b r
+  knows_not a b r e is cut why =
+      subst (λ (r : Result Answer StoreFault). AnswersKnowing places version known asked a b r) (sym is)
+      (record { answers = λ clean s sound so it. tt; looks = tt; cut = cut; faults = λ s sound so it clean free. why s sound so it clean free })
+
+  -- a later step fails
+  pub knows_no_more : (a b c : store.State) (r : Result Answer StoreFault) (e : StoreFault) → r ≡ Err e → LeavesUnchanged a b → IsAborted b c
+      → ((s : State) → IsSoundOffice s → known s → RepresentsState places version b.now s → HasCleanDisk c → IsUnlimited b → HasCause b c e) → AnswersKnowing places version known asked a c r
+  knows_no_more a b c r e is looked cut why =
+      knows_not a c r e is (cut_then a b c looked.goes.on cut)
+      (λ s sound so it clean free.
+      next_cause a b c looked.goes.on cut clean e (λ at_b. why s sound so (still_shown places version a b looked at_b s it) clean (still_unlimited a b looked.goes.on free)))
+
+  -- there was no memory for what was read
+  pub knows_short : (a b : store.State) (r : Result Answer StoreFault) → r ≡ Err fault.Memory → LeavesUnchanged a b → AnswersKnowing places version known asked a b r
+  knows_short a b r is looked = knows_not a b r fault.Memory is (cut_after a b looked.goes.on) (λ s sound so it clean free. tt)
+
+  -- it tells what was read
+  pub knows_by : (a b : store.State) (told : Answer) → LeavesUnchanged a b
+      → (HasCleanDisk b → (s : State) → IsSoundOffice s → known s → RepresentsState places version a.now s → told ≡ answer s asked) → AnswersKnowing places version known asked a b (Ok told)
+  knows_by a b told looked is = record { answers = is; looks = looked; cut = tt; faults = λ s sound so it clean free. tt }

@@ -1,0 +1,33 @@
+-- A question is answered by a last step, for which more is known after what was read.
+use Rattle.std.proofs.Common.{ℕ, Result}
+use Rattle.sqlite.specs.State as store
+use Rattle.sqlite.specs.State.{HasCleanDisk}
+use Rattle.sqlite.specs.Tree.{Trees}
+use Rattle.tree_core.specs.Forest.{Forest}
+use Rattle.tree_core.specs.Versions.{Version}
+use Rattle.office_core.specs.SoundOffice.{IsSoundOffice}
+use Rattle.office_core.specs.State.{State}
+use Rattle.office_core.specs.declared.query.Query.{Query}
+use Rattle.office_core.specs.declared.query.Answer.{Answer}
+use Rattle.office_tables.specs.Step.{IsAborted, LeavesUnchanged}
+use Rattle.office_tables.proofs.CallEnds.{excused_then}
+use Rattle.office_tables.proofs.Calls.{cut_then, early, looks_then, on_err_then, on_ok_then}
+use Rattle.office_tables.specs.declared.fault.StoreFault.{StoreFault}
+use Rattle.refinement.specs.Represents.{RepresentsState}
+use Rattle.refinement.proofs.Answerings.{still_shown}
+use Rattle.refinement.proofs.Tellings.{looked_crash}
+use Rattle.public_queries.specs.Knowing.{AnswersKnowing}
+
+pub knows_then : (places : Trees → Forest ℕ → Type 0) (version : Version) (known later : State → Type 0) (asked : Query) (a b c : store.State) (r : Result Answer StoreFault) → LeavesUnchanged a b
+    → (HasCleanDisk b → (s : State) → IsSoundOffice s → known s → RepresentsState places version a.now s → later s)
+    → AnswersKnowing places version later asked b c r → AnswersKnowing places version known asked a c r
+knows_then places version known later asked a b c r looked means last =
+    record {
+      answers = λ clean s sound so it.
+          let at_b = early b c _ (looked_crash r b c last.looks last.cut) clean in
+          last.answers clean s sound (means at_b s sound so it) (still_shown places version a b looked at_b s it);
+      looks = on_ok_then r (LeavesUnchanged b c) (LeavesUnchanged a c) (λ on. looks_then a b c looked on) last.looks;
+      cut = on_err_then r (IsAborted b c) (IsAborted a c) (λ cut. cut_then a b c looked.goes.on cut) last.cut;
+      faults = λ s sound so it.
+          excused_then a b c looked.goes.on r last.cut (λ at_b. last.faults s sound (means at_b s sound so it) (still_shown places version a b looked at_b s it));
+    }

@@ -1,0 +1,80 @@
+use Rattle.std.proofs.Common.{◌≡◌, List, ap, ◌∙◌, sym}
+use Rattle.sqlite.specs.Held.{state}
+use Rattle.isad_core.specs.Printed.{aid}
+use Rattle.tree_core.specs.Forest.{tree}
+use Rattle.catalogue_core.specs.Aids.{shown_below}
+use Rattle.catalogue_core.specs.Pages.{before_last}
+use Rattle.catalogue_core.specs.Publishing.{public_of}
+use Rattle.catalogue_core.specs.Units.{has_id}
+use Rattle.catalogue_statements.specs.declared.office.OfficeRow.{OfficeRow}
+use Rattle.desk_core.specs.declared.refusal.Refusal.TheVariants.{UnknownUnit}
+use Rattle.office_core.specs.declared.query.Query.TheVariants as query
+use Rattle.office_core.specs.declared.query.Answer.TheVariants.{Text, Unknown}
+use Rattle.office_core.proofs.KeptOffices.{office_kept}
+use Rattle.office_tables.proofs.CallEnds.{same_fault}
+use Rattle.office_tables.proofs.Calls.{early, looks_nowhere, looks_then, office_of as in_office}
+use Rattle.refinement.specs.Represents.{office_of}
+use Rattle.refinement.proofs.Answerings.{still_shown}
+use Rattle.public_queries.specs.HeadLines.{ids_of, repository_of, shows_last}
+use Rattle.catalogue_store.specs.declared.heads.Head.{Head}
+use Rattle.public_queries.proofs.AidAnswers.{apart, far_off, hidden, shown, tellable}
+use Rattle.public_queries.proofs.Knowings.{knows_by, knows_no_more, knows_not}
+use Rattle.public_queries.proofs.aids.aid.Goals as goal
+
+pub returns-then-unit-ge-NO_NUMBER : goal.returns-then-unit-ge-NO_NUMBER
+returns-then-unit-ge-NO_NUMBER g c =
+    let v = g.P.Places.version in
+    let a = state g.S.Store c.args.conn.now in
+    knows_by g.P.Places.represents v (λ s. c.args.known.now ≡ office_of s) (query.Aid c.args.unit) a a (Unknown UnknownUnit)
+    (looks_nowhere a (in_office v a c.requires.inside))
+    (λ clean s sound so it. far_off s sound c.args.unit c.if-unit-ge-NO_NUMBER.true)
+
+pub returns-in_err-way : goal.returns-in_err-way
+returns-in_err-way g c =
+    let a = state g.S.Store c.args.conn.now in
+    let told = c.in_err-way.ensures.tells in
+    let e = c.from_residual.ensures in
+    knows_not g.P.Places.represents g.P.Places.version (λ s. c.args.known.now ≡ office_of s) (query.Aid c.args.unit) a _ c.from_residual.result c.in_err-way.field-0.0
+    (same_fault c.from_residual.result c.in_err-way.field-0.0 e.0 e.1) told.cut
+    (λ s sound so it clean free. told.faults (office_of s) s.catalogue it.catalogue tt (office_kept s sound) clean free)
+
+pub returns-then-not-shows_last : goal.returns-then-not-shows_last
+returns-then-not-shows_last g c =
+    let a = state g.S.Store c.args.conn.now in
+    let told = c.in_ok-way.ensures.tells in
+    knows_by g.P.Places.represents g.P.Places.version (λ s. c.args.known.now ≡ office_of s) (query.Aid c.args.unit) a _ (Unknown UnknownUnit) told.looks
+    (λ clean s sound so it.
+    let way = c.deref.ensures.value ∙ told.answers clean (office_of s) s.catalogue it.catalogue in
+    hidden s sound c.args.unit
+    (ap (λ (l : List Head). shows_last s.day l) (sym way) ∙ ap (λ (o : OfficeRow). shows_last o.day c.deref.result.now) (sym so) ∙ sym c.shows_last.ensures ∙ c.if-not-shows_last.true))
+
+pub returns-in_err-text : goal.returns-in_err-text
+returns-in_err-text g c =
+    let a = state g.S.Store c.args.conn.now in
+    let d = state g.S.Store c.branch_text.new.conn in
+    let last = c.in_err-text.ensures.tells in
+    let e = c.from_residual-in_err-text.ensures in
+    knows_no_more g.P.Places.represents g.P.Places.version (λ s. c.args.known.now ≡ office_of s) (query.Aid c.args.unit) a _ d c.from_residual-in_err-text.result c.in_err-text.field-0.0
+    (same_fault c.from_residual-in_err-text.result c.in_err-text.field-0.0 e.0 e.1) c.in_ok-way.ensures.tells.looks last.cut
+    (λ s sound so it clean free. last.faults (office_of s) s.catalogue it.catalogue (tellable s sound, apart s sound) (office_kept s sound) clean free)
+
+pub returns : goal.returns
+returns g c =
+    let v = g.P.Places.version in
+    let a = state g.S.Store c.args.conn.now in
+    let d = state g.S.Store c.branch_text.new.conn in
+    let first = c.in_ok-way.ensures.tells in
+    let last = c.in_ok-text.ensures.tells in
+    knows_by g.P.Places.represents v (λ s. c.args.known.now ≡ office_of s) (query.Aid c.args.unit) a d (Text c.in_ok-text.text) (looks_then a _ d first.looks last.looks)
+    (λ clean s sound so it.
+    let at_b = early _ d _ last.looks.goes.on.crash clean in
+    let told = first.answers at_b (office_of s) s.catalogue it.catalogue in
+    let way = c.deref.ensures.value ∙ told in
+    let represents = ap (λ (l : List Head). shows_last s.day l) (sym way) ∙ ap (λ (o : OfficeRow). shows_last o.day c.deref.result.now) (sym so) ∙ sym c.shows_last.ensures ∙ c.if-not-shows_last.false in
+    let it_b = still_shown g.P.Places.represents v a _ first.looks at_b s it in
+    let text = last.answers clean (office_of s) s.catalogue it_b.catalogue (tellable s sound) (apart s sound) in
+    let above = c.in_ok-above.ensures ∙ ap (λ (l : List Head). before_last (ids_of l)) (c.deref-2.ensures.value ∙ told) in
+    ap Text (text
+    ∙ ap (λ (o : OfficeRow). aid (shown_below (repository_of o) s.catalogue.containers c.in_ok-above.above.items 0 (public_of o.day (tree (has_id c.args.unit) s.catalogue.forest)))) so
+    ∙ ap (λ ids. aid (shown_below (repository_of (office_of s)) s.catalogue.containers ids 0 (public_of s.day (tree (has_id c.args.unit) s.catalogue.forest)))) above)
+    ∙ shown s sound c.args.unit represents)

@@ -1,0 +1,39 @@
+use Rattle.std.proofs.Common.{length, ap, ◌∙◌, refl}
+use Rattle.sqlite.specs.Held.{state}
+use Rattle.tree_core.specs.Forest.{tree, walk}
+use Rattle.isad_core.specs.Printed.{aid}
+use Rattle.catalogue_core.specs.Bounds.{IsKept}
+use Rattle.catalogue_core.specs.Units.{has_id}
+use Rattle.catalogue_statements.specs.Represents.{Represents}
+use Rattle.office_tables.proofs.CallEnds.{same_fault, tells_not}
+use Rattle.public_queries.specs.HeadLines.{repository_of}
+use Rattle.public_queries.specs.Aiding.{public_units}
+use Rattle.public_queries.proofs.AidCalls.{tells_then}
+use Rattle.public_queries.proofs.AidPrinted.{along_all}
+use Rattle.public_queries.proofs.AidUnits.{rows_of}
+use Rattle.public_queries.proofs.aids.branch_text.Goals as goal
+
+pub returns : goal.returns
+returns g c =
+    let a = state g.S.Store c.args.conn.now in
+    let first = c.in_ok-kept.ensures.tells in
+    let day = c.args.known.now.day in
+    record {
+      tells = tells_then g.S.Store (Represents g.P.Places.represents g.P.Places.version) IsKept c.args.conn.now c.kept_of.new.conn c.units_text.new.conn c.units_text.result _ _ _ _ first.looks
+          (λ at_b o k it may.
+          (may.0, walk 0 (public_units day (tree (has_id c.args.unit) k.forest)), record { each = rows_of day k (has_id c.args.unit) may.1; told = c.deref.ensures.value ∙ first.answers at_b o k it }))
+          (λ at_b o k it text told tellable apart.
+          told tellable (walk 0 (public_units day (tree (has_id c.args.unit) k.forest))) (record { each = rows_of day k (has_id c.args.unit) apart; told = c.deref.ensures.value ∙ first.answers at_b o k it })
+          ∙ ap aid (along_all (repository_of c.args.known.now) k.containers (length c.args.above.items) (public_units day (tree (has_id c.args.unit) k.forest)) c.args.above.items refl))
+          c.units_text.ensures.tells;
+    }
+
+pub returns-in_err-kept : goal.returns-in_err-kept
+returns-in_err-kept g c =
+    let told = c.in_err-kept.ensures.tells in
+    let e = c.from_residual.ensures in
+    record {
+      tells = tells_not g.S.Store (Represents g.P.Places.represents g.P.Places.version) IsKept _ c.args.conn.now c.kept_of.new.conn c.from_residual.result _ c.in_err-kept.field-0.0
+          (same_fault c.from_residual.result c.in_err-kept.field-0.0 e.0 e.1) told.cut
+          (λ o k it may kept clean free. told.faults o k it tt kept clean free);
+    }

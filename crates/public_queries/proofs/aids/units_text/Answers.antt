@@ -1,0 +1,100 @@
+use Rattle.std.proofs.Common.{rules, ◌≡◌, ◌≤◌, ◌+◌, ◌++◌, ◌∷◌, [], length, take, drop, sym, ap, subst, ◌∙◌, arith, append-nil}
+use Rattle.std.proofs.lemmas.List.{length-map}
+use Rattle.sqlite.specs.Effect.{Database}
+use Rattle.sqlite.specs.Held.{state}
+use Rattle.isad_core.specs.Printed.{aid, unit_lines}
+use Rattle.tree_core.specs.declared.marks.Kept.{Kept}
+use Rattle.catalogue_core.specs.Bounds.{IsKept}
+use Rattle.catalogue_statements.specs.Represents.{Represents}
+use Rattle.office_tables.proofs.CallEnds.{same_fault, tells_cut, tells_not}
+use Rattle.office_tables.proofs.Calls.{cut_after, early, looks_then}
+use Rattle.office_tables.specs.declared.fault.StoreFault.TheVariants as fault
+use Rattle.public_queries.specs.HeadLines.{repository_of}
+use Rattle.public_queries.specs.Aiding.{along, kept_row, shown_at}
+use Rattle.public_queries.proofs.AidPrinted.{along_more, drop_past, row_at}
+use Rattle.public_queries.proofs.aids.units_text.Goals as goal
+
+pub returns-in_err-seen : goal.returns-in_err-seen
+returns-in_err-seen g c =
+    let a = state g.S.Store c.args.conn.now in
+    let b = state g.S.Store c.loop-unit.conn in
+    let last = c.in_err-seen.ensures.tells in
+    let looked = c.loop-unit.invariant.looks in
+    let e = c.from_residual.ensures in
+    record {
+      tells = tells_cut g.S.Store (Represents g.P.Places.represents g.P.Places.version) IsKept _ c.args.conn.now c.loop-unit.conn c.seen_unit.new.conn c.from_residual.result _ c.in_err-seen.field-0.0
+          (same_fault c.from_residual.result c.in_err-seen.field-0.0 e.0 e.1) looked last.cut
+          (λ o k it may kept at_b clean free.
+          let shown = subst (λ (db : Database). Represents g.P.Places.represents g.P.Places.version db o k) (sym (looked.same at_b)) it in
+          let here = row_at c.args.known.now.day k c.args.kept.now may.1 c.loop-unit.unit-index may.2 c.loop-unit-test.true in
+          last.faults o k shown (may.0, here.item, here.holds, here.is) kept clean free);
+    }
+
+pub returns-in_err-text : goal.returns-in_err-text
+returns-in_err-text g c =
+    let a = state g.S.Store c.args.conn.now in
+    let b = state g.S.Store c.loop-unit.conn in
+    let d = state g.S.Store c.seen_unit.new.conn in
+    let looked = looks_then a b d c.loop-unit.invariant.looks c.in_ok-seen.ensures.tells.looks in
+    let e = c.from_residual-in_err-text.ensures in
+    record {
+      tells = tells_not g.S.Store (Represents g.P.Places.represents g.P.Places.version) IsKept _ c.args.conn.now c.seen_unit.new.conn c.from_residual-in_err-text.result _ fault.Memory
+          (search (rules, e)) (cut_after a d looked.goes.on) (λ o k it may kept clean free. tt);
+    }
+
+pub returns-in_err-extend_from_slice : goal.returns-in_err-extend_from_slice
+returns-in_err-extend_from_slice g c =
+    let a = state g.S.Store c.args.conn.now in
+    let b = state g.S.Store c.loop-unit.conn in
+    let d = state g.S.Store c.seen_unit.new.conn in
+    let looked = looks_then a b d c.loop-unit.invariant.looks c.in_ok-seen.ensures.tells.looks in
+    let e = c.from_residual-in_err-extend_from_slice.ensures in
+    record {
+      tells = tells_not g.S.Store (Represents g.P.Places.represents g.P.Places.version) IsKept _ c.args.conn.now c.seen_unit.new.conn c.from_residual-in_err-extend_from_slice.result _ fault.Memory
+          (search (rules, e)) (cut_after a d looked.goes.on) (λ o k it may kept clean free. tt);
+    }
+
+pub loop-unit-preserved : goal.loop-unit-preserved
+loop-unit-preserved g c =
+    let a = state g.S.Store c.args.conn.now in
+    let b = state g.S.Store c.loop-unit.conn in
+    let d = state g.S.Store c.seen_unit.new.conn in
+    let at = repository_of c.args.known.now in
+    let base = c.len-base.result in
+    let ids = c.loop-unit.ids.items in
+    let i = c.loop-unit.unit-index in
+    let last = c.in_ok-seen.ensures.tells in
+    record {
+      inside = c.loop-unit.invariant.inside;
+      looks = looks_then a b d c.loop-unit.invariant.looks last.looks;
+      so_far = λ clean o k it tellable rows keeps.
+          let before = early b d _ last.looks.goes.on.crash clean in
+          let shown = subst (λ (db : Database). Represents g.P.Places.represents g.P.Places.version db o k) (sym (c.loop-unit.invariant.looks.same before)) it in
+          let here = row_at c.args.known.now.day k c.args.kept.now rows i keeps c.loop-unit-test.true in
+          let seen = last.answers clean o k shown tellable here.item here.holds here.is in
+          let cut : c.truncate.new.self.items ≡ take (base + here.item.1) ids = c.truncate.ensures.items ∙ ap (λ n. take (base + n) ids) (ap (λ (x : Kept). x.depth) here.is) in
+          let so_far = c.loop-unit.invariant.so_far before o k it tellable rows keeps ∙ ap (λ l. c.loop-unit.out.items ++ aid (along at k.containers base ids l)) here.left in
+          let depth = ap (λ (x : Kept). x.depth) here.is in
+          along_more at k.containers base ids here.item (drop (i + 1) rows) c.in_ok-seen.seen c.truncate.new.self.items c.unit_text.new.ids.items c.loop-unit.out.items _ c.in_ok-text.text.items
+          seen cut c.in_ok-text.ensures.ids (c.in_ok-text.ensures.text ∙ ap (λ n. unit_lines (shown_at at (c.truncate.new.self.items ++ c.in_ok-seen.seen.identifier ∷ []) n c.in_ok-seen.seen)) depth) so_far
+          ∙ ap (λ l. l ++ aid (along at k.containers base c.unit_text.new.ids.items (drop (i + 1) rows))) (sym (c.in_ok-extend_from_slice.ensures.items ∙ ap (λ l. c.loop-unit.out.items ++ l) c.as_slice.ensures.value));
+    }
+
+pub returns : goal.returns
+returns g c =
+    let at = repository_of c.args.known.now in
+    let i = c.loop-unit.unit-index in
+    record {
+      tells = record {
+        answers = λ clean o k it tellable rows keeps.
+            let past : length rows ≤ i = (let long = ap length keeps.told ∙ length-map rows kept_row in omega (arith, long, c.loop-unit-test.false)) in
+            let base : c.len-base.result ≡ length c.args.above.items = cc (c.len-base.ensures, c.args.above.ok.0) in
+            sym (ap (λ n. aid (along at k.containers n c.args.above.items rows)) (sym base)
+            ∙ c.loop-unit.invariant.so_far clean o k it tellable rows keeps
+            ∙ ap (λ l. c.loop-unit.out.items ++ aid (along at k.containers c.len-base.result c.loop-unit.ids.items l)) (drop_past rows i past)
+            ∙ append-nil c.loop-unit.out.items);
+        looks = c.loop-unit.invariant.looks;
+        cut = tt;
+        faults = λ o k it may kept clean free. tt;
+      };
+    }

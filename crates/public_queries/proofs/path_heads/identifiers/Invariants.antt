@@ -1,0 +1,6 @@
+use Rattle.std.proofs.Common.{◌≡◌, take}
+use Rattle.public_queries.specs.HeadLines.{ids_of}
+use Rattle.public_queries.proofs.path_heads.identifiers.Given as goal
+
+abbrev pub invariant-loop-head : goal.invariant-loop-head
+invariant-loop-head l = l.ids.items ≡ ids_of (take l.head-index l.way)

@@ -1,0 +1,58 @@
+use Rattle.std.proofs.Common.{sym, ap, ◌∙◌, arith}
+use Rattle.std.specs.Prelude.{find}
+use Rattle.sqlite.specs.Held.{state}
+use Rattle.tree_core.specs.Forest.{nodes}
+use Rattle.tree_core.specs.declared.marks.Kept.{Kept}
+use Rattle.catalogue_core.specs.Bounds.{IsKept}
+use Rattle.catalogue_core.specs.Publishing.{public_unit}
+use Rattle.catalogue_core.specs.Units.{has_id}
+use Rattle.catalogue_statements.specs.Represents.{Represents}
+use Rattle.office_tables.proofs.Calls.{cut_after, looks_nowhere, office_of}
+use Rattle.public_queries.specs.Aiding.{seen_of}
+use Rattle.public_queries.proofs.AidCalls.{tells_as}
+use Rattle.public_queries.proofs.AidUnits.{closed_until, seen_stub}
+use Rattle.public_queries.proofs.FoundUnits.{found_low}
+use Rattle.public_queries.proofs.visible_unit.seen_unit.Goals as goal
+
+pub returns-then-unit-ge-NO_NUMBER : goal.returns-then-unit-ge-NO_NUMBER
+returns-then-unit-ge-NO_NUMBER g c =
+    let a = state g.S.Store c.args.conn.now in
+    record {
+      tells = record {
+        answers = λ clean o k it. tt;
+        looks = tt;
+        cut = cut_after a a (looks_nowhere a (office_of g.P.Places.version a c.requires.inside)).goes.on;
+        faults = λ o k it may kept clean free.
+            let low = found_low k may.1.0.0.id may.1.0.0 kept may.2.found in
+            let id = ap (λ (x : Kept). x.id) may.3 in
+            absurd (omega (arith, low, id, c.if-unit-ge-NO_NUMBER.true));
+      };
+    }
+
+pub returns-then-unit : goal.returns-then-unit
+returns-then-unit g c =
+    record {
+      tells = tells_as g.S.Store (Represents g.P.Places.represents g.P.Places.version) IsKept c.args.conn.now c.closed.new.conn c.closed.result _ _ _ _
+          (λ k may.
+          let stub = sym (ap (λ (x : Kept). x.stub) may.3) ∙ c.if-unit.true in
+          let until = closed_until c.args.today may.1.0.0 (sym may.2.stub ∙ stub) in
+          (may.1.0.0, until.0, ap (λ n. find (has_id n) (nodes k.forest)) (ap (λ (x : Kept). x.id) may.3) ∙ may.2.found, until.1))
+          (λ o k seen told tellable row of is.
+          let stub = sym (ap (λ (x : Kept). x.stub) is) ∙ c.if-unit.true in
+          let until = closed_until c.args.today row.0.0 (sym of.stub ∙ stub) in
+          told row.0.0 until.0 (ap (λ n. find (has_id n) (nodes k.forest)) (ap (λ (x : Kept). x.id) is) ∙ of.found) until.1
+          ∙ sym (ap (λ b. seen_of k.containers (public_unit (row.0.0, b))) stub ∙ seen_stub k.containers row.0.0 until.0 until.1))
+          c.closed.ensures.tells;
+    }
+
+pub returns-else-unit : goal.returns-else-unit
+returns-else-unit g c =
+    record {
+      tells = tells_as g.S.Store (Represents g.P.Places.represents g.P.Places.version) IsKept c.args.conn.now c.told.new.conn c.told.result _ _ _ _
+          (λ k may. (may.0, may.1.0.0, ap (λ n. find (has_id n) (nodes k.forest)) (ap (λ (x : Kept). x.id) may.3) ∙ may.2.found))
+          (λ o k seen told tellable row of is.
+          let stub = sym (ap (λ (x : Kept). x.stub) is) ∙ c.if-unit.false in
+          told tellable row.0.0 (ap (λ n. find (has_id n) (nodes k.forest)) (ap (λ (x : Kept). x.id) is) ∙ of.found)
+          ∙ sym (ap (λ b. seen_of k.containers (public_unit (row.0.0, b))) stub))
+          c.told.ensures.tells;
+    }

@@ -1,0 +1,61 @@
+use Rattle.std.proofs.Common.{◌≡◌, Some, None, sym, ap, ◌∙◌}
+use Rattle.std.specs.Prelude.{option_map}
+use Rattle.sqlite.specs.Held.{state}
+use Rattle.catalogue_core.specs.Bounds.{IsKept}
+use Rattle.catalogue_statements.specs.Represents.{Represents}
+use Rattle.office_tables.proofs.CallEnds.{same_fault, tells_not}
+use Rattle.office_tables.proofs.Calls.{cut_after, office_of}
+use Rattle.public_queries.specs.Aiding.{seen_values}
+use Rattle.public_queries.proofs.AidUnits.{seen_read, values_read}
+use Rattle.public_queries.proofs.visible_unit.told.Goals as goal
+
+none_some : {X : Type 0} (x : X) → None ≡ Some x → ⊥
+none_some x e = absurd (cc)
+
+same : {X : Type 0} (x y : X) → Some x ≡ Some y → x ≡ y
+same x y e = cc
+
+pub values-requires : goal.values-requires
+values-requires g c = record { inside = office_of g.P.Places.version (state g.S.Store c.args.conn.now) c.requires.inside; small = c.requires.small }
+
+pub returns-in_err-found : goal.returns-in_err-found
+returns-in_err-found g c =
+    let told = c.in_err-found.ensures.tells in
+    let e = c.from_residual.ensures in
+    record {
+      tells = tells_not g.S.Store (Represents g.P.Places.represents g.P.Places.version) IsKept _ c.args.conn.now c.values.new.conn c.from_residual.result _ c.in_err-found.field-0.0
+          (same_fault c.from_residual.result c.in_err-found.field-0.0 e.0 e.1) told.cut
+          (λ o k it may kept clean free. told.faults o k (record { version = g.P.Places.version; catalogue = it.catalogue; places = may.0.places }) may.0.containers kept clean free);
+    }
+
+pub returns-in_default : goal.returns-in_default
+returns-in_default g c =
+    let a = state g.S.Store c.args.conn.now in
+    let b = state g.S.Store c.values.new.conn in
+    let told = c.in_ok-found.ensures.tells in
+    record {
+      tells = record {
+        answers = λ clean o k it. tt;
+        looks = tt;
+        cut = cut_after a b told.looks.goes.on;
+        faults = λ o k it may kept clean free.
+            none_some (values_read k.containers may.1)
+            (sym c.in_default.is ∙ told.answers clean o k (record { version = g.P.Places.version; catalogue = it.catalogue; places = may.0.places })
+            ∙ ap (option_map (values_read k.containers)) may.2);
+      };
+    }
+
+pub returns : goal.returns
+returns g c =
+    let told = c.in_ok-found.ensures.tells in
+    record {
+      tells = record {
+        answers = λ clean o k it tellable u found.
+            let values = same c.in-Some.found (values_read k.containers u)
+            (sym c.in-Some.is ∙ told.answers clean o k (record { version = g.P.Places.version; catalogue = it.catalogue; places = tellable.places }) ∙ ap (option_map (values_read k.containers)) found) in
+            c.in_ok-described.ensures ∙ ap seen_values values ∙ seen_read k.containers u;
+        looks = told.looks;
+        cut = tt;
+        faults = λ o k it may kept clean free. tt;
+      };
+    }

@@ -1,0 +1,151 @@
+//! The finding aid of a unit, printed as it is read.
+
+ghost use Rattle.std.specs.Prelude.{◌≡◌, ◌++◌, ◌∷◌, [], ⊤, List, length, map, OnOk, IfOk};
+ghost use Rattle.sqlite.specs.Held.{state};
+ghost use Rattle.isad_core.specs.Limits.{IsNumber};
+ghost use Rattle.isad_core.specs.Printed.{aid as printed, unit_lines};
+ghost use Rattle.tree_core.specs.Forest.{HasDistinctIds, each, tree, walk};
+ghost use Rattle.catalogue_core.specs.Bounds.{IsKept};
+ghost use Rattle.catalogue_core.specs.Units.{has_id};
+ghost use Rattle.office_tables.specs.Calls.{Answers};
+ghost use Rattle.office_tables.specs.Step.{InTransaction};
+ghost use Rattle.catalogue_statements.specs.Represents.{Represents};
+ghost use Rattle.catalogue_core.specs.Aids.{shown_below};
+ghost use Rattle.catalogue_core.specs.Publishing.{public_of};
+ghost use Rattle.office_core.specs.declared.query.Query.TheVariants as query;
+ghost use Rattle.refinement.specs.Represents.{office_of};
+ghost use Rattle.public_queries.specs.HeadLines.{repository_of};
+ghost use Rattle.public_queries.specs.Knowing.{AnswersKnowing};
+ghost use Rattle.public_queries.specs.Aiding.{KeepsUnits, Walked, along, kept_row, public_units, shown_at};
+ghost use Rattle.public_queries.specs.KnownPaths.{IsTellable};
+
+use crate::path_heads::{identifiers_above, shows_last};
+use crate::visible_unit::{Seen, seen_unit};
+use catalogue_store::{OfficeRow, Places, branch_marks, path_heads};
+use isad_core::{Day, List, Shown, Text, aid_text, join_code};
+use office_core::{Answer, Refusal};
+use office_tables::StoreFault;
+use office_tables::value::NO_NUMBER;
+use sqlite::{Alter, Connection};
+use std::alloc::{AllocError, Global};
+use tree_core::{Kept, prune};
+
+/// More units than this an office never has: their marks could not be numbered.
+const MOST_MARKS: usize = 1 << 30;
+
+/// The units of a branch that the public sees, where nothing above it is withheld.
+fn kept_of<P: Places, S: Alter>(
+    alloc: Global,
+    conn: &mut Connection<S>,
+    unit: u64,
+    today: Day,
+) -> Result<Vec<Kept>, StoreFault>
+    requires inside { InTransaction P.version (state S.Store conn.old) }
+    requires small { IsNumber unit }
+    ensures tells { Answers S.Store (Represents P.represents P.version) IsKept conn.old conn.new result (λ _. ⊤)
+        (λ _ c kept. kept.items ≡ map kept_row (walk 0 (public_units today (tree (has_id unit) c.forest)))) }
+{
+    let marks = branch_marks::<P, S>(alloc, conn, Some(unit))?;
+    if marks.len() > MOST_MARKS {
+        return Err(StoreFault::Schema);
+    }
+    Ok(prune(alloc, &marks, today.number())?)
+}
+
+/// The lines of a unit below others with these identifiers, to which its own is added.
+fn unit_text(
+    alloc: Global,
+    known: &OfficeRow,
+    ids: &mut Vec<Text>,
+    depth: u32,
+    seen: Seen,
+) -> Result<Vec<u8>, AllocError>
+    ensures ids { OnOk result (ids.new.items ≡ ids.old.items ++ seen.identifier ∷ []) }
+    ensures text { IfOk result (λ text. text.items
+        ≡ unit_lines (shown_at (repository_of known.now) (ids.old.items ++ seen.identifier ∷ []) depth seen)) }
+{
+    ids.push(seen.identifier)?;
+    let code = join_code(
+        alloc,
+        known.country.as_str(),
+        known.repo.as_str(),
+        ids.as_slice(),
+    )?;
+    let shown = Shown {
+        depth,
+        code,
+        level: seen.level,
+        title: seen.title,
+        body: seen.body,
+    };
+    aid_text(alloc, &[shown])
+}
+
+/// The lines of these units, which stand in walk order below others with these identifiers.
+fn units_text<P: Places, S: Alter>(
+    alloc: Global,
+    conn: &mut Connection<S>,
+    known: &OfficeRow,
+    above: Vec<Text>,
+    kept: &[Kept],
+) -> Result<List<u8>, StoreFault>
+    requires inside { InTransaction P.version (state S.Store conn.old) }
+    ensures tells { Answers S.Store (Represents P.represents P.version) IsKept conn.old conn.new result
+        (λ c. IsTellable c × (rows : List Walked) × KeepsUnits known.now.day c kept.now rows)
+        (λ _ c text. IsTellable c → (rows : List Walked) → KeepsUnits known.now.day c kept.now rows → text
+        ≡ printed (along (repository_of known.now) c.containers (length above.items) above.items rows)) }
+{
+    let base = above.len();
+    let mut ids = above;
+    let mut out = Vec::new(alloc);
+    for unit in kept {
+        ids.truncate(base + unit.depth as usize);
+        let seen = seen_unit::<P, S>(alloc, conn, *unit, known.day)?;
+        let text = unit_text(alloc, known, &mut ids, unit.depth, seen)?;
+        out.extend_from_slice(text.as_slice())?;
+    }
+    Ok(List(out))
+}
+
+/// The finding aid of a unit that the public is shown, below units with these identifiers.
+fn branch_text<P: Places, S: Alter>(
+    alloc: Global,
+    conn: &mut Connection<S>,
+    known: &OfficeRow,
+    unit: u64,
+    above: Vec<Text>,
+) -> Result<List<u8>, StoreFault>
+    requires inside { InTransaction P.version (state S.Store conn.old) }
+    requires small { IsNumber unit }
+    ensures tells { Answers S.Store (Represents P.represents P.version) IsKept conn.old conn.new result
+        (λ c. IsTellable c × HasDistinctIds (each (λ u. u.id) c.forest))
+        (λ _ c text. IsTellable c → HasDistinctIds (each (λ u. u.id) c.forest)
+        → text ≡ printed (shown_below (repository_of known.now) c.containers above.items 0
+        (public_of known.now.day (tree (has_id unit) c.forest)))) }
+{
+    let kept = kept_of::<P, S>(alloc, conn, unit, known.day)?;
+    units_text::<P, S>(alloc, conn, known, above, &kept)
+}
+
+/// The finding aid of a unit, or that the public is shown no such unit. The office's row is known.
+pub fn aid<P: Places, S: Alter>(
+    alloc: Global,
+    conn: &mut Connection<S>,
+    known: &OfficeRow,
+    unit: u64,
+) -> Result<Answer, StoreFault>
+    requires inside { InTransaction P.version (state S.Store conn.old) }
+    ensures { AnswersKnowing P.represents P.version (λ s. known.now ≡ office_of s) (query.Aid unit)
+        (state S.Store conn.old) (state S.Store conn.new) result }
+{
+    if unit >= NO_NUMBER {
+        return Ok(Answer::Unknown(Refusal::UnknownUnit));
+    }
+    let way = path_heads::<P, S>(alloc, conn, unit)?;
+    if !shows_last(&way, known.day) {
+        return Ok(Answer::Unknown(Refusal::UnknownUnit));
+    }
+    let above = identifiers_above(alloc, &way)?;
+    let text = branch_text::<P, S>(alloc, conn, known, unit, above)?;
+    Ok(Answer::Text(text))
+}

@@ -1,0 +1,16 @@
+//! The public's questions over an office's tables, each within a transaction: the tops, the page of a
+//! unit, and its finding aid.
+#![tactic(auto)]
+
+mod aids;
+mod head_lines;
+mod page_lines;
+mod pages;
+mod path_heads;
+mod path_values;
+mod tops;
+mod visible_unit;
+
+pub use aids::aid;
+pub use pages::page;
+pub use tops::fonds;

@@ -1,0 +1,138 @@
+//! The page of a unit.
+
+ghost use Rattle.std.specs.Prelude.{◌≡◌, [], find, map, Some, IfOk};
+ghost use Rattle.sqlite.specs.Held.{state};
+ghost use Rattle.isad_core.specs.Limits.{IsNumber};
+ghost use Rattle.isad_core.specs.Printed.{page as printed};
+ghost use Rattle.tree_core.specs.Forest.{nodes};
+ghost use Rattle.catalogue_core.specs.Bounds.{IsKept};
+ghost use Rattle.catalogue_core.specs.Units.{«Unit» as Described, has_id};
+ghost use Rattle.catalogue_statements.specs.Represents.{Represents};
+ghost use Rattle.office_core.specs.declared.query.Query.TheVariants as query;
+ghost use Rattle.office_tables.specs.Calls.{Answers};
+ghost use Rattle.office_tables.specs.Step.{InTransaction};
+ghost use Rattle.refinement.specs.Represents.{office_of};
+ghost use Rattle.public_queries.specs.HeadLines.{all_bare, repository_of};
+ghost use Rattle.public_queries.specs.Knowing.{AnswersKnowing};
+ghost use Rattle.public_queries.specs.KnownPaths.{AreHeadsOf, IsTellable, RepresentsUnit};
+ghost use Rattle.public_queries.specs.PageLines.{told_page};
+ghost use Rattle.public_queries.specs.PathValues.{coded_way, unit_values};
+
+use crate::head_lines::{bare, bare_units};
+use crate::page_lines::{print_closed, print_told};
+use crate::path_heads::{identifiers, is_closed, shows_last};
+use crate::path_values::coded;
+use catalogue_store::{Head, OfficeRow, Places, UnitValues, heads_below, path_heads, values};
+use isad_core::{List, Shown, Text};
+use office_core::{Answer, Refusal};
+use office_tables::StoreFault;
+use office_tables::value::NO_NUMBER;
+use sqlite::{Alter, Connection};
+use std::alloc::{AllocError, Global};
+
+/// The values of a unit that is there.
+fn values_there<P: Places, S: Alter>(
+    alloc: Global,
+    conn: &mut Connection<S>,
+    unit: u64,
+) -> Result<UnitValues, StoreFault>
+    requires inside { InTransaction P.version (state S.Store conn.old) }
+    ensures tells { Answers S.Store (Represents P.represents P.version) IsKept conn.old conn.new result
+        (λ c. IsTellable c × (u : Described) × (find (has_id unit) (nodes c.forest) ≡ Some u))
+        (λ _ c told. IsTellable c → (u : Described) → find (has_id unit) (nodes c.forest) ≡ Some u
+        → told ≡ unit_values c.containers u) }
+{
+    if unit >= NO_NUMBER {
+        return Err(StoreFault::Schema);
+    }
+    let Some(told) = values(alloc, conn, unit)? else {
+        return Err(StoreFault::Schema);
+    };
+    Ok(told)
+}
+
+/// The values of each of these units.
+fn values_of_all<P: Places, S: Alter>(
+    alloc: Global,
+    conn: &mut Connection<S>,
+    way: &[Head],
+) -> Result<Vec<UnitValues>, StoreFault>
+    requires inside { InTransaction P.version (state S.Store conn.old) }
+    ensures tells { Answers S.Store (Represents P.represents P.version) IsKept conn.old conn.new result
+        (λ c. IsTellable c × AreHeadsOf c way.now)
+        (λ _ c units. IsTellable c → (of : AreHeadsOf c way.now)
+        → units.items ≡ map (unit_values c.containers) of.units) }
+{
+    let mut units = Vec::new(alloc);
+    for head in way {
+        units.push(values_there::<P, S>(alloc, conn, head.id)?)?;
+    }
+    Ok(units)
+}
+
+/// The page of the last unit of a path, where the values of each unit of the path are told.
+fn print_way(
+    alloc: Global,
+    known: &OfficeRow,
+    ids: Vec<Text>,
+    head: Shown,
+    way: Vec<UnitValues>,
+    heads: &[Head],
+) -> Result<List<u8>, AllocError>
+    ensures { IfOk result (λ text. text ≡ printed (told_page head (coded_way (repository_of known.now) [] [] way.items)
+        (all_bare (repository_of known.now) ids.items known.now.day heads.now))) }
+{
+    let mut ids = ids;
+    let units = coded(alloc, known, way)?;
+    let below = bare_units(alloc, known, &mut ids, heads)?;
+    print_told(alloc, head, units.as_slice(), below)
+}
+
+/// The page of the last unit of a path, which the public is shown.
+fn shown_page<P: Places, S: Alter>(
+    alloc: Global,
+    conn: &mut Connection<S>,
+    known: &OfficeRow,
+    unit: u64,
+    way: &[Head],
+) -> Result<Answer, StoreFault>
+    requires inside { InTransaction P.version (state S.Store conn.old) }
+    requires small { IsNumber unit }
+    ensures { AnswersKnowing P.represents P.version (RepresentsUnit known.now unit way.now) (query.Page unit)
+        (state S.Store conn.old) (state S.Store conn.new) result }
+{
+    let Some((last, _above)) = way.split_last() else {
+        return Err(StoreFault::Schema);
+    };
+    let ids = identifiers(alloc, way)?;
+    let head = bare(alloc, known, ids.as_slice(), last)?;
+    if is_closed(last.until, known.day) {
+        let text = print_closed(alloc, head)?;
+        return Ok(Answer::Text(text));
+    }
+    let told = values_of_all::<P, S>(alloc, conn, way)?;
+    let heads = heads_below::<P, S>(alloc, conn, Some(unit))?;
+    let text = print_way(alloc, known, ids, head, told, heads.as_slice())?;
+    Ok(Answer::Text(text))
+}
+
+/// The page of a unit, where the office's row is known. What the public is not shown is unknown.
+pub fn page<P: Places, S: Alter>(
+    alloc: Global,
+    conn: &mut Connection<S>,
+    known: &OfficeRow,
+    unit: u64,
+) -> Result<Answer, StoreFault>
+    requires inside { InTransaction P.version (state S.Store conn.old) }
+    ensures { AnswersKnowing P.represents P.version (λ s. known.now ≡ office_of s) (query.Page unit)
+        (state S.Store conn.old) (state S.Store conn.new) result }
+{
+    if unit >= NO_NUMBER {
+        return Ok(Answer::Unknown(Refusal::UnknownUnit));
+    }
+    let way = path_heads::<P, S>(alloc, conn, unit)?;
+    if !shows_last(way.as_slice(), known.day) {
+        return Ok(Answer::Unknown(Refusal::UnknownUnit));
+    }
+    shown_page::<P, S>(alloc, conn, known, unit, way.as_slice())
+}

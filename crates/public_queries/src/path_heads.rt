@@ -1,0 +1,60 @@
+//! The units on a path, as their heads tell them.
+
+ghost use Rattle.std.specs.Prelude.{◌≡◌, IfOk};
+ghost use Rattle.catalogue_core.specs.Pages.{before_last};
+ghost use Rattle.catalogue_core.specs.Units.{is_later};
+ghost use Rattle.public_queries.specs.HeadLines.{are_open as all_open, ids_of, shows_last as represents};
+
+use catalogue_store::Head;
+use isad_core::{Day, Text};
+use std::alloc::{AllocError, Global};
+
+/// Whether a closure lasts beyond this day.
+pub(crate) fn is_closed(until: Option<Day>, today: Day) -> bool
+    ensures { result ≡ is_later today until }
+{
+    match until {
+        None => false,
+        Some(until) => today.number() < until.number(),
+    }
+}
+
+/// Whether none of these units is a draft or closed.
+fn are_open(heads: &[Head], today: Day) -> bool
+    ensures { result ≡ all_open today heads.now }
+{
+    heads
+        .iter()
+        .all(|head| !head.draft && !is_closed(head.until, today))
+}
+
+/// Whether the public is shown the last unit of a path.
+pub(crate) fn shows_last(way: &[Head], today: Day) -> bool
+    ensures { result ≡ represents today way.now }
+{
+    let Some((last, above)) = way.split_last() else {
+        return false;
+    };
+    are_open(above, today) && !last.draft
+}
+
+/// The identifiers of these units.
+pub(crate) fn identifiers(alloc: Global, way: &[Head]) -> Result<Vec<Text>, AllocError>
+    ensures { IfOk result (λ ids. ids.items ≡ ids_of way.now) }
+{
+    let mut ids = Vec::new(alloc);
+    for head in way {
+        ids.push(head.identifier.clone()?)?;
+    }
+    Ok(ids)
+}
+
+/// The identifiers of the units above the last of a path.
+pub(crate) fn identifiers_above(alloc: Global, way: &[Head]) -> Result<Vec<Text>, AllocError>
+    ensures { IfOk result (λ ids. ids.items ≡ before_last (ids_of way.now)) }
+{
+    match way.split_last() {
+        None => Ok(Vec::new(alloc)),
+        Some((_last, above)) => identifiers(alloc, above),
+    }
+}

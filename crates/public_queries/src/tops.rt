@@ -1,0 +1,43 @@
+//! The units at the top.
+
+ghost use Rattle.std.specs.Prelude.{◌≡◌, [], IfOk};
+ghost use Rattle.sqlite.specs.Held.{state};
+ghost use Rattle.catalogue_core.specs.Pages.{tops_text};
+ghost use Rattle.office_core.specs.declared.query.Query.TheVariants as query;
+ghost use Rattle.office_tables.specs.Step.{InTransaction};
+ghost use Rattle.refinement.specs.Represents.{office_of};
+ghost use Rattle.public_queries.specs.HeadLines.{all_bare, repository_of};
+ghost use Rattle.public_queries.specs.Knowing.{AnswersKnowing};
+
+use crate::head_lines::bare_units;
+use catalogue_store::{Head, OfficeRow, Places, heads_below};
+use isad_core::{List, list_text};
+use office_core::Answer;
+use office_tables::StoreFault;
+use sqlite::{Alter, Connection};
+use std::alloc::{AllocError, Global};
+
+/// A line for each of these tops that is no draft.
+fn print_tops(alloc: Global, known: &OfficeRow, heads: &[Head]) -> Result<List<u8>, AllocError>
+    ensures { IfOk result (λ text. text
+        ≡ tops_text (all_bare (repository_of known.now) [] known.now.day heads.now)) }
+{
+    let mut ids = Vec::new(alloc);
+    let tops = bare_units(alloc, known, &mut ids, heads)?;
+    Ok(List(list_text(alloc, tops.as_slice())?))
+}
+
+/// The units at the top, where the office's row is known.
+pub fn fonds<P: Places, S: Alter>(
+    alloc: Global,
+    conn: &mut Connection<S>,
+    known: &OfficeRow,
+) -> Result<Answer, StoreFault>
+    requires inside { InTransaction P.version (state S.Store conn.old) }
+    ensures { AnswersKnowing P.represents P.version (λ s. known.now ≡ office_of s) query.Fonds
+        (state S.Store conn.old) (state S.Store conn.new) result }
+{
+    let heads = heads_below::<P, S>(alloc, conn, None)?;
+    let text = print_tops(alloc, known, heads.as_slice())?;
+    Ok(Answer::Text(text))
+}

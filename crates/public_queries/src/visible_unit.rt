@@ -1,0 +1,134 @@
+//! What the public sees of one unit: its own description, or of a closed one that it is there.
+
+ghost use Rattle.std.specs.Prelude.{◌≡◌, ℤ, find, IfOk, Some};
+ghost use Rattle.sqlite.specs.Held.{state};
+ghost use Rattle.isad_core.specs.Limits.{IsNumber};
+ghost use Rattle.isad_core.specs.Values.{identifier};
+ghost use Rattle.tree_core.specs.Forest.{nodes};
+ghost use Rattle.catalogue_core.specs.Bounds.{IsKept};
+ghost use Rattle.catalogue_core.specs.Publishing.{«Told» as IsTold, Stub as IsClosed, public_unit};
+ghost use Rattle.catalogue_core.specs.Units.{«Unit» as Described, has_id};
+ghost use Rattle.office_tables.specs.Calls.{Answers};
+ghost use Rattle.office_tables.specs.Step.{InTransaction};
+ghost use Rattle.catalogue_statements.specs.Represents.{Represents};
+ghost use Rattle.public_queries.specs.Aiding.{IsOf, Walked, kept_row, seen_of, seen_values, with_numbers};
+ghost use Rattle.public_queries.specs.KnownPaths.{IsTellable};
+
+use crate::path_values::text_or_empty;
+use catalogue_store::{Places, UnitValues, find_head, values};
+use isad_core::{Body, BoxKey, Day, Element, List, Text};
+use office_tables::StoreFault;
+use office_tables::value::NO_NUMBER;
+use sqlite::{Alter, Connection};
+use std::alloc::{AllocError, Global};
+use tree_core::Kept;
+
+/// What the public sees of a unit, but for its place.
+#[derive(Drop)]
+pub struct Seen {
+    /// Its identifier, or the empty text.
+    pub identifier: Text,
+    pub level: Text,
+    pub title: Text,
+    pub body: Body,
+}
+
+/// The names of these containers, each with its number.
+fn numbered(
+    alloc: Global,
+    numbers: &[u64],
+    boxes: &[BoxKey],
+) -> Result<List<(u64, Text)>, AllocError>
+    ensures { IfOk result (λ numbered. numbered ≡ with_numbers numbers.now boxes.now) }
+{
+    let mut numbered = List::new(alloc);
+    for (number, housed) in numbers.iter().zip(boxes) {
+        numbered.push((*number, housed.name.clone()?))?;
+    }
+    Ok(numbered)
+}
+
+/// What is seen of a unit with these values.
+fn described(alloc: Global, unit: &UnitValues) -> Result<Seen, AllocError>
+    ensures { IfOk result (λ seen. seen ≡ seen_values unit.now) }
+{
+    let values = &unit.values;
+    Ok(Seen {
+        identifier: text_or_empty(alloc, values.text(Element::ReferenceCode))?,
+        level: values.level.clone()?,
+        title: text_or_empty(alloc, values.text(Element::Title))?,
+        body: Body::Full {
+            lines: values.lines(alloc)?,
+            boxes: numbered(alloc, unit.containers.as_slice(), values.boxes.as_slice())?,
+        },
+    })
+}
+
+/// What is seen of a unit that is told.
+fn told<P: Places, S: Alter>(
+    alloc: Global,
+    conn: &mut Connection<S>,
+    unit: u64,
+) -> Result<Seen, StoreFault>
+    requires inside { InTransaction P.version (state S.Store conn.old) }
+    requires small { IsNumber unit }
+    ensures tells { Answers S.Store (Represents P.represents P.version) IsKept conn.old conn.new result
+        (λ c. IsTellable c × (u : Described) × (find (has_id unit) (nodes c.forest) ≡ Some u))
+        (λ _ c seen. IsTellable c → (u : Described) → find (has_id unit) (nodes c.forest) ≡ Some u
+        → seen ≡ seen_of c.containers (IsTold u.id u.values)) }
+{
+    let Some(found) = values(alloc, conn, unit)? else {
+        return Err(StoreFault::Schema);
+    };
+    Ok(described(alloc, &found)?)
+}
+
+/// What is seen of a unit that is closed.
+fn closed<P: Places, S: Alter>(
+    alloc: Global,
+    conn: &mut Connection<S>,
+    unit: u64,
+) -> Result<Seen, StoreFault>
+    requires inside { InTransaction P.version (state S.Store conn.old) }
+    requires small { IsNumber unit }
+    ensures tells { Answers S.Store (Represents P.represents P.version) IsKept conn.old conn.new result
+        (λ c. (u : Described) × (until : ℤ) × (find (has_id unit) (nodes c.forest) ≡ Some u) × (u.until ≡ Some until))
+        (λ _ c seen. (u : Described) (until : ℤ) → find (has_id unit) (nodes c.forest) ≡ Some u → u.until ≡ Some until
+        → seen ≡ seen_of c.containers (IsClosed u.id (identifier u.values) u.values.level until)) }
+{
+    let Some(head) = find_head::<P, S>(alloc, conn, unit)? else {
+        return Err(StoreFault::Schema);
+    };
+    let Some(until) = head.until else {
+        return Err(StoreFault::Schema);
+    };
+    Ok(Seen {
+        identifier: head.identifier,
+        level: head.level,
+        title: Text::new(alloc, "")?,
+        body: Body::Closed(until),
+    })
+}
+
+/// What is seen of a unit of an aid.
+pub(crate) fn seen_unit<P: Places, S: Alter>(
+    alloc: Global,
+    conn: &mut Connection<S>,
+    unit: Kept,
+    today: Day,
+) -> Result<Seen, StoreFault>
+    requires inside { InTransaction P.version (state S.Store conn.old) }
+    ensures tells { Answers S.Store (Represents P.represents P.version) IsKept conn.old conn.new result
+        (λ c. IsTellable c × (row : Walked) × IsOf today c row × (unit ≡ kept_row row))
+        (λ _ c seen. IsTellable c → (row : Walked) → IsOf today c row → unit ≡ kept_row row
+        → seen ≡ seen_of c.containers (public_unit row.0)) }
+{
+    if unit.id >= NO_NUMBER {
+        return Err(StoreFault::Schema);
+    }
+    if unit.stub {
+        closed::<P, S>(alloc, conn, unit.id)
+    } else {
+        told::<P, S>(alloc, conn, unit.id)
+    }
+}

@@ -1,4 +1,0 @@
-use Rattle.record_office.proofs.commands.init.Goals as goal
-
-pub returns-clause-done : goal.returns-clause-done
-returns-clause-done g c = record { office = c.in_ok-office.office; shows = c.in_ok-office.ensures.founded; kept = c.in_ok-office.ensures.kept }

@@ -1,5 +1,0 @@
-use Rattle.record_office.proofs.Judgments.{no_memory}
-use Rattle.record_office.proofs.commands.listen.Goals as goal
-
-pub returns-in_err-line-clause-fault : goal.returns-in_err-line-clause-fault
-returns-in_err-line-clause-fault g c = no_memory c.args.port _ c.from_residual.result c.from_residual.ensures.1

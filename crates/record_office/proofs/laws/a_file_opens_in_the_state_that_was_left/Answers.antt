@@ -1,5 +1,0 @@
-use Rattle.record_office.proofs.KeptLemmas.{left_so}
-use Rattle.record_office.proofs.laws.a_file_opens_in_the_state_that_was_left.Goals as goal
-
-pub returns : goal.returns
-returns c = λ image s found. left_so image s found

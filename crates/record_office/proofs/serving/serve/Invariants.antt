@@ -1,9 +1,0 @@
--- so many sessions have led from the first state to the present one
-use Rattle.office_core.specs.State.{State}
-use Rattle.record_office.specs.Served.{AreSessions}
-use Rattle.record_office.proofs.serving.serve.Given as goal
-
-abbrev pub invariant-loop-connection : goal.invariant-loop-connection
-invariant-loop-connection g l =
-    (g.M.Machine.is_intact l.office → g.M.Machine.is_intact l.initial.office)
-    × (g.M.Machine.is_intact l.office → (s : State) → g.M.Machine.shows l.initial.office s → (t : State) × g.M.Machine.shows l.office t × AreSessions l._connection s t)

@@ -1,7 +1,0 @@
--- nothing is written
-use Rattle.std.proofs.Common.{[]}
-use Rattle.std.specs.Io.KnownBytes.{Appends}
-use Rattle.record_office.proofs.streams.flush.Given as goal
-
-abbrev pub invariant-loop-flush : goal.invariant-loop-flush
-invariant-loop-flush g l = Appends (g.W.Write.contents l.initial.writer) (g.W.Write.contents l.writer) []

@@ -1,0 +1,53 @@
+-- A sound office can be judged, and so can one of whose units some were changed.
+use Rattle.std.proofs.Common.{◌≡◌, ℕ, true, false, Option, Some, None, refl, sym, ap, subst, ◌∙◌, nat_eq}
+use Rattle.std.specs.Prelude.{is_some, option_map}
+use Rattle.std.specs.List.{AllByRecursion, IsDistinct}
+use Rattle.std.proofs.lemmas.Bool.{false≢true}
+use Rattle.tree_core.specs.Forest.{Forest, HasDistinctIds, each, nodes}
+use Rattle.tree_core.proofs.EachLemmas.{nodes-each}
+use Rattle.catalogue_core.specs.GoodCatalogues.{AreGoodUnits, IsSomeDay}
+use Rattle.catalogue_core.specs.LegibleCatalogues.{IsLegibleCatalogue}
+use Rattle.catalogue_core.specs.Merging.{Catalogue}
+use Rattle.catalogue_core.specs.Units.{Unit}
+use Rattle.catalogue_core.proofs.KeptCatalogues.{kept, knows}
+use Rattle.catalogue_core.proofs.KeptUnits.{same_containers}
+use Rattle.office_core.specs.SoundDesk.{AreFiled, IsFiled, is_out_for}
+use Rattle.office_core.specs.SoundOffice.{IsSoundOffice}
+use Rattle.office_core.specs.State.{Order, State, container_of, order_out}
+use Rattle.office_core.specs.Words.{numbered, stands}
+use Rattle.office_core.proofs.Words.{same_number}
+use Rattle.state_encoding.proofs.LegibleRows.{desk_legible}
+use Rattle.refinement.specs.Judging.{CanBeJudged}
+
+-- what is out is so by an order that is there
+pub orders_there : (s : State) → AreFiled s → (c o : ℕ) → order_out (s.place c) ≡ Some o → is_some (numbered s.orders o) ≡ true
+orders_there s filed c o out = at (numbered s.orders o) refl
+  where
+    at : (x : Option Order) → numbered s.orders o ≡ x → is_some x ≡ true
+    at (Some order) e = refl
+    at None e =
+        let none : container_of s o ≡ None = ap (option_map (λ (order : Order). order.container)) e in
+        let nowhere = subst (λ k. IsFiled k (λ c. stands o (s.queue c)) (λ c. is_out_for o (s.place c)) (s.past o)) none (filed.each o) in
+        let not_out : is_out_for o (s.place c) ≡ false = nowhere.1 c in
+        let is_out : is_out_for o (s.place c) ≡ true = rw out (same_number o) in
+        absurd (false≢true (sym not_out ∙ is_out))
+
+pub distinct_ids : (c : Catalogue) → AreGoodUnits c → HasDistinctIds (each (λ (unit : Unit). unit.id) c.forest)
+distinct_ids c units = subst (IsDistinct nat_eq) (sym (nodes-each (λ (unit : Unit). unit.id) c.forest)) units.ids
+
+-- the catalogue has other units, or has them in other places
+pub judged_with : (s : State) → IsSoundOffice s → (f : Forest Unit) → AreGoodUnits (record s.catalogue { forest = f }) → AllByRecursion (λ (unit : Unit). IsSomeDay unit.until) (nodes f)
+    → IsLegibleCatalogue (record s.catalogue { forest = f }) → CanBeJudged (record s { catalogue = record s.catalogue { forest = f } })
+judged_with s g f units closures texts =
+    let c : Catalogue = record s.catalogue { forest = f } in
+    record {
+      catalogue = kept c units (same_containers s.catalogue f g.sound.containers) closures texts;
+      containers = knows c units g.sound.desk.boxes;
+      units = distinct_ids c units;
+      desk = λ version. desk_legible version s g;
+      permits = g.sound.desk.permits.known;
+      orders = orders_there s g.sound.desk.filed;
+    }
+
+pub judged_now : (s : State) → IsSoundOffice s → CanBeJudged s
+judged_now s g = judged_with s g s.catalogue.forest g.sound.units g.sound.days.closures g.texts.catalogue

@@ -1,0 +1,157 @@
+-- Who may see a container, by what is read from the tables.
+use Rattle.std.proofs.Common.{◌≡◌, ℕ, ℤ, ◌<◌, ◌≤◌, ◌^◌, zero, suc, Bool, true, false, not, ◌&&◌, List, [], ◌∷◌, length, map, Option, Some, None, refl, sym, ap, ap₂, subst, ◌∙◌, nat_eq, arith}
+use Rattle.std.specs.Prelude.{◌||◌, filter, int_le, IsPermutation, slice_get}
+use Rattle.std.specs.List.{AllByRecursion, list_all, list_any}
+use Rattle.std.proofs.Math.Path.{fun_ext}
+use Rattle.std.proofs.lemmas.Bool.{false≢true}
+use Rattle.std.proofs.lemmas.List.Elements.{All-from_recursion, recursion_from_All}
+use Rattle.std.proofs.lemmas.List.Folds.{list_all-map}
+use Rattle.std.proofs.lemmas.List.Sorted.{All-permutation, list_any-IsPermutation}
+use Rattle.isad_core.specs.declared.values.BoxKey.{BoxKey}
+use Rattle.tree_core.specs.Forest.{Forest, nodes}
+use Rattle.tree_core.proofs.Lists.{eqb_comm, list_any-map}
+use Rattle.desk_core.specs.DeskRows.{Desk, PermitRow}
+use Rattle.desk_store.specs.Permits.{permits_of}
+use Rattle.desk_store.specs.declared.reader_permits.Permit.{Permit}
+use Rattle.catalogue_core.specs.Finding.{has_unit}
+use Rattle.catalogue_core.specs.Housing.{is_open, is_some_there}
+use Rattle.catalogue_core.specs.Marking.{names}
+use Rattle.catalogue_core.specs.OpenMarks.{is_clean_for, naming}
+use Rattle.catalogue_core.specs.Units.{Unit}
+use Rattle.catalogue_core.proofs.EachOf.{all_filtered}
+use Rattle.catalogue_core.proofs.OpenLemmas.{open_by_marks}
+use Rattle.catalogue_core.proofs.UnitsAfter.{each_there}
+use Rattle.catalogue_store.specs.Attaching.{AreMarksOfContents, AreMarksOfEach}
+use Rattle.catalogue_store.specs.declared.container_marks.Attached.{Attached}
+use Rattle.office_core.specs.State as office
+use Rattle.office_core.specs.State.{State, is_permitted, opens}
+use Rattle.office_core.specs.Words.{is_empty, numbered, some_and}
+use Rattle.state_encoding.specs.DeskShown.{permit_rows}
+use Rattle.state_encoding.proofs.ReadBack.{permits_known}
+use Rattle.refinement.specs.Judging.{CanBeJudged}
+use Rattle.refinement.specs.Openness.{TellsAllClean, allows}
+use Rattle.refinement.proofs.NamedContainers.{named, names_it}
+
+-- ---- lists
+
+all_by_any : {X : Type 0} (p : X → Bool) (xs : List X) → list_all p xs ≡ not (list_any (λ x. not (p x)) xs)
+all_by_any p [] = refl
+all_by_any p (x ∷ xs) = at (p x) (all_by_any p xs)
+  where
+    at : (b : Bool) → list_all p xs ≡ not (list_any (λ x. not (p x)) xs) → (b && list_all p xs) ≡ not (not b || list_any (λ x. not (p x)) xs)
+    at true e = e
+    at false e = refl
+
+all_alike : {X : Type 0} (p : X → Bool) (xs ys : List X) → IsPermutation xs ys → list_all p xs ≡ list_all p ys
+all_alike p xs ys same = all_by_any p xs ∙ ap not (list_any-IsPermutation (λ x. not (p x)) xs ys same) ∙ sym (all_by_any p ys)
+
+some_by_any : {X : Type 0} (xs : List X) → is_some_there xs ≡ list_any (λ x. true) xs
+some_by_any [] = refl
+some_by_any (x ∷ xs) = refl
+
+some_alike : {X : Type 0} (xs ys : List X) → IsPermutation xs ys → is_some_there xs ≡ is_some_there ys
+some_alike xs ys same = some_by_any xs ∙ list_any-IsPermutation (λ x. true) xs ys same ∙ sym (some_by_any ys)
+
+none_named : (boxes : List BoxKey) → list_any (λ b. false) boxes ≡ false
+none_named [] = refl
+none_named (b ∷ boxes) = none_named boxes
+
+nothing_named : (units : List Unit) → filter (names_it None) units ≡ []
+nothing_named [] = refl
+nothing_named (unit ∷ units) = rw (none_named unit.values.boxes) (nothing_named units)
+
+-- ---- by the units that name it
+
+module _ (s : State) (judged : CanBeJudged s) (t n : ℕ) where
+  abbrev forest : Forest Unit
+  forest = s.catalogue.forest
+
+  abbrev permitted : ℕ → Bool
+  permitted = is_permitted s.day (s.permits t)
+
+  abbrev clean : Unit → Bool
+  clean unit = is_clean_for permitted s.day forest unit.id
+
+  by_container : (units : List Unit) (o : Option BoxKey) → IsPermutation (filter (names_it o) (nodes forest)) units
+      → some_and (λ box. is_open forest box permitted s.day) o ≡ (is_some_there units && list_all clean units)
+  by_container units None same =
+      let none : is_some_there units ≡ false = sym (some_alike (filter (names_it None) (nodes forest)) units same) ∙ ap is_some_there (nothing_named (nodes forest)) in
+      sym (ap (λ b. b && list_all clean units) none)
+  by_container units (Some box) same =
+      open_by_marks forest box permitted s.day judged.units
+      ∙ ap₂ ◌&&◌ (some_alike (naming box forest) units same) (all_alike clean (naming box forest) units same)
+
+  pub opens_by : (units : List Unit) → IsPermutation (filter (names s.catalogue.containers n) (nodes forest)) units → opens s t n ≡ (is_some_there units && list_all clean units)
+  opens_by units same =
+      by_container units (numbered s.catalogue.containers n)
+      (subst (λ l. IsPermutation l units) (named s.catalogue.containers judged.containers.apart n (nodes forest) judged.containers.known) same)
+
+  -- a number past the last container's is open to nobody
+  pub opens_none : 2 ^ 63 ≤ n → false ≡ opens s t n
+  opens_none high = sym (ap (some_and (λ box. is_open forest box permitted s.day)) (past_last s.catalogue.containers n (let few = judged.catalogue.few_boxes in omega (arith, few, high))))
+    where
+      past : (xs : List BoxKey) (k : ℕ) → length xs ≤ k → slice_get xs k ≡ None
+      past [] k low = refl
+      past (x ∷ xs) zero low = absurd (omega (arith, low))
+      past (x ∷ xs) (suc k) low = past xs k (omega (arith, low))
+
+      past_last : (xs : List BoxKey) (k : ℕ) → length xs < k → numbered xs k ≡ None
+      past_last xs zero low = absurd (omega (arith, low))
+      past_last xs (suc k) low = past xs k (omega (arith, low))
+
+-- ---- by the permits that are read
+
+same_of : (t : ℕ) (rows : List PermitRow) → filter (λ (row : PermitRow). nat_eq t row.ticket) rows ≡ filter (λ (row : PermitRow). nat_eq row.ticket t) rows
+same_of t rows = ap (λ p. filter p rows) (fun_ext (λ (row : PermitRow). eqb_comm t row.ticket))
+
+allowed : (s : State) → CanBeJudged s → (t : ℕ) (d : Desk) → d.permits ≡ permit_rows s → (day : ℤ) (permits : List Permit) → IsPermutation (permits_of t d) permits
+    → allows day permits ≡ is_permitted day (s.permits t)
+allowed s judged t d are day permits same = fun_ext (λ u.
+    sym (list_any-IsPermutation (λ (permit : Permit). nat_eq permit.unit u && int_le day permit.until) (permits_of t d) permits same)
+    ∙ list_any-map (λ (permit : Permit). nat_eq permit.unit u && int_le day permit.until) (λ (row : PermitRow). record { unit = row.unit; until = row.until }) (filter (λ (row : PermitRow). nat_eq t row.ticket) d.permits)
+    ∙ ap (list_any (λ (row : PermitRow). nat_eq row.unit u && int_le day row.until)) (same_of t d.permits ∙ ap (filter (λ (row : PermitRow). nat_eq row.ticket t)) are)
+    ∙ sym (list_any-map (λ (permit : office.Permit). nat_eq permit.unit u && int_le day permit.until) (λ (row : PermitRow). record { unit = row.unit; until = row.until }) (filter (λ (row : PermitRow). nat_eq row.ticket t) (permit_rows s)))
+    ∙ ap (λ (of : ℕ → List office.Permit). is_permitted day (of t) u) (permits_known s judged.permits))
+
+-- ---- by the marks that are read
+
+some_found : (f : Forest Unit) (units : List Unit) (found : List Attached) → AreMarksOfEach f (map (λ (unit : Unit). unit.id) units) found → is_some_there units ≡ not (is_empty found)
+some_found f [] [] marks = refl
+some_found f [] (one ∷ found) marks = absurd marks
+some_found f (unit ∷ units) [] marks = absurd marks
+some_found f (unit ∷ units) (one ∷ found) marks = refl
+
+mapped : (P : ℕ → Type 0) (units : List Unit) → AllByRecursion (λ (unit : Unit). P unit.id) units → AllByRecursion P (map (λ (unit : Unit). unit.id) units)
+mapped P [] h = tt
+mapped P (unit ∷ units) h = (h.0, mapped P units h.1)
+
+module _ (s : State) (judged : CanBeJudged s) (t n : ℕ) (found : List Attached) (marks : AreMarksOfContents s.catalogue n found) where
+  -- no unit names it
+  pub empty_closed : length found ≡ 0 → false ≡ opens s t n
+  empty_closed empty =
+      let none : is_some_there marks.0 ≡ false = some_found s.catalogue.forest marks.0 found marks.2 ∙ ap not (nothing found empty) in
+      sym (opens_by s judged t n marks.0 marks.1.are ∙ ap (λ b. b && list_all (λ (unit : Unit). is_clean_for (is_permitted s.day (s.permits t)) s.day s.catalogue.forest unit.id) marks.0) none)
+    where
+      nothing : (found : List Attached) → length found ≡ 0 → is_empty found ≡ true
+      nothing [] e = refl
+      nothing (one ∷ found) e = absurd (omega (arith, e))
+
+  -- the answer is whether the marks are clean
+  pub clean_open : (d : Desk) → d.permits ≡ permit_rows s → (permits : List Permit) → IsPermutation (permits_of t d) permits → nat_eq (length found) 0 ≡ false → (clean : Bool) → TellsAllClean s.day permits found clean → clean ≡ opens s t n
+  clean_open d are permits same some clean tells =
+      let f = s.catalogue.forest in
+      let units = marks.0 in
+      let all_there = each_there (nodes f) (nodes f) (λ v h. h) in
+      let P : Unit → Type 0 = λ (unit : Unit). has_unit f unit.id ≡ true in
+      let here = all_filtered P (names s.catalogue.containers n) (nodes f) all_there in
+      let there = recursion_from_All P units (All-permutation P (filter (names s.catalogue.containers n) (nodes f)) units marks.1.are (All-from_recursion P (filter (names s.catalogue.containers n) (nodes f)) here)) in
+      let is : clean ≡ list_all (λ (unit : Unit). is_clean_for (is_permitted s.day (s.permits t)) s.day f unit.id) units =
+      tells f (map (λ (unit : Unit). unit.id) units) (mapped (λ u. has_unit f u ≡ true) units there) marks.2
+      ∙ list_all-map (is_clean_for (allows s.day permits) s.day f) (λ (unit : Unit). unit.id) units
+      ∙ ap (λ may. list_all (λ (unit : Unit). is_clean_for may s.day f unit.id) units) (allowed s judged t d are s.day permits same) in
+      let any : is_some_there units ≡ true = some_found f units found marks.2 ∙ ap not (something found some) in
+      is ∙ sym (ap (λ b. b && list_all (λ (unit : Unit). is_clean_for (is_permitted s.day (s.permits t)) s.day f unit.id) units) any) ∙ sym (opens_by s judged t n units marks.1.are)
+    where
+      something : (found : List Attached) → nat_eq (length found) 0 ≡ false → is_empty found ≡ false
+      something [] e = absurd (false≢true (sym e))
+      something (one ∷ found) e = refl

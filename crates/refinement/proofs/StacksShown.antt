@@ -1,0 +1,69 @@
+-- The desk of a state beside its containers, as the tables show them.
+use Rattle.std.proofs.Common.{◌≡◌, ℕ, suc, ◌+◌, nat_eq, List, [], ◌∷◌, length, refl, sym, ap, subst, ◌∙◌, arith}
+use Rattle.std.specs.Prelude.{find, is_some, option_map}
+use Rattle.std.specs.List.{AllByRecursion}
+use Rattle.sqlite.specs.Effect.{Database}
+use Rattle.sqlite.specs.Tree.{Trees}
+use Rattle.isad_core.specs.Legible.{IsLegibleBox}
+use Rattle.isad_core.specs.declared.values.BoxKey.{BoxKey}
+use Rattle.tree_core.specs.Forest.{Forest}
+use Rattle.tree_core.specs.Versions.{Version}
+use Rattle.catalogue_statements.specs.Rows.{counted_from}
+use Rattle.desk_store.specs.Stacks.{IsLegibleStacks, RepresentsQueues, Stacks, box_with}
+use Rattle.office_core.specs.SoundOffice.{IsSoundOffice}
+use Rattle.office_core.specs.State.{State, is_container}
+use Rattle.office_core.specs.Words.{numbered}
+use Rattle.state_encoding.specs.DeskShown.{rows_from}
+use Rattle.state_encoding.specs.Reading.{tables}
+use Rattle.state_encoding.proofs.DeskLookups.{is_some-map}
+use Rattle.state_encoding.proofs.LegibleRows.{desk_legible}
+use Rattle.state_encoding.proofs.NumberedRows.{length-rows}
+use Rattle.office_tables.specs.Numbered.{AreCountedFrom}
+use Rattle.refinement.specs.Represents.{RepresentsState}
+use Rattle.refinement.proofs.RowsOfLists.{found_row}
+
+abbrev pub stacks_of : Version → State → Stacks
+stacks_of version s = record { boxes = counted_from 1 s.catalogue.containers; desk = (tables version s).desk }
+
+abbrev under : ℕ → BoxKey → ℕ × BoxKey
+under n box = (n, box)
+
+counted_rows : (n : ℕ) (boxes : List BoxKey) → counted_from n boxes ≡ rows_from under n boxes
+counted_rows n [] = refl
+counted_rows n (box ∷ boxes) = let e : n + 1 ≡ suc n = omega arith in ap (λ k. under n box ∷ counted_from k boxes) e ∙ ap (λ l. under n box ∷ l) (counted_rows (suc n) boxes)
+
+rows_counted : (n : ℕ) (boxes : List BoxKey) → AreCountedFrom (λ (b : ℕ × BoxKey). b.0) n (rows_from under n boxes)
+rows_counted n [] = tt
+rows_counted n (box ∷ boxes) = (refl, rows_counted (suc n) boxes)
+
+rows_legible : (n : ℕ) (boxes : List BoxKey) → AllByRecursion IsLegibleBox boxes → AllByRecursion (λ (b : ℕ × BoxKey). IsLegibleBox b.1) (rows_from under n boxes)
+rows_legible n [] h = tt
+rows_legible n (box ∷ boxes) h = (h.0, rows_legible (suc n) boxes h.1)
+
+module _ (version : Version) (s : State) where
+  pub shows_stacks : (places : Trees → Forest ℕ → Type 0) (db : Database) → IsSoundOffice s → RepresentsState places version db s → RepresentsQueues db tt (stacks_of version s)
+  shows_stacks places db sound it =
+      let boxes = s.catalogue.containers in
+      record {
+        boxes = it.catalogue.catalogue.containers;
+        numbers = subst (AreCountedFrom (λ (b : ℕ × BoxKey). b.0) 1) (sym (counted_rows 1 boxes)) (rows_counted 1 boxes);
+        few = let many = ap length (counted_rows 1 boxes) ∙ length-rows under 1 boxes in let few = sound.sound.containers.few in omega (arith, many, few);
+        desk = it.desk;
+      }
+
+  pub legible_stacks : IsSoundOffice s → IsLegibleStacks (stacks_of version s)
+  legible_stacks sound =
+      let boxes = s.catalogue.containers in
+      record {
+        boxes = subst (AllByRecursion (λ (b : ℕ × BoxKey). IsLegibleBox b.1)) (sym (counted_rows 1 boxes)) (rows_legible 1 boxes sound.texts.catalogue.containers);
+        desk = desk_legible version s sound;
+      }
+
+  -- the row of a container has what is written on it
+  pub box_row : (c : ℕ) → box_with c (stacks_of version s) ≡ option_map (under c) (numbered s.catalogue.containers c)
+  box_row c =
+      ap (find (λ (b : ℕ × BoxKey). nat_eq c b.0)) (counted_rows 1 s.catalogue.containers)
+      ∙ found_row under (λ (b : ℕ × BoxKey). b.0) (λ n x. refl) c s.catalogue.containers
+
+  pub has_box : (c : ℕ) → is_some (box_with c (stacks_of version s)) ≡ is_container s c
+  has_box c = ap is_some (box_row c) ∙ is_some-map (under c) (numbered s.catalogue.containers c)

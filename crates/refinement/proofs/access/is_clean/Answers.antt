@@ -1,0 +1,33 @@
+use Rattle.std.proofs.Common.{rules, ◌≡◌, false, not, map, of_z, to_z, w32, FitsSigned, sym, ap, ◌∙◌}
+use Rattle.std.specs.Prelude.{◌&&◌}
+use Rattle.std.specs.List.{list_all}
+use Rattle.std.proofs.lemmas.Int.{to_z-of_z}
+use Rattle.tree_core.specs.Marks.{contents_paths, withholds}
+use Rattle.catalogue_core.specs.OpenMarks.{is_opened_above, with_permit}
+use Rattle.catalogue_core.proofs.OpenLemmas.{marks_say_clean}
+use Rattle.refinement.specs.Openness.{allows}
+use Rattle.refinement.proofs.access.is_clean.Goals.{else-clean_path, then-clean_path}
+use Rattle.refinement.proofs.access.is_clean.Goals as goal
+
+pub returns : goal.returns
+returns c = λ f u there way walk.
+    let permitted = allows c.args.today c.args.permits.now in
+    let today = c.args.today in
+    let fits : FitsSigned w32 c.number-day.result = search rules in
+    let same : to_z w32 (of_z w32 c.number-day.result) ≡ today = to_z-of_z w32 c.number-day.result fits ∙ c.number-day.ensures.number in
+    let path = c.args.attached.now.path.items in
+    let branch = c.args.attached.now.branch.items in
+    let within = c.clean_contents-is_within.result in
+    let path_is = c.in_ok-path.ensures ∙ ap (map (with_permit permitted)) c.deref.ensures.value in
+    let branch_is = c.in_ok-branch.ensures ∙ ap (map (with_permit permitted)) c.deref-2.ensures.value in
+    let both : c.if-clean_path.result ≡ (c.clean_path.result && within) =
+    elim c.if-clean_path.branch [
+      | then-clean_path w ↦ w.result-is ∙ sym (ap (λ b. b && within) w.if-clean_path.true)
+      | else-clean_path w ↦ w.result-is ∙ w.if-clean_path.false ∙ sym (ap (λ b. b && within) w.if-clean_path.false)
+    ] in
+    both ∙ marks_say_clean f u permitted today path branch c.clean_path.result within there way walk
+    (c.clean_path.ensures ∙ ap (λ t. not (withholds t false c.deref-5.result.now)) same ∙ ap (λ l. not (withholds today false l)) (c.deref-5.ensures.value ∙ path_is))
+    (λ k first below numbered is.
+    c.clean_contents-is_within.ensures.branch k first below numbered (c.deref-4.ensures.value ∙ branch_is ∙ is)
+    ∙ ap (λ t. list_all (λ way. not (withholds t c.is_permitted_above-above.result way)) (contents_paths first below)) same
+    ∙ ap (λ b. list_all (λ way. not (withholds today b way)) (contents_paths first below)) (c.is_permitted_above-above.ensures ∙ ap is_opened_above (c.deref-3.ensures.value ∙ path_is)))

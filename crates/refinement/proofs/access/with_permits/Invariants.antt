@@ -1,0 +1,7 @@
+use Rattle.std.proofs.Common.{◌≡◌, map, take}
+use Rattle.catalogue_core.specs.OpenMarks.{with_permit}
+use Rattle.refinement.specs.Openness.{allows}
+use Rattle.refinement.proofs.access.with_permits.Given as goal
+
+abbrev pub invariant-loop-mark : goal.invariant-loop-mark
+invariant-loop-mark l = l.all.items ≡ map (with_permit (allows l.today l.permits)) (take l.mark-index l.marks)

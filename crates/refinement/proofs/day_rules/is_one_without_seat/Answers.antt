@@ -1,0 +1,27 @@
+use Rattle.std.proofs.Common.{◌≡◌, ◌∙◌}
+use Rattle.std.specs.Prelude.{⊤}
+use Rattle.std.specs.List.{list_any}
+use Rattle.desk_store.proofs.ToldCalls.{ends_well}
+use Rattle.desk_store.specs.Represents.{IsLegible, RepresentsDeskAlone}
+use Rattle.office_tables.proofs.CallEnds.{same_fault, tells_not}
+use Rattle.refinement.specs.DayRules.{has_no_row}
+use Rattle.refinement.proofs.DayRules.{lacks_is}
+use Rattle.refinement.proofs.day_rules.is_one_without_seat.Goals as goal
+
+pub returns-in_err-taken : goal.returns-in_err-taken
+returns-in_err-taken g c =
+    let e = c.from_residual.ensures in
+    let told = c.in_err-taken.ensures.tells in
+    record {
+      tells = tells_not g.S.Store RepresentsDeskAlone IsLegible (λ _. ⊤) c.args.conn.now c.seats.new.conn c.from_residual.result (λ _ d yes. yes ≡ list_any (has_no_row d) c.args.loans.now) c.in_err-taken.field-0.0
+          (same_fault c.from_residual.result c.in_err-taken.field-0.0 e.0 e.1) told.cut told.faults;
+    }
+
+pub returns : goal.returns
+returns g c =
+    let told = c.in_ok-taken.ensures.tells in
+    record {
+      tells = ends_well RepresentsDeskAlone IsLegible (λ _. ⊤) g.S.Store c.args.conn.now c.args.conn.now c.seats.new.conn (λ _ d yes. yes ≡ list_any (has_no_row d) c.args.loans.now)
+          told.looks c.lacks_seat.result
+          (λ clean d shown. c.lacks_seat.ensures ∙ lacks_is d c.args.loans.now c.deref.result.now (c.deref.ensures.value ∙ told.answers clean tt d shown));
+    }

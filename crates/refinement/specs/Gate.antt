@@ -1,0 +1,77 @@
+-- The gate, as it is read from tables.
+use Rattle.std.specs.Prelude.{◌≡◌, ℕ, Bool, false, not, List, filter, ◌++◌, Option, Some, None, Ok, Err, option_map, option_to_list, ◌&&◌, nat_eq}
+use Rattle.std.specs.List.{last_or, list_any}
+use Rattle.tree_core.specs.Forest.{Forest, branch, path}
+use Rattle.catalogue_core.specs.Housing.{is_some_there}
+use Rattle.catalogue_core.specs.Marking.{names}
+use Rattle.catalogue_core.specs.Units.{Unit, has_id}
+use Rattle.catalogue_statements.specs.Rows.{HousingRow}
+use Rattle.desk_core.specs.declared.refusal.Refusal.{Refusal}
+use Rattle.desk_store.specs.declared.holdings.Loan.{Loan}
+use Rattle.office_core.specs.Rules.{Reply, gate, is_kept_from_holder, kept}
+use Rattle.office_core.specs.State.{State, opens}
+use Rattle.office_core.specs.Words.{first_that}
+use Rattle.office_core.specs.declared.done.Done.{Done}
+
+-- the container is not open to the reader who has it
+abbrev pub is_closed_to : State → Loan → Bool
+is_closed_to s loan = not (opens s loan.ticket loan.container)
+
+-- the container of the first of these that is not open to the reader who has it
+abbrev pub first_closed : State → List Loan → Option ℕ
+first_closed s loans = option_map (λ (loan : Loan). loan.container) (first_that (is_closed_to s) loans)
+
+-- the refusal, or what was done
+abbrev pub unless_refused : Option Refusal → Done → Reply
+unless_refused None done = Ok done
+unless_refused (Some why) done = Err why
+
+-- what is told of a change that led to this state: what was done, unless the gate refuses it
+abbrev pub gated : State → Done → Reply
+gated s done = unless_refused (gate s) done
+
+-- ---- a change within a branch
+
+abbrev pub names_some : Unit → Bool
+names_some unit = is_some_there unit.values.boxes
+
+-- The units whose containers hold something of the branch: its units, and the one that the first of them has its containers
+-- from, which is the nearest above, itself among them, that names some.
+abbrev pub near : ℕ → Forest Unit → List Unit
+near u f = branch (has_id u) f ++ option_to_list (last_or None (filter names_some (path (has_id u) f)))
+
+-- one of these units names the container
+abbrev pub is_named_near : ℕ → State → ℕ → Bool
+is_named_near u s c = list_any (names s.catalogue.containers c) (near u s.catalogue.forest)
+
+-- What is out is open to the reader who has it, but where something of the branch lies in the container.
+abbrev pub OthersAreOpen : ℕ → State → Type 0
+OthersAreOpen u s = (c : ℕ) → is_named_near u s c ≡ false → is_kept_from_holder s c ≡ false
+
+-- ---- what is read of it
+
+abbrev pub is_one_of : ℕ → List ℕ → Bool
+is_one_of n ns = list_any (λ m. nat_eq m n) ns
+
+-- The first of these that is not open to the reader who has it is the first of all that is out: no other need be asked.
+abbrev pub AreEnough : List Loan → State → Type 0
+AreEnough loans s = kept s ≡ first_closed s loans
+
+-- These are those of the loans whose containers pass some test, which each container passes in which something of the branch
+-- lies.
+pub record AreAsked (u : ℕ) (s : State) (loans asked : List Loan) : Type 0 where
+  pub test : ℕ → Bool
+  pub near : (c : ℕ) → test c ≡ false → is_named_near u s c ≡ false
+  pub are : asked ≡ filter (λ (loan : Loan). test loan.container) loans
+
+-- these are the containers in which something of the branch lies
+abbrev pub AreNear : ℕ → State → List ℕ → Type 0
+AreNear u s found = (c : ℕ) → is_one_of c found ≡ is_named_near u s c
+
+-- the row says that the unit names the container
+abbrev pub says_so : ℕ → ℕ → HousingRow → Bool
+says_so n unit h = nat_eq unit h.unit && nat_eq h.container n
+
+-- a row says that the unit names some container
+abbrev pub has_row : List HousingRow → ℕ → Bool
+has_row housings unit = list_any (λ (h : HousingRow). nat_eq unit h.unit) housings

@@ -1,0 +1,9 @@
+pub mod Represents
+pub mod CommandSteps
+pub mod QueryAnswers
+pub mod Allowed
+pub mod Sitters
+pub mod Judging
+pub mod Openness
+pub mod Gate
+pub mod DayRules

@@ -1,0 +1,118 @@
+//! Whether a container is open to a reader.
+
+ghost use Rattle.std.specs.Prelude.{◌≡◌, ⊤, IfOk, map};
+ghost use Rattle.std.specs.List.{list_any};
+ghost use Rattle.sqlite.specs.Held.{state};
+ghost use Rattle.catalogue_core.specs.OpenMarks.{is_opened_above, with_permit};
+ghost use Rattle.office_core.specs.State.{opens};
+ghost use Rattle.office_tables.specs.Calls.{Answers};
+ghost use Rattle.office_tables.specs.Step.{InTransaction};
+ghost use Rattle.refinement.specs.Judging.{CanBeJudged, RepresentsWhole};
+ghost use Rattle.refinement.specs.Openness.{TellsAllClean, TellsClean, allows};
+
+use catalogue_store::{Attached, Places, contents_marks};
+use desk_store::{Permit, permits};
+use isad_core::Day;
+use office_tables::StoreFault;
+use office_tables::value::NO_NUMBER;
+use sqlite::{Alter, Connection};
+use std::alloc::{AllocError, Global};
+use tree_core::{Mark, clean_contents, clean_path};
+
+/// Whether one of these permits is for the unit and valid on this day.
+fn is_permitted(permits: &[Permit], unit: u64, today: Day) -> bool
+    ensures { result ≡ allows today permits.now unit }
+{
+    permits.iter().any(|permit| permit.unit == unit && today.number() <= permit.until.number())
+}
+
+/// The marks with whether there is a permit for the unit on this day.
+fn with_permits(
+    alloc: Global,
+    marks: &[Mark],
+    permits: &[Permit],
+    today: Day,
+) -> Result<Vec<Mark>, AllocError>
+    ensures { IfOk result (λ v. v.items ≡ map (with_permit (allows today permits.now)) marks.now) }
+{
+    let mut all = Vec::new(alloc);
+    for mark in marks {
+        let permit = is_permitted(permits, mark.id, today);
+        all.push(Mark { permit, ..*mark })?;
+    }
+    Ok(all)
+}
+
+/// Whether some mark has a permit.
+fn has_permit(marks: &[Mark]) -> bool
+    ensures { result ≡ list_any (λ mark. mark.permit) marks.now }
+{
+    marks.iter().any(|mark| mark.permit)
+}
+
+/// Whether a permit stands on the path above its last unit.
+fn is_permitted_above(path: &[Mark]) -> bool
+    ensures { result ≡ is_opened_above path.now }
+{
+    match path.split_last() {
+        None => false,
+        Some((_, above)) => has_permit(above),
+    }
+}
+
+/// Whether nothing withholds the unit with these marks, or what takes its containers from it.
+fn is_clean(
+    alloc: Global,
+    attached: &Attached,
+    permits: &[Permit],
+    today: Day,
+) -> Result<bool, AllocError>
+    ensures { IfOk result (TellsClean today permits.now attached.now) }
+{
+    let path = with_permits(alloc, &attached.path, permits, today)?;
+    let branch = with_permits(alloc, &attached.branch, permits, today)?;
+    let above = is_permitted_above(&path);
+    let day = today.number();
+    let is_within = clean_contents(&branch, day, above);
+    Ok(clean_path(&path, day) && is_within)
+}
+
+/// Whether that holds of all units with these marks.
+fn are_clean(
+    alloc: Global,
+    found: &[Attached],
+    permits: &[Permit],
+    today: Day,
+) -> Result<bool, AllocError>
+    ensures { IfOk result (TellsAllClean today permits.now found.now) }
+{
+    for attached in found {
+        if !is_clean(alloc, attached, permits, today)? {
+            return Ok(false);
+        }
+    }
+    Ok(true)
+}
+
+/// Whether a container is open on this day to the reader with this ticket. Who has no ticket is the public.
+pub fn is_open_to<P: Places, S: Alter>(
+    alloc: Global,
+    conn: &mut Connection<S>,
+    container: u64,
+    ticket: u64,
+    today: Day,
+) -> Result<bool, StoreFault>
+    requires inside { InTransaction P.version (state S.Store conn.old) }
+    ensures tells { Answers S.Store (RepresentsWhole P.represents P.version) CanBeJudged conn.old conn.new result (λ _. ⊤)
+        (λ _ s yes. CanBeJudged s → today ≡ s.day → yes ≡ opens s ticket container) }
+{
+    if container >= NO_NUMBER {
+        return Ok(false);
+    }
+    let found = contents_marks::<P, S>(alloc, conn, container)?;
+    if found.is_empty() {
+        return Ok(false);
+    }
+    let permits = permits(alloc, conn, ticket)?;
+    Ok(are_clean(alloc, &found, &permits, today)?)
+}

@@ -1,0 +1,123 @@
+//! The rules of the day on what is out: who has it sits, has no more than fills the hands, and may see what lies in it.
+
+ghost use Rattle.std.specs.Prelude.{◌≡◌, ⊤, IfOk, IsPermutation, map, nat_eq, not};
+ghost use Rattle.std.specs.List.{list_any};
+ghost use Rattle.std.specs.List.Sorted.{IsNonDecreasing};
+ghost use Rattle.sqlite.specs.Held.{state};
+ghost use Rattle.desk_store.specs.declared.holdings.Loan.{Loan as Lent};
+ghost use Rattle.desk_store.specs.declared.taken_seats.TakenSeat.{TakenSeat as Taken};
+ghost use Rattle.desk_store.specs.Represents.{RepresentsDeskAlone, IsLegible};
+ghost use Rattle.office_tables.specs.Calls.{Answers};
+ghost use Rattle.office_tables.specs.Step.{InOffice, InTransaction};
+ghost use Rattle.refinement.specs.DayRules.{are_against_rules as are_against_rules_of, breaks_day_rules};
+ghost use Rattle.refinement.specs.DayRules.{has_no_row, has_too_many, stands_over};
+ghost use Rattle.refinement.specs.Judging.{CanBeJudged, RepresentsWhole};
+
+use crate::gate::first_closed;
+use catalogue_store::Places;
+use desk_store::{Loan, TakenSeat, issued, seats};
+use isad_core::Day;
+use office_tables::StoreFault;
+use sqlite::{Alter, Connection};
+use std::alloc::{AllocError, Global};
+
+/// Who has these containers: a ticket for each, ascending.
+fn holders(alloc: Global, loans: &[Loan]) -> Result<Vec<u64>, AllocError>
+    ensures same { IfOk result (λ tickets. IsPermutation (map (λ (loan : Lent). loan.ticket) loans.now) tickets.items) }
+    ensures rise { IfOk result (λ tickets. IsNonDecreasing tickets.items) }
+{
+    let mut tickets = loans
+        .iter()
+        .map(|loan| loan.ticket)
+        .collect::<Vec<u64>>(alloc)?;
+    tickets.sort_unstable();
+    Ok(tickets)
+}
+
+/// Whether one of these numbers stands there more than so many times. They ascend, so that equal ones stand side by
+/// side.
+fn stands_over(numbers: &[u64], most: usize) -> bool
+    ensures { IsNonDecreasing numbers.now → result ≡ stands_over most numbers.now }
+{
+    for i in most..numbers.len() {
+        if numbers[i - most] == numbers[i] {
+            return true;
+        }
+    }
+    false
+}
+
+/// Whether a reader has more of these containers than fill the hands.
+fn are_too_many(alloc: Global, loans: &[Loan], hands: u32) -> Result<bool, AllocError>
+    ensures { IfOk result (λ yes. yes ≡ list_any (has_too_many hands loans.now) loans.now) }
+{
+    let tickets = holders(alloc, loans)?;
+    Ok(stands_over(&tickets, hands as usize))
+}
+
+/// Whether a ticket has one of these seats. There are no more of them than an office has.
+fn has_seat(taken: &[TakenSeat], ticket: u64) -> bool
+    ensures { result ≡ list_any (λ (seat : Taken). nat_eq ticket seat.ticket) taken.now }
+{
+    taken.iter().any(|seat| ticket == seat.ticket)
+}
+
+/// Whether one who has these containers has none of these seats.
+fn lacks_seat(loans: &[Loan], taken: &[TakenSeat]) -> bool
+    ensures { result ≡ list_any (λ (loan : Lent). not (list_any
+        (λ (seat : Taken). nat_eq loan.ticket seat.ticket) taken.now)) loans.now }
+{
+    loans.iter().any(|loan| !has_seat(taken, loan.ticket))
+}
+
+/// Whether one who has these containers does not sit.
+fn is_one_without_seat<S: Alter>(
+    alloc: Global,
+    conn: &mut Connection<S>,
+    loans: &[Loan],
+) -> Result<bool, StoreFault>
+    requires inside { InOffice (state S.Store conn.old) }
+    ensures tells { Answers S.Store RepresentsDeskAlone IsLegible conn.old conn.new result (λ _. ⊤)
+        (λ _ d yes. yes ≡ list_any (has_no_row d) loans.now) }
+{
+    let taken = seats(alloc, conn)?;
+    Ok(lacks_seat(loans, &taken))
+}
+
+/// Whether one of these containers is out against a rule of the day, where they are all that are out.
+fn are_against_rules<P: Places, S: Alter>(
+    alloc: Global,
+    conn: &mut Connection<S>,
+    loans: &[Loan],
+    hands: u32,
+    today: Day,
+) -> Result<bool, StoreFault>
+    requires inside { InTransaction P.version (state S.Store conn.old) }
+    ensures tells { Answers S.Store (RepresentsWhole P.represents P.version) CanBeJudged conn.old conn.new result (λ _. ⊤)
+        (λ _ s broken. CanBeJudged s → today ≡ s.day → hands ≡ s.settings.hands
+        → broken ≡ are_against_rules_of s loans.now) }
+{
+    if are_too_many(alloc, loans, hands)? {
+        return Ok(true);
+    }
+    if is_one_without_seat(alloc, conn, loans)? {
+        return Ok(true);
+    }
+    let closed = first_closed::<P, S>(alloc, conn, loans, today)?;
+    Ok(closed.is_some())
+}
+
+/// Whether some container is out against a rule of the day.
+pub fn breaks_day_rules<P: Places, S: Alter>(
+    alloc: Global,
+    conn: &mut Connection<S>,
+    hands: u32,
+    today: Day,
+) -> Result<bool, StoreFault>
+    requires inside { InTransaction P.version (state S.Store conn.old) }
+    ensures tells { Answers S.Store (RepresentsWhole P.represents P.version) CanBeJudged conn.old conn.new result (λ _. ⊤)
+        (λ _ s broken. CanBeJudged s → today ≡ s.day → hands ≡ s.settings.hands → broken ≡ breaks_day_rules s) }
+{
+    let loans = issued(alloc, conn)?;
+    are_against_rules::<P, S>(alloc, conn, &loans, hands, today)
+}

@@ -1,0 +1,69 @@
+//! After a change nothing that is out may be withheld from the reader who has it.
+
+ghost use Rattle.std.specs.Prelude.{◌≡◌, ⊤};
+ghost use Rattle.sqlite.specs.Held.{state};
+ghost use Rattle.office_core.specs.Rules.{kept};
+ghost use Rattle.office_tables.specs.Calls.{Answers};
+ghost use Rattle.office_tables.specs.Step.{InTransaction};
+ghost use Rattle.refinement.specs.Gate.{first_closed as first_closed_of, gated};
+ghost use Rattle.refinement.specs.Judging.{CanBeJudged, RepresentsWhole};
+
+use crate::access::is_open_to;
+use catalogue_store::Places;
+use desk_store::{Loan, issued};
+use isad_core::Day;
+use office_core::{Done, Refusal};
+use office_tables::StoreFault;
+use sqlite::{Alter, Connection};
+use std::alloc::Global;
+
+/// The first of these containers that is not open on this day to the reader who has it.
+pub(crate) fn first_closed<P: Places, S: Alter>(
+    alloc: Global,
+    conn: &mut Connection<S>,
+    loans: &[Loan],
+    today: Day,
+) -> Result<Option<u64>, StoreFault>
+    requires inside { InTransaction P.version (state S.Store conn.old) }
+    ensures tells { Answers S.Store (RepresentsWhole P.represents P.version) CanBeJudged conn.old conn.new result (λ _. ⊤)
+        (λ _ s found. CanBeJudged s → today ≡ s.day → found ≡ first_closed_of s loans.now) }
+{
+    for loan in loans {
+        let loan = *loan;
+        if !is_open_to::<P, S>(alloc, conn, loan.container, loan.ticket, today)? {
+            return Ok(Some(loan.container));
+        }
+    }
+    Ok(None)
+}
+
+/// The lowest container that is out and not open on this day to the reader who has it.
+pub fn kept_back<P: Places, S: Alter>(
+    alloc: Global,
+    conn: &mut Connection<S>,
+    today: Day,
+) -> Result<Option<u64>, StoreFault>
+    requires inside { InTransaction P.version (state S.Store conn.old) }
+    ensures tells { Answers S.Store (RepresentsWhole P.represents P.version) CanBeJudged conn.old conn.new result (λ _. ⊤)
+        (λ _ s found. CanBeJudged s → today ≡ s.day → found ≡ kept s) }
+{
+    let loans = issued(alloc, conn)?;
+    first_closed::<P, S>(alloc, conn, &loans, today)
+}
+
+/// What is told of a change that the tables show: what was done, unless it withholds what is out.
+pub fn pass<P: Places, S: Alter>(
+    alloc: Global,
+    conn: &mut Connection<S>,
+    today: Day,
+    done: Done,
+) -> Result<Result<Done, Refusal>, StoreFault>
+    requires inside { InTransaction P.version (state S.Store conn.old) }
+    ensures tells { Answers S.Store (RepresentsWhole P.represents P.version) CanBeJudged conn.old conn.new result (λ _. ⊤)
+        (λ _ s reply. CanBeJudged s → today ≡ s.day → reply ≡ gated s done) }
+{
+    match kept_back::<P, S>(alloc, conn, today)? {
+        Some(container) => Ok(Err(Refusal::WithReader { container })),
+        None => Ok(Ok(done)),
+    }
+}

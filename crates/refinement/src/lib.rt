@@ -1,0 +1,12 @@
+//! When the tables of a store show an office, and what carrying out a command does to them.
+#![tactic(auto)]
+
+mod access;
+mod branch_gate;
+mod day_rules;
+mod gate;
+
+pub use access::is_open_to;
+pub use branch_gate::{loans_near, pass_near, pass_of};
+pub use day_rules::breaks_day_rules;
+pub use gate::{kept_back, pass};

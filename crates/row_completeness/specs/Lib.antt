@@ -1,0 +1,2 @@
+pub mod WholeRows
+pub mod WholePlaces

@@ -1,0 +1,29 @@
+-- The rows of the places that can be read, whether they can be those of an office, and what they show.
+use Rattle.std.specs.Prelude.{◌≡◌, ℕ, Bool, false, ◌||◌, not, List, length}
+use Rattle.std.specs.List.{AllByRecursion}
+use Rattle.sqlite.specs.Order.{Row, column}
+use Rattle.sqlite.specs.Tree.{Trees, IsTable}
+use Rattle.sqlite.specs.declared.types.Value.TheVariants.{Null}
+use Rattle.tree_core.specs.Forest.{Forest}
+use Rattle.tree_core.specs.Versions.{Version}
+use Rattle.catalogue_core.specs.CatalogueCauses.{are_good_places}
+use Rattle.catalogue_core.specs.CatalogueRows.{places_said}
+use Rattle.office_tables.specs.Schema as tables
+use Rattle.row_decoding.specs.TableRows.{places_in, places_are_unread}
+
+-- some row cannot be read, or those that can are no office's
+abbrev pub places_are_doubtful : Version → Trees → Bool
+places_are_doubtful version db = places_are_unread version db || not (are_good_places version (places_in version db))
+
+-- ---- what rows without a doubt show
+
+-- They stand by their numbers, and each has its four cells, with null where its number would stand again.
+pub record AreWholePlaces (rows : List Row) : Type 0 where
+  pub rise : IsTable rows
+  pub cells : AllByRecursion (λ (row : Row). length row ≡ 4) rows
+  pub keys : AllByRecursion (λ (row : Row). column row 1 ≡ Null) rows
+
+-- whole rows that can be an office's show the forest that they say
+abbrev pub RepresentsWhatItSays : (Trees → Forest ℕ → Type 0) → Version → Trees → Type 0
+RepresentsWhatItSays represents version db =
+    AreWholePlaces (db tables.link.tree) → places_are_doubtful version db ≡ false → represents db (places_said (places_in version db))

@@ -1,0 +1,63 @@
+-- Rows of doubtful origin, as they are read.
+use Rattle.std.specs.Prelude.{◌≡◌, ℕ, Bool, not, List, [], ◌∷◌, map, filter_map, Option}
+use Rattle.std.specs.declared.cmp.Ordering.{Ordering}
+use Rattle.std.specs.declared.cmp.Ordering.TheVariants.{Equal}
+use Rattle.std.specs.List.Sorted.{IsPermutation, IsSorted}
+use Rattle.sqlite.specs.declared.types.Value.TheVariants.{Null}
+use Rattle.sqlite.specs.Order.{Row, column}
+use Rattle.sqlite.specs.State.{State}
+use Rattle.sqlite.specs.Table.{Table}
+use Rattle.sqlite_value.specs.Order.{value_cmp}
+use Rattle.desk_core.specs.DeskRows.{SeatRow, OrderRow, HoldingRow, RunRow, RunLineRow, PermitRow}
+use Rattle.office_tables.specs.Cells.{has_unread, number_in}
+use Rattle.row_decoding.specs.declared.decoded_rows.Gathered.{Gathered}
+use Rattle.office_tables.specs.DeskCells.{read_seat, read_order, read_holding, read_run, read_run_line, read_permit}
+
+-- what was kept of rows: those that can be read, as they stand, and whether all of them can
+pub record AreGathered {X Told : Type 0} (told : X → Told) (says : Row → Option Told) (rows : List Row) (kept : List X) (are_read : Bool) : Type 0 where
+  pub are : map told kept ≡ filter_map says rows
+  pub all : are_read ≡ not (has_unread says rows)
+
+-- ---- what the cells say that a query shows of a row: they are put back to their places in the table's row
+
+abbrev pub said_seat : Row → Option SeatRow
+said_seat cells = read_seat (column cells 0 ∷ Null ∷ column cells 1 ∷ [])
+
+abbrev pub said_order : Row → Option OrderRow
+said_order cells = read_order (column cells 0 ∷ Null ∷ column cells 1 ∷ column cells 2 ∷ column cells 3 ∷ column cells 4 ∷ [])
+
+abbrev pub said_holding : Row → Option HoldingRow
+said_holding cells = read_holding (column cells 0 ∷ Null ∷ column cells 1 ∷ column cells 2 ∷ [])
+
+abbrev pub said_run : Row → Option RunRow
+said_run cells = read_run (column cells 0 ∷ Null ∷ column cells 1 ∷ [])
+
+abbrev pub said_run_line : Row → Option RunLineRow
+said_run_line cells = read_run_line (Null ∷ column cells 0 ∷ column cells 1 ∷ column cells 2 ∷ column cells 3 ∷ [])
+
+abbrev pub said_permit : Row → Option PermitRow
+said_permit cells = read_permit (Null ∷ column cells 0 ∷ column cells 1 ∷ column cells 2 ∷ [])
+
+-- the number of a row whose key is a number
+abbrev pub read_number : Row → Option ℕ
+read_number row = number_in (column row 0)
+
+-- ---- the rows of a table
+
+abbrev pub by_rowid : Row → Row → Ordering
+by_rowid a b = value_cmp (column a 0) (column b 0)
+
+abbrev pub in_any_order : Row → Row → Ordering
+in_any_order a b = Equal
+
+-- These are the rows of the table that can be read, in such an order, and whether all of them can.
+pub record AreRead {Told : Type 0} (comes : Row → Row → Ordering) (reads : Row → Option Told) (table : List Row) (rows : List Told) (are_read : Bool) : Type 0 where
+  pub stored : List Row
+  pub same : IsPermutation table stored
+  pub sorted : IsSorted comes stored
+  pub are : rows ≡ filter_map reads stored
+  pub all : are_read ≡ not (has_unread reads table)
+
+-- the same of a table of the state, and of what was gathered of it
+abbrev pub IsTable : {X Told : Type 0} → (Row → Row → Ordering) → (Row → Option Told) → Table → (X → Told) → State → Gathered X → Type 0
+IsTable comes reads table told s all = AreRead comes reads (s.now.trees table.tree) (map told all.rows.items) all.are_read

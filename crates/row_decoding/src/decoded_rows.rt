@@ -1,0 +1,81 @@
+//! Rows of doubtful origin, as far as they can be read.
+
+ghost use Rattle.std.specs.Prelude.{◌≡◌, true, [], IfOk, IfErr};
+ghost use Rattle.sqlite.specs.Held.{state};
+ghost use Rattle.sqlite.specs.State.{HasCleanDisk};
+ghost use Rattle.office_tables.specs.Asking.{IsOurQuery, Reads, Gathers, StopsShort};
+ghost use Rattle.row_decoding.specs.Readings.{AreGathered};
+
+use office_tables::{Gathering, StoreFault, gather};
+use sqlite::{Alter, Connection, Row};
+use std::alloc::Global;
+
+/// What a row says, whatever its cells are.
+pub trait FromCells {
+    ghost use Rattle.std.specs.Prelude.{◌≡◌, Option, option_map};
+    ghost use Rattle.sqlite.specs.Order.{Row};
+
+    /// What it is in the definitions of the desk's causes.
+    ghost Told: { Type 0 };
+
+    ghost told: { Self → Told };
+
+    /// What the cells of a row of the query say.
+    ghost says: { Row → Option Told };
+
+    /// Reads a row, where it can be read.
+    fn read(row: &Row) -> Option<Self>
+    where
+        Self: Sized,
+        ensures { option_map told result ≡ says row.now };
+}
+
+/// The rows of a query that can be read, one after the other.
+#[derive(Drop)]
+pub struct Gathered<R> {
+    pub rows: Vec<R>,
+    /// Each row could be read.
+    pub are_read: bool,
+}
+
+impl<R: FromCells + Drop> Gathering for Gathered<R> {
+    ghost use Rattle.row_decoding.specs.Readings.{AreGathered};
+
+    ghost holds = { λ rows all. AreGathered R.told R.says rows all.rows.items all.are_read };
+
+    fn take(&mut self, row: &Row) -> Result<(), StoreFault> {
+        match R::read(row) {
+            Some(read) => self.rows.push(read)?,
+            None => self.are_read = false,
+        }
+        Ok(())
+    }
+}
+
+/// No rows yet.
+fn no_rows<R>(alloc: Global) -> Gathered<R>
+    ensures nothing { result.rows.items ≡ [] }
+    ensures read { result.are_read ≡ true }
+{
+    Gathered {
+        rows: Vec::new(alloc),
+        are_read: true,
+    }
+}
+
+/// The rows of a query of ours, as far as they can be read.
+pub fn read_rows<R: FromCells + Drop, S: Alter>(
+    alloc: Global,
+    conn: &mut Connection<S>,
+    sql: &str,
+) -> Result<Gathered<R>, StoreFault>
+    requires ours { IsOurQuery sql.now (state S.Store conn.old) }
+    ensures reads { Reads (state S.Store conn.old) (state S.Store conn.new) result }
+    ensures gathers { HasCleanDisk (state S.Store conn.new)
+        → IfOk result (Gathers (λ rows all. AreGathered R.told R.says rows all.rows.items all.are_read) sql.now []
+        (state S.Store conn.old) (state S.Store conn.new)) }
+    ensures stops { HasCleanDisk (state S.Store conn.new)
+        → IfErr result (StopsShort sql.now [] (state S.Store conn.old) (state S.Store conn.new)) }
+{
+    gather(conn, sql, no_rows(alloc))
+}

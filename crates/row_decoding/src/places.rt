@@ -1,0 +1,143 @@
+//! The rows of the tables of places, where they can be an office's.
+
+ghost use Rattle.std.specs.Prelude.{◌≡◌, IfOk, true};
+ghost use Rattle.std.specs.Option.{option_map_or};
+ghost use Rattle.sqlite.specs.Held.{state};
+ghost use Rattle.sqlite.specs.State.{HasCleanDisk};
+ghost use Rattle.tree_core.specs.Versions.{Links, Spans};
+ghost use Rattle.catalogue_core.specs.CatalogueCauses as causes;
+ghost use Rattle.office_tables.specs.Asking.{Reads};
+ghost use Rattle.office_tables.specs.Faults.{FaultsHaveCause};
+ghost use Rattle.office_tables.specs.Schema as tables;
+ghost use Rattle.office_tables.specs.Step.{InTransaction};
+ghost use Rattle.row_decoding.specs.PlaceReadings.{only, good_link, good_span, by_first_number};
+ghost use Rattle.row_decoding.specs.Readings.{IsTable, by_rowid};
+
+use crate::cells::{cell, number_in, number_or_null_in};
+use crate::decoded_rows::{FromCells, Gathered, read_rows};
+use office_tables::StoreFault;
+use sqlite::{Alter, Connection, Row};
+use std::alloc::Global;
+use tree_core::{Link, Span};
+
+/// Whether a unit may have the number.
+fn is_unit_number(n: u64) -> bool
+    ensures { result ≡ causes.is_unit_number n }
+{
+    1 <= n && n <= 100_000_000
+}
+
+/// Whether a parent may be this one, or none.
+fn may_be_parent(parent: Option<u64>) -> bool
+    ensures { result ≡ option_map_or causes.is_unit_number parent true }
+{
+    match parent {
+        None => true,
+        Some(n) => is_unit_number(n),
+    }
+}
+
+/// Whether the number of a place fits into 32 bits.
+fn is_place_number(n: u64) -> bool
+    ensures { result ≡ causes.is_place_number n }
+{
+    n < 1 << 32
+}
+
+/// The link of these numbers, where it may have them.
+fn link_of(id: u64, parent: Option<u64>, ord: u64) -> Option<Link>
+    ensures { result ≡ only causes.is_good_link (record { id = id; parent = parent; ord = ord }) }
+{
+    if is_unit_number(id) && may_be_parent(parent) && is_place_number(ord) {
+        Some(Link {
+            id,
+            parent,
+            ord: ord as u32,
+        })
+    } else {
+        None
+    }
+}
+
+/// The span of these numbers, where it may have them.
+fn span_of(id: u64, lft: u64, rgt: u64) -> Option<Span>
+    ensures { result ≡ only causes.is_good_span (record { id = id; lft = lft; rgt = rgt }) }
+{
+    if is_unit_number(id) && is_place_number(lft) && is_place_number(rgt) {
+        Some(Span {
+            id,
+            lft: lft as u32,
+            rgt: rgt as u32,
+        })
+    } else {
+        None
+    }
+}
+
+impl FromCells for Link {
+    ghost use Rattle.tree_core.specs.declared.rows.Link.{Link as ToldLink};
+    ghost use Rattle.row_decoding.specs.PlaceReadings.{said_link};
+
+    ghost Told = { ToldLink };
+
+    ghost told = { λ link. link };
+
+    ghost says = { said_link };
+
+    fn read(row: &Row) -> Option<Link> {
+        let id = number_in(cell(row, 0))?;
+        let parent = number_or_null_in(cell(row, 1))?;
+        let ord = number_in(cell(row, 2))?;
+        link_of(id, parent, ord)
+    }
+}
+
+impl FromCells for Span {
+    ghost use Rattle.tree_core.specs.declared.rows.Span.{Span as ToldSpan};
+    ghost use Rattle.row_decoding.specs.PlaceReadings.{said_span};
+
+    ghost Told = { ToldSpan };
+
+    ghost told = { λ span. span };
+
+    ghost says = { said_span };
+
+    fn read(row: &Row) -> Option<Span> {
+        let id = number_in(cell(row, 0))?;
+        let lft = number_in(cell(row, 1))?;
+        let rgt = number_in(cell(row, 2))?;
+        span_of(id, lft, rgt)
+    }
+}
+
+/// The links, by unit.
+pub fn links<S: Alter>(
+    alloc: Global,
+    conn: &mut Connection<S>,
+) -> Result<Gathered<Link>, StoreFault>
+    requires inside { InTransaction Links (state S.Store conn.old) }
+    ensures reads { Reads (state S.Store conn.old) (state S.Store conn.new) result }
+    ensures tells { HasCleanDisk (state S.Store conn.new)
+        → IfOk result (IsTable by_rowid good_link tables.link (λ link. link) (state S.Store conn.old)) }
+    ensures faults { FaultsHaveCause (state S.Store conn.old) (state S.Store conn.new) result }
+{
+    read_rows(alloc, conn, "SELECT id, parent, ord FROM link ORDER BY id")
+}
+
+/// The spans, by their first number, and by unit where that is the same.
+pub fn spans<S: Alter>(
+    alloc: Global,
+    conn: &mut Connection<S>,
+) -> Result<Gathered<Span>, StoreFault>
+    requires inside { InTransaction Spans (state S.Store conn.old) }
+    ensures reads { Reads (state S.Store conn.old) (state S.Store conn.new) result }
+    ensures tells { HasCleanDisk (state S.Store conn.new)
+        → IfOk result (IsTable by_first_number good_span tables.span (λ span. span) (state S.Store conn.old)) }
+    ensures faults { FaultsHaveCause (state S.Store conn.old) (state S.Store conn.new) result }
+{
+    read_rows(
+        alloc,
+        conn,
+        "SELECT id, lft, rgt FROM span ORDER BY lft, id",
+    )
+}

@@ -1,0 +1,289 @@
+//! The rows of each table of the desk but the readers', and the numbers of units and containers.
+
+ghost use Rattle.std.specs.Prelude.{IfOk};
+ghost use Rattle.sqlite.specs.Held.{state};
+ghost use Rattle.sqlite.specs.State.{HasCleanDisk};
+ghost use Rattle.office_tables.specs.Asking.{Reads};
+ghost use Rattle.office_tables.specs.DeskCells as cells;
+ghost use Rattle.office_tables.specs.Faults.{FaultsHaveCause};
+ghost use Rattle.office_tables.specs.Schema as tables;
+ghost use Rattle.office_tables.specs.Step.{InOffice};
+ghost use Rattle.row_decoding.specs.Readings.{IsTable, by_rowid, in_any_order, read_number};
+ghost use Rattle.desk_core.specs.RowRecords.{seat_row, order_row, holding_row, run_row, run_line_row, permit_row};
+
+use crate::cells::{cell, number_in, number_or_null_in, whole_in};
+use crate::decoded_rows::{FromCells, Gathered, read_rows};
+use desk_core::consistency::{HoldingRow, OrderRow, PermitRow, RunLineRow, RunRow, SeatRow};
+use office_tables::StoreFault;
+use sqlite::{Alter, Connection, Row};
+use std::alloc::Global;
+
+impl FromCells for u64 {
+    ghost use Rattle.std.specs.Prelude.{ℕ};
+    ghost use Rattle.row_decoding.specs.Readings.{read_number};
+
+    ghost Told = { ℕ };
+
+    ghost told = { λ n. n };
+
+    ghost says = { read_number };
+
+    fn read(row: &Row) -> Option<u64> {
+        number_in(cell(row, 0))
+    }
+}
+
+impl FromCells for SeatRow {
+    ghost use Rattle.desk_core.specs.DeskRows.{SeatRow as ToldSeatRow};
+    ghost use Rattle.row_decoding.specs.Readings.{said_seat};
+    ghost use Rattle.desk_core.specs.RowRecords.{seat_row};
+
+    ghost Told = { ToldSeatRow };
+
+    ghost told = { seat_row };
+
+    ghost says = { said_seat };
+
+    fn read(row: &Row) -> Option<SeatRow> {
+        let seat = number_in(cell(row, 0))?;
+        let ticket = number_in(cell(row, 1))?;
+        Some(SeatRow { seat, ticket })
+    }
+}
+
+impl FromCells for PermitRow {
+    ghost use Rattle.desk_core.specs.DeskRows.{PermitRow as ToldPermitRow};
+    ghost use Rattle.row_decoding.specs.Readings.{said_permit};
+    ghost use Rattle.desk_core.specs.RowRecords.{permit_row};
+
+    ghost Told = { ToldPermitRow };
+
+    ghost told = { permit_row };
+
+    ghost says = { said_permit };
+
+    fn read(row: &Row) -> Option<PermitRow> {
+        let ticket = number_in(cell(row, 0))?;
+        let unit = number_in(cell(row, 1))?;
+        let until = whole_in(cell(row, 2))?;
+        Some(PermitRow {
+            ticket,
+            unit,
+            until,
+        })
+    }
+}
+
+impl FromCells for OrderRow {
+    ghost use Rattle.desk_core.specs.DeskRows.{OrderRow as ToldOrderRow};
+    ghost use Rattle.row_decoding.specs.Readings.{said_order};
+    ghost use Rattle.desk_core.specs.RowRecords.{order_row};
+
+    ghost Told = { ToldOrderRow };
+
+    ghost told = { order_row };
+
+    ghost says = { said_order };
+
+    fn read(row: &Row) -> Option<OrderRow> {
+        let id = number_in(cell(row, 0))?;
+        let ticket = number_in(cell(row, 1))?;
+        let container = number_in(cell(row, 2))?;
+        let day = whole_in(cell(row, 3))?;
+        let state = number_in(cell(row, 4))?;
+        Some(OrderRow {
+            id,
+            ticket,
+            container,
+            day,
+            state,
+        })
+    }
+}
+
+impl FromCells for HoldingRow {
+    ghost use Rattle.desk_core.specs.DeskRows.{HoldingRow as ToldHoldingRow};
+    ghost use Rattle.row_decoding.specs.Readings.{said_holding};
+    ghost use Rattle.desk_core.specs.RowRecords.{holding_row};
+
+    ghost Told = { ToldHoldingRow };
+
+    ghost told = { holding_row };
+
+    ghost says = { said_holding };
+
+    fn read(row: &Row) -> Option<HoldingRow> {
+        let container = number_in(cell(row, 0))?;
+        let place = number_in(cell(row, 1))?;
+        let held_by = number_or_null_in(cell(row, 2))?;
+        Some(HoldingRow {
+            container,
+            place,
+            held_by,
+        })
+    }
+}
+
+impl FromCells for RunRow {
+    ghost use Rattle.desk_core.specs.DeskRows.{RunRow as ToldRunRow};
+    ghost use Rattle.row_decoding.specs.Readings.{said_run};
+    ghost use Rattle.desk_core.specs.RowRecords.{run_row};
+
+    ghost Told = { ToldRunRow };
+
+    ghost told = { run_row };
+
+    ghost says = { said_run };
+
+    fn read(row: &Row) -> Option<RunRow> {
+        let id = number_in(cell(row, 0))?;
+        let day = whole_in(cell(row, 1))?;
+        Some(RunRow { id, day })
+    }
+}
+
+impl FromCells for RunLineRow {
+    ghost use Rattle.desk_core.specs.DeskRows.{RunLineRow as ToldRunLineRow};
+    ghost use Rattle.row_decoding.specs.Readings.{said_run_line};
+    ghost use Rattle.desk_core.specs.RowRecords.{run_line_row};
+
+    ghost Told = { ToldRunLineRow };
+
+    ghost told = { run_line_row };
+
+    ghost says = { said_run_line };
+
+    fn read(row: &Row) -> Option<RunLineRow> {
+        let run = number_in(cell(row, 0))?;
+        let container = number_in(cell(row, 1))?;
+        let order_no = number_in(cell(row, 2))?;
+        let ticket = number_in(cell(row, 3))?;
+        Some(RunLineRow {
+            run,
+            container,
+            order_no,
+            ticket,
+        })
+    }
+}
+
+/// The seats.
+pub fn seats<S: Alter>(
+    alloc: Global,
+    conn: &mut Connection<S>,
+) -> Result<Gathered<SeatRow>, StoreFault>
+    requires inside { InOffice (state S.Store conn.old) }
+    ensures reads { Reads (state S.Store conn.old) (state S.Store conn.new) result }
+    ensures tells { HasCleanDisk (state S.Store conn.new)
+        → IfOk result (IsTable in_any_order cells.read_seat tables.seat seat_row (state S.Store conn.old)) }
+    ensures faults { FaultsHaveCause (state S.Store conn.old) (state S.Store conn.new) result }
+{
+    read_rows(alloc, conn, "SELECT seat, ticket FROM seat")
+}
+
+/// The permits.
+pub fn permits<S: Alter>(
+    alloc: Global,
+    conn: &mut Connection<S>,
+) -> Result<Gathered<PermitRow>, StoreFault>
+    requires inside { InOffice (state S.Store conn.old) }
+    ensures reads { Reads (state S.Store conn.old) (state S.Store conn.new) result }
+    ensures tells { HasCleanDisk (state S.Store conn.new)
+        → IfOk result (IsTable in_any_order cells.read_permit tables.permit permit_row (state S.Store conn.old)) }
+    ensures faults { FaultsHaveCause (state S.Store conn.old) (state S.Store conn.new) result }
+{
+    read_rows(alloc, conn, "SELECT ticket, unit, until FROM permit")
+}
+
+/// The orders, by their numbers.
+pub fn orders<S: Alter>(
+    alloc: Global,
+    conn: &mut Connection<S>,
+) -> Result<Gathered<OrderRow>, StoreFault>
+    requires inside { InOffice (state S.Store conn.old) }
+    ensures reads { Reads (state S.Store conn.old) (state S.Store conn.new) result }
+    ensures tells { HasCleanDisk (state S.Store conn.new)
+        → IfOk result (IsTable by_rowid cells.read_order tables.orders order_row (state S.Store conn.old)) }
+    ensures faults { FaultsHaveCause (state S.Store conn.old) (state S.Store conn.new) result }
+{
+    read_rows(
+        alloc,
+        conn,
+        "SELECT id, ticket, container, day, state FROM orders ORDER BY id",
+    )
+}
+
+/// The holdings.
+pub fn holdings<S: Alter>(
+    alloc: Global,
+    conn: &mut Connection<S>,
+) -> Result<Gathered<HoldingRow>, StoreFault>
+    requires inside { InOffice (state S.Store conn.old) }
+    ensures reads { Reads (state S.Store conn.old) (state S.Store conn.new) result }
+    ensures tells { HasCleanDisk (state S.Store conn.new)
+        → IfOk result (IsTable in_any_order cells.read_holding tables.holding holding_row (state S.Store conn.old)) }
+    ensures faults { FaultsHaveCause (state S.Store conn.old) (state S.Store conn.new) result }
+{
+    read_rows(alloc, conn, "SELECT container, place, held_by FROM holding")
+}
+
+/// The runs, by their numbers.
+pub fn runs<S: Alter>(
+    alloc: Global,
+    conn: &mut Connection<S>,
+) -> Result<Gathered<RunRow>, StoreFault>
+    requires inside { InOffice (state S.Store conn.old) }
+    ensures reads { Reads (state S.Store conn.old) (state S.Store conn.new) result }
+    ensures tells { HasCleanDisk (state S.Store conn.new)
+        → IfOk result (IsTable by_rowid cells.read_run tables.run run_row (state S.Store conn.old)) }
+    ensures faults { FaultsHaveCause (state S.Store conn.old) (state S.Store conn.new) result }
+{
+    read_rows(alloc, conn, "SELECT id, day FROM run ORDER BY id")
+}
+
+/// The lines of the runs.
+pub fn run_lines<S: Alter>(
+    alloc: Global,
+    conn: &mut Connection<S>,
+) -> Result<Gathered<RunLineRow>, StoreFault>
+    requires inside { InOffice (state S.Store conn.old) }
+    ensures reads { Reads (state S.Store conn.old) (state S.Store conn.new) result }
+    ensures tells { HasCleanDisk (state S.Store conn.new)
+        → IfOk result (IsTable in_any_order cells.read_run_line tables.run_line run_line_row
+        (state S.Store conn.old)) }
+    ensures faults { FaultsHaveCause (state S.Store conn.old) (state S.Store conn.new) result }
+{
+    read_rows(
+        alloc,
+        conn,
+        "SELECT run, container, order_no, ticket FROM run_line",
+    )
+}
+
+/// The numbers of the units.
+pub fn unit_numbers<S: Alter>(
+    alloc: Global,
+    conn: &mut Connection<S>,
+) -> Result<Gathered<u64>, StoreFault>
+    requires inside { InOffice (state S.Store conn.old) }
+    ensures reads { Reads (state S.Store conn.old) (state S.Store conn.new) result }
+    ensures tells { HasCleanDisk (state S.Store conn.new)
+        → IfOk result (IsTable in_any_order read_number tables.unit (λ n. n) (state S.Store conn.old)) }
+    ensures faults { FaultsHaveCause (state S.Store conn.old) (state S.Store conn.new) result }
+{
+    read_rows(alloc, conn, "SELECT id FROM unit")
+}
+
+/// The numbers of the containers.
+pub fn container_numbers<S: Alter>(
+    alloc: Global,
+    conn: &mut Connection<S>,
+) -> Result<Gathered<u64>, StoreFault>
+    requires inside { InOffice (state S.Store conn.old) }
+    ensures reads { Reads (state S.Store conn.old) (state S.Store conn.new) result }
+    ensures tells { HasCleanDisk (state S.Store conn.new)
+        → IfOk result (IsTable in_any_order read_number tables.container (λ n. n) (state S.Store conn.old)) }
+    ensures faults { FaultsHaveCause (state S.Store conn.old) (state S.Store conn.new) result }
+{
+    read_rows(alloc, conn, "SELECT id FROM container")
+}

@@ -1,4 +1,0 @@
-pub mod catalogue
-pub mod tables
-pub mod desk
-pub mod WholeTables

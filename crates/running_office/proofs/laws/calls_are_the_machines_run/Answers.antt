@@ -1,5 +1,0 @@
-use Rattle.running_office.proofs.MachineRuns.{machines_run}
-use Rattle.running_office.proofs.laws.calls_are_the_machines_run.Goals as goal
-
-pub returns : goal.returns
-returns g c = machines_run g.M.Machine.shows g.M.Machine.is_intact

@@ -1,7 +1,0 @@
--- What the office's own row tells the reading room.
-use Rattle.catalogue_rows.specs.declared.office.OfficeRow.{OfficeRow}
-use Rattle.desk_core.specs.declared.reader.Limits.{Limits}
-
--- its settings, as the desk's limits
-abbrev pub limits_told : OfficeRow → Limits
-limits_told row = record { seats = row.seats; daily = row.daily; hands = row.hands; run = row.run_size }

@@ -1,8 +1,0 @@
--- A new office's seats are empty.
-use Rattle.std.proofs.Common.{◌≡◌, ℕ, zero, suc, [], replicate, None, refl}
-use Rattle.office_rows.specs.DeskShown.{seat_rows_from}
-
--- nobody sits
-pub none_seated : (n k : ℕ) → seat_rows_from n (replicate k None) ≡ []
-none_seated n zero = refl
-none_seated n (suc k) = none_seated (suc n) k

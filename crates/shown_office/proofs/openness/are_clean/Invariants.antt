@@ -1,5 +1,0 @@
-use Rattle.shown_office.proofs.CleanMarks.{AreCleanSoFar}
-use Rattle.shown_office.proofs.openness.are_clean.Given as goal
-
-abbrev pub invariant-loop-attached : goal.invariant-loop-attached
-invariant-loop-attached l = AreCleanSoFar l.today l.permits l.found l.attached-index

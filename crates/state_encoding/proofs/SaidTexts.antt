@@ -1,0 +1,97 @@
+-- The texts of a state that rows say are texts of the rows.
+use Rattle.std.proofs.Common.{◌≡◌, ℕ, zero, suc, ◌&&◌, Bool, length, List, [], ◌∷◌, Option, Some, None, map, refl, nat_eq, IsUtf8, arith, sym, subst}
+use Rattle.std.specs.Prelude.{find, option_map, unwrap_or, IfSome, false}
+use Rattle.std.specs.List.{AllByRecursion, cons_option}
+use Rattle.std.proofs.lemmas.Str.{IsUtf8-from_ascii}
+use Rattle.isad_core.specs.Legible.{IsLegibleBox, AreLegibleValues}
+use Rattle.isad_core.specs.Texts.{Bytes}
+use Rattle.isad_core.specs.declared.values.BoxKey.{BoxKey}
+use Rattle.tree_core.specs.Forest.{nodes}
+use Rattle.tree_core.proofs.Lists.{In, find_some}
+use Rattle.tree_core.proofs.EachLemmas.{nodes-each}
+use Rattle.desk_core.specs.DeskRows.{ReaderRow}
+use Rattle.catalogue_core.specs.LegibleCatalogues.{HasLegibleTexts}
+use Rattle.catalogue_core.specs.CatalogueRows.{UnitRow, ElementRow, ContainerRow, HousingRow, box_from, text_said, after_level, housings_of, places_said}
+use Rattle.office_core.specs.Words.{numbered}
+use Rattle.office_core.specs.Laws.{numbers_from}
+use Rattle.office_core.specs.SoundOffice.{AreTexts}
+use Rattle.state_encoding.specs.DeskShown.{reader_from}
+use Rattle.state_encoding.specs.Reading.{OfficeRows, state_of, box_at, boxes_from, values_said, unit_from, unit_said}
+use Rattle.state_encoding.specs.CellJudged.{IsLegibleUnitRow, IsLegibleContainerRow, AreLegibleRows}
+use Rattle.state_encoding.proofs.RowsByNumber.{each_in}
+use Rattle.state_encoding.proofs.NumberedRows.{numbered_in}
+
+no_text : IsUtf8 []
+no_text = IsUtf8-from_ascii [] (λ k. omega arith)
+
+readers_said : (rows : List ReaderRow) → AllByRecursion (λ (row : ReaderRow). IsUtf8 row.name) rows → AllByRecursion (λ reader. IsUtf8 reader.name) (map reader_from rows)
+readers_said [] h = tt
+readers_said (row ∷ rows) h = (h.0, readers_said rows h.1)
+
+boxes_legible : (rows : List ContainerRow) → AllByRecursion IsLegibleContainerRow rows → AllByRecursion IsLegibleBox (map box_from rows)
+boxes_legible [] h = tt
+boxes_legible (row ∷ rows) h = (record { name = h.0.name; location = h.0.location; kind = h.0.kind }, boxes_legible rows h.1)
+
+text_legible : (elements : List ElementRow) (u k : ℕ) → AllByRecursion (λ (row : ElementRow). IsUtf8 row.value) elements → IfSome (text_said elements u k) IsUtf8
+text_legible elements u k h = at (find is_it elements) refl
+  where
+    is_it : ElementRow → Bool
+    is_it row = nat_eq row.unit u && nat_eq row.k (after_level k)
+
+    at : (r : Option ElementRow) → find is_it elements ≡ r → IfSome (option_map (λ (row : ElementRow). row.value) r) IsUtf8
+    at None e = tt
+    at (Some row) e = each_in (λ (row : ElementRow). IsUtf8 row.value) elements row h (find_some is_it elements row e).0
+
+texts_legible : (elements : List ElementRow) (u : ℕ) (ns : List ℕ) → AllByRecursion (λ (row : ElementRow). IsUtf8 row.value) elements → AllByRecursion (λ text. IfSome text IsUtf8) (map (text_said elements u) ns)
+texts_legible elements u [] h = tt
+texts_legible elements u (n ∷ ns) h = (text_legible elements u n h, texts_legible elements u ns h)
+
+own_boxes_legible : (boxes : List BoxKey) (mine : List HousingRow) (n more : ℕ) → AllByRecursion IsLegibleBox boxes → AllByRecursion IsLegibleBox (boxes_from boxes mine n more)
+own_boxes_legible boxes mine n zero h = tt
+own_boxes_legible boxes mine n (suc more) h = at (find (λ (row : HousingRow). nat_eq row.ord n) mine) (own_boxes_legible boxes mine (suc n) more h)
+  where
+    passes : (r : Option BoxKey) → ((b : BoxKey) → r ≡ Some b → In b boxes) → (rest : List BoxKey) → AllByRecursion IsLegibleBox rest → AllByRecursion IsLegibleBox (cons_option r rest)
+    passes None f rest all = all
+    passes (Some b) f rest all = (each_in IsLegibleBox boxes b h (f b refl), all)
+
+    at : (r : Option HousingRow) → AllByRecursion IsLegibleBox (boxes_from boxes mine (suc n) more) → AllByRecursion IsLegibleBox (cons_option (box_at boxes r) (boxes_from boxes mine (suc n) more))
+    at None all = all
+    at (Some row) all = passes (numbered boxes row.container) (λ b e. numbered_in boxes row.container b e) (boxes_from boxes mine (suc n) more) all
+
+module _ (t : OfficeRows) (l : AreLegibleRows t) where
+  boxes : AllByRecursion IsLegibleBox (map box_from t.catalogue.containers)
+  boxes = boxes_legible t.catalogue.containers l.containers
+
+  values_legible : (u : ℕ) (level : Bytes) → IsUtf8 level → AreLegibleValues (values_said t.catalogue u level)
+  values_legible u level h =
+      record {
+        level = h;
+        texts = texts_legible t.catalogue.elements u (numbers_from 1 25) l.elements;
+        boxes = own_boxes_legible (map box_from t.catalogue.containers) (housings_of u t.catalogue.housings) 1 (length (housings_of u t.catalogue.housings)) boxes;
+      }
+
+  unit_legible : (u : ℕ) → HasLegibleTexts (unit_said t.catalogue u)
+  unit_legible u = at (find (λ (row : UnitRow). nat_eq row.id u) t.catalogue.units) refl
+    where
+      at : (r : Option UnitRow) → find (λ (row : UnitRow). nat_eq row.id u) t.catalogue.units ≡ r
+          → HasLegibleTexts (unwrap_or (option_map (unit_from t.catalogue) r) (record { id = u; source = []; legacy = []; values = values_said t.catalogue u []; draft = false; until = None }))
+      at None e = record { source = no_text; legacy = no_text; values = values_legible u [] no_text }
+      at (Some row) e =
+          let texts = each_in IsLegibleUnitRow t.catalogue.units row l.units (find_some (λ (row : UnitRow). nat_eq row.id u) t.catalogue.units row e).0 in
+          record { source = texts.source; legacy = texts.legacy; values = values_legible row.id row.level texts.level }
+
+  units_legible : (us : List ℕ) → AllByRecursion HasLegibleTexts (map (unit_said t.catalogue) us)
+  units_legible [] = tt
+  units_legible (u ∷ us) = (unit_legible u, units_legible us)
+
+  pub texts_said : AreTexts (state_of t)
+  texts_said =
+      record {
+        country = l.country;
+        repo = l.repo;
+        catalogue = record {
+          units = subst (AllByRecursion HasLegibleTexts) (sym (nodes-each (unit_said t.catalogue) (places_said t.catalogue.places))) (units_legible (nodes (places_said t.catalogue.places)));
+          containers = boxes;
+        };
+        readers = readers_said t.desk.readers l.readers;
+      }

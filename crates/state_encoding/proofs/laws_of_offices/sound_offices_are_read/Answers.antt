@@ -1,0 +1,5 @@
+use Rattle.state_encoding.proofs.shown_cells.ShownCells.{sound_offices_read}
+use Rattle.state_encoding.proofs.laws_of_offices.sound_offices_are_read.Goals as goal
+
+pub returns : goal.returns
+returns c = sound_offices_read

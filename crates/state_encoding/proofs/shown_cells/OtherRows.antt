@@ -1,0 +1,65 @@
+-- Tables whose catalogue stands in another order say the same state, and have a cause no sooner.
+use Rattle.std.proofs.Common.{◌≡◌, Bool, true, false, List, [], ◌∷◌, None, refl, sym, ap, ◌∙◌, subst, nat_eq, map}
+use Rattle.std.specs.List.{list_all, list_any}
+use Rattle.std.proofs.Math.Path.{fun_ext}
+use Rattle.std.proofs.lemmas.Bool.{and_from, not_from_true}
+use Rattle.tree_core.specs.Versions.{Version}
+use Rattle.desk_core.specs.DeskCauses.{readers_are_bad, orders_are_bad, holdings_are_bad, runs_are_bad}
+use Rattle.catalogue_core.specs.CatalogueCauses.{MeetsCatalogueKeys, are_good_places, are_good_units, unit_numbers, is_good_element, are_good_container_rows, is_good_housing}
+use Rattle.catalogue_core.specs.CatalogueRows.{CatalogueRows, UnitRow, ContainerRow, box_from}
+use Rattle.office_core.specs.State.{State, containers}
+use Rattle.office_core.specs.Soundness.{IsSound}
+use Rattle.state_encoding.specs.Causes.{around, catalogue_tests, desk_tests, day_is_broken, is_held_against_rules, is_good_office, first_held, cause}
+use Rattle.state_encoding.specs.Reading.{OfficeRows, tables, state_of}
+use Rattle.state_encoding.proofs.DeskPasses.{desk_passes}
+use Rattle.state_encoding.proofs.JudgedWhole.{sound_catalogue, tables_are_shown}
+use Rattle.state_encoding.proofs.Judging.{none_behind, none_in_both}
+use Rattle.state_encoding.proofs.ShownElements.{elements_shown, containers_shown, housings_shown}
+use Rattle.state_encoding.proofs.ShownUnits.{office_shown, units_shown}
+use Rattle.state_encoding.proofs.shown_cells.OtherOrders.{IsReordered, any_too, units_too, elements_too, housings_too, forest_too}
+
+pub five_none : {a b c d e : Bool} → a ≡ false → b ≡ false → c ≡ false → d ≡ false → e ≡ false → first_held (a ∷ b ∷ c ∷ d ∷ e ∷ []) ≡ None
+five_none p q r s t = rw (p, q, r, s, t) refl
+
+module _ (version : Version) (s : State) (g : IsSound s) (c : CatalogueRows) (r : IsReordered (tables version s).catalogue c) (placed : are_good_places version c.places ≡ true) where
+  abbrev t : OfficeRows
+  t = tables version s
+
+  abbrev other : OfficeRows
+  other = record t { catalogue = c }
+
+  keys : MeetsCatalogueKeys t.catalogue
+  keys = (tables_are_shown version s (desk_passes version s) g).0.catalogue
+
+  pub state_too : state_of other ≡ state_of t
+  state_too =
+      ap (λ f. record (state_of other) { catalogue = record { forest = f; containers = map box_from c.containers; next = t.office.next_unit } })
+      (forest_too t.catalogue c r keys.units keys.elements keys.housings)
+      ∙ ap (λ (l : List ContainerRow). record (state_of t) { catalogue = record (state_of t).catalogue { containers = map box_from l } }) r.containers
+
+  around_too : around other ≡ around t
+  around_too =
+      ap (λ f. record (around other) { is_unit = f }) (fun_ext (λ u. any_too (λ (row : UnitRow). nat_eq row.id u) t.catalogue.units c.units r.units))
+      ∙ ap (λ (l : List ContainerRow). record (around t) { is_container = λ n. list_any (λ (row : ContainerRow). nat_eq row.id n) l }) r.containers
+
+  desk_too : desk_tests other ≡ desk_tests t
+  desk_too =
+      ap (λ a. readers_are_bad a t.desk ∷ orders_are_bad a t.desk ∷ holdings_are_bad a t.desk ∷ runs_are_bad a t.desk ∷ day_is_broken other ∷ []) around_too
+      ∙ ap (λ x. readers_are_bad (around t) t.desk ∷ orders_are_bad (around t) t.desk ∷ holdings_are_bad (around t) t.desk ∷ runs_are_bad (around t) t.desk
+      ∷ list_any (is_held_against_rules x) (containers x) ∷ []) state_too
+
+  catalogue_too : first_held (catalogue_tests version other) ≡ None
+  catalogue_too =
+      let sound = sound_catalogue s g in
+      let units = units_shown version s sound in
+      let boxes = containers_shown version s sound in
+      five_none (not_from_true (is_good_office version t.office) (office_shown version s sound)) (not_from_true (are_good_places version c.places) placed)
+      (not_from_true (are_good_units t.office.next_unit c) (units_too t.catalogue c r t.office.next_unit units.units))
+      (not_from_true (list_all (is_good_element (unit_numbers c)) c.elements) (elements_too t.catalogue c r (elements_shown version s sound units.told).0))
+      (not_from_true _ (and_from (are_good_container_rows c.containers) (list_all (is_good_housing c) c.housings)
+      (ap are_good_container_rows r.containers ∙ boxes.good) (housings_too t.catalogue c r (housings_shown version s sound units.told).good)))
+
+  pub no_cause_too : cause version other ≡ None
+  no_cause_too =
+      none_in_both (catalogue_tests version other) (desk_tests other) catalogue_too
+      (subst (λ tests. first_held tests ≡ None) (sym desk_too) (none_behind (catalogue_tests version t) (desk_tests t) (tables_are_shown version s (desk_passes version s) g).1))

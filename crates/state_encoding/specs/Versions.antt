@@ -1,0 +1,15 @@
+-- The tables of version 2.
+use Rattle.tree_core.specs.Forest.{each}
+use Rattle.tree_core.specs.Spans.{number}
+use Rattle.tree_core.specs.Versions.{Spans, version_number}
+use Rattle.catalogue_core.specs.CatalogueRows.{SpanRows}
+use Rattle.office_core.specs.State.{State}
+use Rattle.state_encoding.specs.Reading.{OfficeRows, number_of}
+
+-- the state's tables of one version, with the version and the places of version 2
+abbrev pub with_spans : State → OfficeRows → OfficeRows
+with_spans s t =
+    record t {
+      office = record t.office { version = version_number Spans };
+      catalogue = record t.catalogue { places = SpanRows (number 1 (each number_of s.catalogue.forest)) };
+    }

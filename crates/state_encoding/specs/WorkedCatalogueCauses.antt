@@ -1,0 +1,110 @@
+-- What each of the causes 1 to 5 says where one row of a small sound office is changed.
+use Rattle.std.specs.Prelude.{◌≡◌, ℕ, ◌+◌, ◌^◌, zero, suc, pos, List, [], ◌∷◌, Option, Some, None, codes, replicate}
+use Rattle.tree_core.specs.declared.rows.Link.{Link}
+use Rattle.tree_core.specs.Worked.{link, span}
+use Rattle.tree_core.specs.Versions.{Links, Spans}
+use Rattle.catalogue_core.specs.CatalogueRows.{CatalogueRows, LinkRows, SpanRows, ElementRow, ContainerRow, HousingRow}
+use Rattle.state_encoding.specs.Reading.{OfficeRows}
+use Rattle.state_encoding.specs.Causes.{cause}
+use Rattle.state_encoding.specs.WorkedDeskCauses.{sound as office_rows, catalogue as plans_housed, plans, many_units}
+
+-- its unit has a title
+abbrev pub title : ElementRow
+title = record { unit = 1; k = 2; value = codes "Plans" }
+
+abbrev pub box_1 : ContainerRow
+box_1 = record { id = 1; name = codes "Box 1"; location = []; kind = [] }
+
+abbrev pub box_2 : ContainerRow
+box_2 = record { id = 2; name = codes "Box 2"; location = []; kind = [] }
+
+abbrev pub in_box_1 : HousingRow
+in_box_1 = record { unit = 1; ord = 1; container = 1 }
+
+abbrev pub in_box_2 : HousingRow
+in_box_2 = record { unit = 1; ord = 2; container = 2 }
+
+abbrev pub catalogue : CatalogueRows
+catalogue = record plans_housed { elements = title ∷ [] }
+
+abbrev pub sound : OfficeRows
+sound = record office_rows { catalogue = catalogue }
+
+-- the same in version 2
+abbrev pub nested : OfficeRows
+nested =
+    record sound { office = record sound.office { version = 2 }; catalogue = record catalogue { places = SpanRows (span 1 1 2 ∷ []) } }
+
+-- the places of n units one below another: 1 at the top
+abbrev pub way_down : ℕ → List Link
+way_down zero = []
+way_down (suc zero) = link 1 None 1 ∷ []
+way_down (suc (suc n)) = link (suc (suc n)) (Some (suc n)) 1 ∷ way_down (suc n)
+
+-- n units one below another
+abbrev pub deep : ℕ → OfficeRows
+deep n =
+    record sound {
+      office = record sound.office { next_unit = suc n };
+      catalogue = record catalogue { units = many_units n; places = LinkRows (way_down n) };
+    }
+
+-- what is told of rows of version 1
+abbrev pub told : OfficeRows → Option ℕ
+told t = cause Links t
+
+-- what is told where the office has these rows of its catalogue
+abbrev pub told_with : CatalogueRows → Option ℕ
+told_with rows = told (record sound { catalogue = rows })
+
+-- the same in version 2, of these places
+abbrev pub told_of_spans : CatalogueRows → Option ℕ
+told_of_spans rows = cause Spans (record nested { catalogue = rows })
+
+pub record Told : Type 0 where
+  pub nothing : told sound ≡ None
+  pub nothing_nested : cause Spans nested ≡ None
+  -- the office
+  pub other_version : cause Spans sound ≡ Some 1
+  pub no_seats : told (record sound { office = record sound.office { seats = 0 } }) ≡ Some 1
+  pub a_seat_too_many : told (record sound { office = record sound.office { seats = 201 } }) ≡ Some 1
+  pub small_letters : told (record sound { office = record sound.office { country = codes "gb" } }) ≡ Some 1
+  pub day_after_the_last : told (record sound { office = record sound.office { day = pos 2932897 } }) ≡ Some 1
+  pub next_past_the_last : told (record sound { office = record sound.office { next_unit = 100000002 } }) ≡ Some 1
+  -- the places
+  pub not_from_one : told_with (record catalogue { places = LinkRows (link 1 None 2 ∷ []) }) ≡ Some 2
+  pub no_parent : told_with (record catalogue { places = LinkRows (link 1 (Some 9) 1 ∷ []) }) ≡ Some 2
+  pub gap : told_of_spans (record catalogue { places = SpanRows (span 1 1 3 ∷ []) }) ≡ Some 2
+  pub places_of_the_other_version : told_of_spans (record catalogue { places = LinkRows (link 1 None 1 ∷ []) }) ≡ Some 2
+  pub place_number_0 : told_with (record catalogue { units = record plans { id = 0 } ∷ []; places = LinkRows (link 0 None 1 ∷ []); elements = []; housings = [] }) ≡ Some 2
+  pub place_past_the_last_number : told_with (record catalogue { places = LinkRows (link 100000001 None 1 ∷ []) }) ≡ Some 2
+  pub below_number_0 : told_with (record catalogue { places = LinkRows (link 1 (Some 0) 1 ∷ []) }) ≡ Some 2
+  pub ord_past_32_bits : told_with (record catalogue { places = LinkRows (link 1 None (2 ^ 32) ∷ []) }) ≡ Some 2
+  pub span_number_0 : told_of_spans (record catalogue { units = record plans { id = 0 } ∷ []; places = SpanRows (span 0 1 2 ∷ []); elements = []; housings = [] }) ≡ Some 2
+  pub span_past_the_last_number : told_of_spans (record catalogue { places = SpanRows (span 100000001 1 2 ∷ []) }) ≡ Some 2
+  pub lft_past_32_bits : told_of_spans (record catalogue { places = SpanRows (span 1 (2 ^ 32) (2 ^ 32 + 1) ∷ []) }) ≡ Some 2
+  pub rgt_past_32_bits : told_of_spans (record catalogue { places = SpanRows (span 1 1 (2 ^ 32) ∷ []) }) ≡ Some 2
+  -- the units
+  pub unit_without_a_place : told_with (record catalogue { places = LinkRows [] }) ≡ Some 3
+  pub place_without_a_unit : told_with (record catalogue { places = LinkRows (link 1 None 1 ∷ link 2 (Some 1) 1 ∷ []) }) ≡ Some 3
+  pub next_is_there : told (record sound { office = record sound.office { next_unit = 1 } }) ≡ Some 3
+  pub no_source : told_with (record catalogue { units = record plans { source = codes "a b" } ∷ [] }) ≡ Some 3
+  pub blank_number : told_with (record catalogue { units = record plans { legacy = codes " " } ∷ [] }) ≡ Some 3
+  pub number_too_long : told_with (record catalogue { units = record plans { legacy = replicate 65536 49 } ∷ [] }) ≡ Some 3
+  pub level_too_long : told_with (record catalogue { units = record plans { level = replicate 65536 49 } ∷ [] }) ≡ Some 3
+  pub closed_until_no_day : told_with (record catalogue { units = record plans { until = Some (pos 2932897) } ∷ [] }) ≡ Some 3
+  pub as_deep_as_may_be : told (deep 64) ≡ None
+  pub too_deep : told (deep 65) ≡ Some 3
+  -- the elements
+  pub level_as_an_element : told_with (record catalogue { elements = record title { k = 4 } ∷ [] }) ≡ Some 4
+  pub after_the_last : told_with (record catalogue { elements = record title { k = 27 } ∷ [] }) ≡ Some 4
+  pub blank_title : told_with (record catalogue { elements = record title { value = codes "  " } ∷ [] }) ≡ Some 4
+  pub title_of_no_unit : told_with (record catalogue { elements = title ∷ record title { unit = 2 } ∷ [] }) ≡ Some 4
+  -- the containers
+  pub container_left_out : told_with (record catalogue { containers = box_1 ∷ box_2 ∷ record { id = 4; name = codes "Box 4"; location = []; kind = [] } ∷ [] }) ≡ Some 5
+  pub container_without_a_name : told_with (record catalogue { containers = box_1 ∷ record box_2 { name = codes " " } ∷ [] }) ≡ Some 5
+  pub in_no_container : told_with (record catalogue { housings = in_box_1 ∷ record in_box_2 { container = 3 } ∷ [] }) ≡ Some 5
+  pub of_no_unit : told_with (record catalogue { housings = in_box_1 ∷ in_box_2 ∷ record { unit = 2; ord = 1; container = 2 } ∷ [] }) ≡ Some 5
+  pub place_left_out : told_with (record catalogue { housings = in_box_1 ∷ record in_box_2 { ord = 3 } ∷ [] }) ≡ Some 5
+  -- the least of two is told
+  pub two_causes : told_with (record catalogue { elements = []; units = record plans { source = [] } ∷ []; containers = [] }) ≡ Some 3

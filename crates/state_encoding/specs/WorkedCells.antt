@@ -1,0 +1,83 @@
+-- Rows with a cell that its column cannot have, and whose cause each is. Numbers alone: whether a text is UTF-8 is told by lemmas.
+use Rattle.std.specs.Prelude.{◌≡◌, ℕ, ℤ, pos, neg_ℤ, Bool, true, false, cond, [], ◌∷◌, Option, Some, codes, nat_eq}
+use Rattle.sqlite.specs.declared.types.Value.{Value}
+use Rattle.sqlite.specs.declared.types.Value.TheVariants.{Null, Int, Text}
+use Rattle.sqlite.specs.Order.{Row}
+use Rattle.sqlite.specs.Tree.{Trees}
+use Rattle.tree_core.specs.Versions.{Links, Spans}
+use Rattle.office_core.specs.Words.{numbered}
+use Rattle.office_tables.specs.Schema as tables
+use Rattle.state_encoding.specs.CellCauses.{unread, cell_cause}
+
+-- ---- tables
+
+-- a file with one row, in the table with this number
+abbrev pub only : ℕ → Row → Trees
+only tree row = λ other. cond (nat_eq other tree) (row ∷ []) []
+
+-- whether the row cannot be read for which this is the cause
+abbrev pub is_unread : ℕ → ℕ → Row → Option Bool
+is_unread cause tree row = numbered (unread Links (only tree row)) cause
+
+abbrev pub is_unread_span : Row → Option Bool
+is_unread_span row = numbered (unread Spans (only tables.span.tree row)) 2
+
+abbrev pub text : Value
+text = Text (codes "a")
+
+-- the row of an office, but for the number that it has, its version, its seats and its day
+abbrev pub office : ℤ → ℤ → Value → Value → Row
+office one version seats day =
+    Int one ∷ Null ∷ Int version ∷ Text (codes "GB") ∷ Text (codes "0999") ∷ seats ∷ Int (pos 2) ∷ Int (pos 1) ∷ Int (pos 2) ∷ day ∷ Int (pos 2) ∷ []
+
+abbrev pub minus : ℕ → Value
+minus n = Int (neg_ℤ (pos n))
+
+-- the unit 1, but for its draft and until when it is closed
+abbrev pub unit : Value → Value → Row
+unit draft until = Int (pos 1) ∷ Null ∷ text ∷ text ∷ text ∷ draft ∷ until ∷ []
+
+-- ---- what is told of them
+
+pub record Told : Type 0 where
+  -- the office
+  pub second_office : cell_cause Links (only tables.office.tree (office (pos 2) (pos 1) (Int (pos 2)) (Int (pos 20000)))) ≡ Some 1
+  pub version_below_0 : cell_cause Links (only tables.office.tree (office (pos 1) (neg_ℤ (pos 7)) (Int (pos 2)) (Int (pos 20000)))) ≡ Some 1
+  pub seats_below_0 : cell_cause Links (only tables.office.tree (office (pos 1) (pos 1) (minus 1) (Int (pos 20000)))) ≡ Some 1
+  pub no_day : cell_cause Spans (only tables.office.tree (office (pos 1) (pos 2) (Int (pos 2)) Null)) ≡ Some 1
+  -- the places
+  pub place_below_0 : is_unread 2 tables.link.tree (minus 1 ∷ Null ∷ Null ∷ Int (pos 1) ∷ []) ≡ Some true
+  pub parent_below_0 : is_unread 2 tables.link.tree (Int (pos 1) ∷ Null ∷ minus 1 ∷ Int (pos 1) ∷ []) ≡ Some true
+  pub ord_below_0 : is_unread 2 tables.link.tree (Int (pos 1) ∷ Null ∷ Null ∷ minus 1 ∷ []) ≡ Some true
+  pub top : is_unread 2 tables.link.tree (Int (pos 1) ∷ Null ∷ Null ∷ Int (pos 1) ∷ []) ≡ Some false
+  pub span_below_0 : is_unread_span (minus 1 ∷ Null ∷ Int (pos 1) ∷ Int (pos 2) ∷ []) ≡ Some true
+  pub lft_below_0 : is_unread_span (Int (pos 1) ∷ Null ∷ minus 1 ∷ Int (pos 2) ∷ []) ≡ Some true
+  pub no_rgt : is_unread_span (Int (pos 1) ∷ Null ∷ Int (pos 1) ∷ Null ∷ []) ≡ Some true
+  pub span : is_unread_span (Int (pos 1) ∷ Null ∷ Int (pos 1) ∷ Int (pos 2) ∷ []) ≡ Some false
+  -- the units
+  pub draft_2 : is_unread 3 tables.unit.tree (unit (Int (pos 2)) Null) ≡ Some true
+  pub draft_below_0 : is_unread 3 tables.unit.tree (unit (minus 1) Null) ≡ Some true
+  pub until_a_text : is_unread 3 tables.unit.tree (unit (Int (pos 1)) text) ≡ Some true
+  -- the elements
+  pub k_below_0 : is_unread 4 tables.element.tree (Int (pos 1) ∷ Int (pos 1) ∷ minus 2 ∷ text ∷ []) ≡ Some true
+  pub no_value : is_unread 4 tables.element.tree (Int (pos 1) ∷ Int (pos 1) ∷ Int (pos 2) ∷ Null ∷ []) ≡ Some true
+  -- the containers
+  pub container_below_0 : is_unread 5 tables.container.tree (minus 1 ∷ Null ∷ text ∷ text ∷ text ∷ []) ≡ Some true
+  pub no_name : is_unread 5 tables.container.tree (Int (pos 1) ∷ Null ∷ Null ∷ text ∷ text ∷ []) ≡ Some true
+  pub housed_below_0 : is_unread 5 tables.housing.tree (Int (pos 1) ∷ Int (pos 1) ∷ Int (pos 1) ∷ minus 1 ∷ []) ≡ Some true
+  -- the readers
+  pub ticket_below_0 : is_unread 6 tables.reader.tree (minus 1 ∷ Null ∷ text ∷ Int (pos 20000) ∷ []) ≡ Some true
+  pub seat_below_0 : is_unread 6 tables.seat.tree (minus 1 ∷ Null ∷ Int (pos 1) ∷ []) ≡ Some true
+  pub nobody_sits : is_unread 6 tables.seat.tree (Int (pos 1) ∷ Null ∷ Null ∷ []) ≡ Some true
+  pub sits : is_unread 6 tables.seat.tree (Int (pos 1) ∷ Null ∷ Int (pos 1) ∷ []) ≡ Some false
+  pub permit_for_no_unit : is_unread 6 tables.permit.tree (Int (pos 1) ∷ Int (pos 1) ∷ minus 1 ∷ Int (pos 20000) ∷ []) ≡ Some true
+  -- the orders
+  pub state_below_0 : is_unread 7 tables.orders.tree (Int (pos 1) ∷ Null ∷ Int (pos 1) ∷ Int (pos 1) ∷ Int (pos 20000) ∷ minus 1 ∷ []) ≡ Some true
+  pub day_below_0 : is_unread 7 tables.orders.tree (Int (pos 1) ∷ Null ∷ Int (pos 1) ∷ Int (pos 1) ∷ minus 400 ∷ Int (pos 1) ∷ []) ≡ Some false
+  -- where the containers are
+  pub no_place : is_unread 8 tables.holding.tree (Int (pos 1) ∷ Null ∷ Null ∷ Null ∷ []) ≡ Some true
+  pub held_by_minus_1 : is_unread 8 tables.holding.tree (Int (pos 1) ∷ Null ∷ Int (pos 2) ∷ minus 1 ∷ []) ≡ Some true
+  pub at_the_desk : is_unread 8 tables.holding.tree (Int (pos 1) ∷ Null ∷ Int (pos 1) ∷ Null ∷ []) ≡ Some false
+  -- the runs
+  pub run_below_0 : is_unread 9 tables.run.tree (minus 1 ∷ Null ∷ Int (pos 20000) ∷ []) ≡ Some true
+  pub line_of_order_minus_1 : is_unread 9 tables.run_line.tree (Int (pos 1) ∷ Int (pos 1) ∷ Int (pos 1) ∷ minus 1 ∷ Int (pos 1) ∷ []) ≡ Some true

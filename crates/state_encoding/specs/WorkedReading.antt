@@ -1,0 +1,57 @@
+-- The rows of a small office, and the state that they say.
+use Rattle.std.specs.Prelude.{◌≡◌, ℕ, false, replicate, [], ◌∷◌, Some, None, codes, List}
+use Rattle.isad_core.specs.declared.values.BoxKey.{BoxKey}
+use Rattle.tree_core.specs.Forest.{Empty, Node}
+use Rattle.tree_core.specs.Worked.{link, span}
+use Rattle.catalogue_core.specs.Units.{Unit}
+use Rattle.office_core.specs.State.{State}
+use Rattle.tree_core.specs.Versions.{Version, Links, Spans}
+use Rattle.catalogue_core.specs.CatalogueRows.{LinkRows, SpanRows}
+use Rattle.state_encoding.specs.Reading.{tables, state_of}
+use Rattle.office_core.specs.Worked.{office, march_1, march_2, year_end}
+
+abbrev pub box : ℕ → BoxKey
+box letter = record { name = letter ∷ []; location = codes "L"; kind = [] }
+
+abbrev pub unit : ℕ → List BoxKey → Unit
+unit n boxes =
+    record {
+      id = n;
+      source = codes "a";
+      legacy = n ∷ [];
+      values = record { level = codes "Fonds"; texts = None ∷ Some (codes "Title") ∷ None ∷ Some (codes "2 m") ∷ replicate 21 None; boxes = boxes };
+      draft = false;
+      until = Some march_2;
+    }
+
+-- unit 4 came before unit 2 below unit 1, by a move
+abbrev pub sample : State
+sample =
+    record office {
+      catalogue = record {
+        forest = Node (unit 1 (box 66 ∷ box 65 ∷ [])) (Node (unit 4 []) Empty (Node (unit 2 (box 65 ∷ [])) Empty Empty)) (Node (unit 3 []) Empty Empty);
+        containers = box 65 ∷ box 66 ∷ [];
+        next = 5;
+      };
+      readers = record { name = codes "Ann"; until = year_end } ∷ record { name = codes "Bob"; until = march_1 } ∷ [];
+      seats = None ∷ Some 2 ∷ [];
+      runs = record { day = march_1; lines = record { container = 2; order = 1; ticket = 1 } ∷ record { container = 1; order = 2; ticket = 2 } ∷ [] }
+          ∷ record { day = march_1; lines = record { container = 1; order = 3; ticket = 1 } ∷ [] } ∷ [];
+    }
+
+-- the state that the rows of the sample say, part by part
+pub record SaysAgain (version : Version) : Type 0 where
+  pub settings : (state_of (tables version sample)).settings ≡ sample.settings
+  pub next : (state_of (tables version sample)).catalogue.next ≡ sample.catalogue.next
+  pub forest : (state_of (tables version sample)).catalogue.forest ≡ sample.catalogue.forest
+  pub boxes : (state_of (tables version sample)).catalogue.containers ≡ sample.catalogue.containers
+  pub readers : (state_of (tables version sample)).readers ≡ sample.readers
+  pub seats : (state_of (tables version sample)).seats ≡ sample.seats
+  pub runs : (state_of (tables version sample)).runs ≡ sample.runs
+
+pub record ReadAgain : Type 0 where
+  pub linked : SaysAgain Links
+  pub nested : SaysAgain Spans
+  -- places go by their order, not by numbers
+  pub links : (tables Links sample).catalogue.places ≡ LinkRows (link 1 None 1 ∷ link 4 (Some 1) 1 ∷ link 2 (Some 1) 2 ∷ link 3 None 2 ∷ [])
+  pub spans : (tables Spans sample).catalogue.places ≡ SpanRows (span 1 1 6 ∷ span 4 2 3 ∷ span 2 4 5 ∷ span 3 7 8 ∷ [])

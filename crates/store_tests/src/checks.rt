@@ -1,0 +1,377 @@
+//! The check of the desk's tables, in memory and in a file. Rows that no call writes are told by their cause.
+
+ghost use Rattle.std.specs.Prelude.{OnOk};
+ghost use Rattle.sqlite.specs.Held.{state};
+ghost use Rattle.tree_core.specs.Versions.{Links};
+ghost use Rattle.office_tables.specs.Step.{InTransaction};
+
+use crate::desk::{day_after, next_turn};
+use crate::reading_room::furnished;
+use crate::tests::new_office;
+use catalogue_store::{LinkPlaces, StoreFault};
+use desk_core::Limits;
+use desk_store::{FirstOrder, OrderState, append_order, end_order, grant, record_run, set_seat};
+use integrity_checks::load_check_desk;
+use office_tables::change;
+use sqlite::types::ValueRef;
+use sqlite::types::ValueRef::{Int, Null, Text};
+use sqlite::{Alter, Connection};
+use std::alloc::Global;
+use std::fs;
+use std::process::Abort;
+use std::test::Fail;
+
+/// Ann sits and may see unit 1. She had container 1, which the first run brought, and gave it back.
+#[tactic(auto, using(crate::proofs::Going::went_on))]
+fn served<S: Alter>(alloc: Global, conn: &mut Connection<S>) -> Result<(), StoreFault>
+    requires inside { InTransaction Links (state S.Store conn.old) }
+    ensures inside { OnOk result (InTransaction Links (state S.Store conn.new)) }
+{
+    let mut text = String::new(alloc);
+    furnished(alloc, conn, &mut text)?;
+    grant(conn, 1, 1, day_after(0)?)?;
+    set_seat(conn, 1, Some(1))?;
+    append_order(conn, 1, 1, 1, day_after(0)?)?;
+    let taken = [FirstOrder {
+        container: 1,
+        order: 1,
+        ticket: 1,
+    }];
+    record_run(conn, day_after(0)?, &taken)?;
+    end_order(conn, 1, OrderState::Done)
+}
+
+/// What a statement writes.
+#[derive(Clone, Copy)]
+enum Row {
+    /// A ticket, a name and a last day.
+    Reader,
+    /// A seat and a ticket.
+    Seat,
+    /// A ticket, a unit and a last day.
+    Permit,
+    /// An order's number, a ticket, a container and a day; it waits.
+    Order,
+    /// A state and the order that takes it.
+    State,
+    /// A container, a place and an order.
+    Holding,
+    /// A run's number and a day.
+    Run,
+    /// A run, a container, an order and a ticket.
+    Line,
+}
+
+/// A row, whatever its cells are.
+type Write = (Row, &'static [ValueRef<'static>]);
+
+/// Writes a row by a statement of the desk's.
+#[tactic(auto, using(crate::proofs::Going::went_on))]
+fn put<S: Alter>(
+    conn: &mut Connection<S>,
+    row: Row,
+    cells: &[ValueRef<'_>],
+) -> Result<(), StoreFault>
+    requires inside { InTransaction Links (state S.Store conn.old) }
+    ensures inside { OnOk result (InTransaction Links (state S.Store conn.new)) }
+{
+    match row {
+        Row::Reader => change(conn, PUT_READER, cells),
+        Row::Seat => change(conn, PUT_SEAT, cells),
+        Row::Permit => change(conn, PUT_PERMIT, cells),
+        Row::Order => change(conn, PUT_ORDER, cells),
+        Row::State => change(conn, SET_STATE, cells),
+        Row::Holding => change(conn, PUT_HOLDING, cells),
+        Row::Run => change(conn, PUT_RUN, cells),
+        Row::Line => change(conn, PUT_LINE, cells),
+    }
+}
+
+const PUT_READER: &str = "INSERT INTO reader (ticket, name, until) VALUES (?1, ?2, ?3)";
+
+const PUT_SEAT: &str = "INSERT INTO seat (seat, ticket) VALUES (?1, ?2)";
+
+const PUT_PERMIT: &str = "INSERT INTO permit (ticket, unit, until) VALUES (?1, ?2, ?3)";
+
+const PUT_ORDER: &str =
+    "INSERT INTO orders (id, ticket, container, day, state) VALUES (?1, ?2, ?3, ?4, 1)";
+
+const SET_STATE: &str = "UPDATE orders SET state = ?1 WHERE id = ?2";
+
+const PUT_HOLDING: &str = "INSERT INTO holding (container, place, held_by) VALUES (?1, ?2, ?3)";
+
+const PUT_RUN: &str = "INSERT INTO run (id, day) VALUES (?1, ?2)";
+
+const PUT_LINE: &str =
+    "INSERT INTO run_line (run, container, order_no, ticket) VALUES (?1, ?2, ?3, ?4)";
+
+/// Writes rows, one after the other.
+fn put_all<S: Alter>(conn: &mut Connection<S>, writes: &[Write]) -> Result<(), StoreFault>
+    requires inside { InTransaction Links (state S.Store conn.old) }
+    ensures inside { OnOk result (InTransaction Links (state S.Store conn.new)) }
+{
+    for write in writes {
+        let (row, cells) = *write;
+        put(conn, row, cells)?;
+    }
+    Ok(())
+}
+
+/// The cause that is told of a sound desk with these rows too, once they are committed, or 0.
+#[tactic(auto, using(crate::proofs::Going::in_some))]
+fn told<S: Alter>(
+    alloc: Global,
+    conn: &mut Connection<S>,
+    writes: &[Write],
+) -> Result<u8, StoreFault>
+    requires inside { InTransaction Links (state S.Store conn.old) }
+{
+    served(alloc, conn)?;
+    put_all(conn, writes)?;
+    next_turn(conn)?;
+    let limits = Limits {
+        seats: 2,
+        daily: 3,
+        hands: 1,
+        run: 2,
+    };
+    let doubt = load_check_desk(alloc, conn, &limits, day_after(0)?)?;
+    Ok(match doubt {
+        Some(doubt) => doubt.cause(),
+        None => 0,
+    })
+}
+
+fn told_in_new<S: Alter>(
+    alloc: Global,
+    conn: &mut Connection<S>,
+    writes: &[Write],
+) -> Result<u8, Fail> {
+    new_office::<LinkPlaces, S>(alloc, conn)?;
+    let cause = told(alloc, conn, writes)?;
+    Ok(cause)
+}
+
+/// The causes of these desks, each in a store of its own.
+fn causes(alloc: Global, desks: &[&'static [Write]]) -> Result<String, Fail> {
+    let mut text = String::new(alloc);
+    for &writes in desks {
+        let mut conn = Connection::open_in_memory(alloc)?;
+        let cause = told_in_new(alloc, &mut conn, writes)?;
+        write!(text, "{cause}")?;
+    }
+    Ok(text)
+}
+
+/// The first of March 2024, on which the office is.
+const TODAY: ValueRef<'static> = Int(19783);
+
+const TOMORROW: ValueRef<'static> = Int(19784);
+
+/// A day before the calendar's first.
+const NO_DAY: ValueRef<'static> = Int(-25568);
+
+const ANN: ValueRef<'static> = Int(1);
+
+const BOB: Write = (Row::Reader, &[Int(2), Text(b"Bob"), TODAY]);
+
+/// Order 2, Ann's for container 2.
+const SECOND: Write = (Row::Order, &[Int(2), ANN, Int(2), TODAY]);
+
+const SECOND_IS_OUT: Write = (Row::State, &[Int(2), Int(2)]);
+
+const SECOND_IS_DONE: Write = (Row::State, &[Int(3), Int(2)]);
+
+const THIRD: Write = (Row::Order, &[Int(3), ANN, Int(3), TODAY]);
+
+const RUN: Write = (Row::Run, &[Int(2), TODAY]);
+
+/// Order 1 of the second run.
+const LINE: Write = (Row::Line, &[Int(2), Int(1), Int(1), ANN]);
+
+#[test]
+fn sound_desks_are_not_doubted(rt: HostRuntime) -> Result<(), Fail> {
+    let desks: [&'static [Write]; 7] = [
+        &[],
+        &[BOB, (Row::Seat, &[Int(2), Int(2)])],
+        &[SECOND, THIRD],
+        &[
+            SECOND,
+            SECOND_IS_OUT,
+            (Row::Holding, &[Int(2), Int(2), Int(2)]),
+        ],
+        &[(Row::Holding, &[Int(3), Int(1), Null])],
+        &[RUN, LINE],
+        &[SECOND, (Row::Line, &[Int(1), Int(2), Int(2), ANN])],
+    ];
+    let told = causes(rt.alloc(), &desks)?;
+    assert_eq!(&rt; told.as_str(), "0000000");
+    Ok(())
+}
+
+/// A ticket left out, or none; names and days that no reader has; seats and permits of nobody, and a seat too many.
+#[test]
+fn doubtful_readers_are_told(rt: HostRuntime) -> Result<(), Fail> {
+    let desks: [&'static [Write]; 15] = [
+        &[(Row::Reader, &[Int(3), Text(b"Bob"), TODAY])],
+        &[(Row::Reader, &[Int(0), Text(b"Bob"), TODAY])],
+        &[(Row::Reader, &[Int(-1), Text(b"Bob"), TODAY])],
+        &[(Row::Reader, &[Int(2), Text(b""), TODAY])],
+        &[(Row::Reader, &[Int(2), Text(b" "), TODAY])],
+        &[(Row::Reader, &[Int(2), Text(b"B\nob"), TODAY])],
+        &[(Row::Reader, &[Int(2), Text(b"B\xF6b"), TODAY])],
+        &[(Row::Reader, &[Int(2), Text(b"Bob"), NO_DAY])],
+        &[(Row::Reader, &[Int(2), Text(b"Bob"), Int(2932897)])],
+        &[BOB, (Row::Seat, &[Int(3), Int(2)])],
+        &[BOB, (Row::Seat, &[Int(-2), Int(2)])],
+        &[EMPTY],
+        &[(Row::Permit, &[Int(2), Int(1), TODAY])],
+        &[(Row::Permit, &[Int(-1), Int(1), TODAY])],
+        &[(Row::Permit, &[ANN, Int(2), NO_DAY])],
+    ];
+    let told = causes(rt.alloc(), &desks)?;
+    assert_eq!(&rt; told.as_str(), "666666666666666");
+    Ok(())
+}
+
+/// A number left out, or none; orders of nobody, for no container, in no state or on no day; the fourth of a day, and
+/// the second that waits for a container.
+#[test]
+fn doubtful_orders_are_told(rt: HostRuntime) -> Result<(), Fail> {
+    let desks: [&'static [Write]; 12] = [
+        &[THIRD],
+        &[(Row::Order, &[Int(0), ANN, Int(2), TODAY])],
+        &[(Row::Order, &[Int(-2), ANN, Int(2), TODAY])],
+        &[(Row::Order, &[Int(2), Int(2), Int(2), TODAY])],
+        &[(Row::Order, &[Int(2), ANN, Int(4), TODAY])],
+        &[SECOND, (Row::State, &[Int(7), Int(2)])],
+        &[SECOND, (Row::State, &[Int(0), Int(2)])],
+        &[SECOND, (Row::State, &[Int(-1), Int(2)])],
+        &[(Row::Order, &[Int(2), ANN, Int(2), TOMORROW])],
+        &[(Row::Order, &[Int(2), ANN, Int(2), NO_DAY])],
+        &[SECOND, THIRD, (Row::Order, &[Int(4), ANN, Int(1), TODAY])],
+        &[SECOND, (Row::Order, &[Int(3), ANN, Int(2), TODAY])],
+    ];
+    let told = causes(rt.alloc(), &desks)?;
+    assert_eq!(&rt; told.as_str(), "777777777777");
+    Ok(())
+}
+
+/// No container; a third place, or none; at the desk for an order, or out for none that is out; an order that is out
+/// without its container.
+#[test]
+fn doubtful_holdings_are_told(rt: HostRuntime) -> Result<(), Fail> {
+    let desks: [&'static [Write]; 11] = [
+        &[(Row::Holding, &[Int(4), Int(1), Null])],
+        &[(Row::Holding, &[Int(-1), Int(1), Null])],
+        &[(Row::Holding, &[Int(1), Int(3), Null])],
+        &[(Row::Holding, &[Int(1), Int(0), Null])],
+        &[(Row::Holding, &[Int(1), Int(1), Int(1)])],
+        &[(Row::Holding, &[Int(1), Int(2), Null])],
+        &[(Row::Holding, &[Int(1), Int(2), Int(1)])],
+        &[(Row::Holding, &[Int(1), Int(2), Int(9)])],
+        &[(Row::Holding, &[Int(1), Int(2), Int(-1)])],
+        &[SECOND, SECOND_IS_OUT],
+        &[
+            SECOND,
+            SECOND_IS_OUT,
+            (Row::Holding, &[Int(3), Int(2), Int(2)]),
+        ],
+    ];
+    let told = causes(rt.alloc(), &desks)?;
+    assert_eq!(&rt; told.as_str(), "88888888888");
+    Ok(())
+}
+
+/// A number left out, or none; a run of no lines, of too many, or on no day; a line without its run, or for no order
+/// of that container and ticket.
+#[test]
+fn doubtful_runs_are_told(rt: HostRuntime) -> Result<(), Fail> {
+    let desks: [&'static [Write]; 11] = [
+        &[
+            (Row::Run, &[Int(3), TODAY]),
+            (Row::Line, &[Int(3), Int(1), Int(1), ANN]),
+        ],
+        &[
+            (Row::Run, &[Int(0), TODAY]),
+            (Row::Line, &[Int(0), Int(1), Int(1), ANN]),
+        ],
+        &[RUN],
+        &[
+            SECOND,
+            THIRD,
+            (Row::Line, &[Int(1), Int(2), Int(2), ANN]),
+            (Row::Line, &[Int(1), Int(3), Int(3), ANN]),
+        ],
+        &[(Row::Run, &[Int(2), TOMORROW]), LINE],
+        &[(Row::Run, &[Int(2), NO_DAY]), LINE],
+        &[LINE],
+        &[(Row::Line, &[Int(-1), Int(1), Int(1), ANN])],
+        &[RUN, (Row::Line, &[Int(2), Int(2), Int(1), ANN])],
+        &[RUN, (Row::Line, &[Int(2), Int(1), Int(9), ANN])],
+        &[RUN, (Row::Line, &[Int(2), Int(1), Int(1), Int(2)])],
+    ];
+    let told = causes(rt.alloc(), &desks)?;
+    assert_eq!(&rt; told.as_str(), "99999999999");
+    Ok(())
+}
+
+/// A container in no place.
+const LOST: Write = (Row::Holding, &[Int(1), Int(3), Null]);
+
+/// A seat of nobody.
+const EMPTY: Write = (Row::Seat, &[Int(2), Int(2)]);
+
+/// Of several causes the first is told, whichever was written first.
+#[test]
+fn the_first_doubt_is_told(rt: HostRuntime) -> Result<(), Fail> {
+    let desks: [&'static [Write]; 5] = [
+        &[LINE, LOST, THIRD, EMPTY],
+        &[EMPTY, THIRD, LOST, LINE],
+        &[LINE, LOST, THIRD],
+        &[THIRD, LINE],
+        &[LINE, LOST],
+    ];
+    let told = causes(rt.alloc(), &desks)?;
+    assert_eq!(&rt; told.as_str(), "66778");
+    Ok(())
+}
+
+const FILE: &str = "doubtful-desk-of-the-tests.db";
+/// What is written before it goes into the file stands here.
+const LOG: &str = "doubtful-desk-of-the-tests.db-wal";
+
+fn cause_in_file(rt: &HostRuntime, writes: &[Write]) -> Result<u8, Fail> {
+    let mut conn = Connection::open(rt, FILE)?;
+    let cause = told_in_new(rt.alloc(), &mut conn, writes)?;
+    conn.close()?;
+    Ok(cause)
+}
+
+/// The causes of these desks, each in a new file.
+fn causes_in_files(rt: &HostRuntime, desks: &[&'static [Write]]) -> Result<String, Fail> {
+    let mut text = String::new(rt.alloc());
+    for &writes in desks {
+        let _ = fs::remove_file(rt, FILE);
+        let _ = fs::remove_file(rt, LOG);
+        let cause = cause_in_file(rt, writes)?;
+        write!(text, "{cause}")?;
+    }
+    Ok(text)
+}
+
+/// The same over files, one for each cause.
+#[test]
+fn doubtful_files_are_told(rt: HostRuntime) -> Result<(), Fail> {
+    let desks: [&'static [Write]; 4] = [
+        &[LINE, LOST, EMPTY],
+        &[LINE, LOST, THIRD],
+        &[LINE, LOST, SECOND],
+        &[LINE],
+    ];
+    let told = causes_in_files(&rt, &desks)?;
+    assert_eq!(&rt; told.as_str(), "6789");
+    fs::remove_file(&rt, FILE)?;
+    let _ = fs::remove_file(&rt, LOG);
+    Ok(())
+}
