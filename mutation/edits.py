@@ -1,6 +1,7 @@
 """Tries edits that the prover has to refuse, many of different functions in one check of a copy of the crate.
 
-  edits.sh [--gate] [--over] [--jobs N] [--said FOLDER] [CRATE | CRATE/EDIT ..]
+  edits.py [--gate] [--over] [--jobs N] [--said FOLDER] [CRATE | CRATE/EDIT ..]
+  edits.py --dry
 
 An edit is a file of mutation/edits/CRATE (with --gate: of crates/CRATE/must-fail), written as `rt ci` reads it: lines
 `file: PATH`, `old: TEXT`, `new: TEXT`. It counts as refused where the check says of the edited function itself that
@@ -14,6 +15,9 @@ mutation/check.sh's, over the libraries that are there: no walk over what they w
 upper crates. Verdicts: `refused`, `PROVED` (the contracts let the wrong body through), `unreadable` (its text is gone,
 or what it makes does not compile). The last line has the counts; the exit status is 1 where one is proved or
 unreadable, or none was tried.
+
+With --dry nothing is checked: of all edits, inside the gate and outside it, it prints those whose old text does not
+stand exactly once in its file, or whose crate is not there, and ends with 1 where there is one.
 """
 
 import argparse
@@ -216,14 +220,37 @@ def try_edits(bench, edits):
         judge(edit, bench.check([edit]))
 
 
+def files_of(folder):
+    return sorted(it for it in os.listdir(folder) if it.endswith(".edit"))
+
+
+def dry():
+    """Prints the edits that cannot be applied; 1 where there is one."""
+    folders = [(f"crates/{it}/must-fail", it) for it in sorted(os.listdir(f"{TOP}/crates"))]
+    folders += [(f"mutation/edits/{it}", it) for it in sorted(os.listdir(f"{TOP}/mutation/edits"))]
+    number = faults = 0
+    for folder, crate in folders:
+        for name in files_of(f"{TOP}/{folder}") if os.path.isdir(f"{TOP}/{folder}") else []:
+            edit = Edit(f"{TOP}/{folder}/{name}", crate, f"{TOP}/crates/{crate}")
+            number += 1
+            faults += bool(edit.verdict)
+            if edit.verdict:
+                print(f"{folder}/{name}: {edit.why}")
+    print(f"{number} edits, {faults} not applied")
+    return 1 if faults or not number else 0
+
+
 def main():
-    words = argparse.ArgumentParser(prog="edits.sh", description=__doc__.split("\n")[0])
+    words = argparse.ArgumentParser(prog="edits.py", description=__doc__.split("\n")[0])
+    words.add_argument("--dry", action="store_true", help="only look whether each edit's text stands once in its file")
     words.add_argument("--gate", action="store_true", help="the edits of crates/CRATE/must-fail")
     words.add_argument("--over", action="store_true", help="check over the libraries that are there")
     words.add_argument("--jobs", type=int, default=1, help="the processors of one check")
     words.add_argument("--said", metavar="FOLDER", help="keep what each check said there")
     words.add_argument("names", nargs="*", metavar="CRATE | CRATE/EDIT", help="those of a crate, or one edit")
     given = words.parse_args()
+    if given.dry:
+        return dry()
     check = ["{room}/mutation/check.sh", "{crate}"] if given.over else ["rt", "check", "--jobs", str(given.jobs)]
     of = (lambda it: f"{TOP}/crates/{it}/must-fail") if given.gate else (lambda it: f"{TOP}/mutation/edits/{it}")
     crates = [it for it in sorted(os.listdir(f"{TOP}/crates")) if os.path.isdir(of(it))]
@@ -231,7 +258,7 @@ def main():
     counts = {"refused": 0, "PROVED": 0, "unreadable": 0}
     for crate in names:
         only = [it.split("/")[1] + ".edit" for it in given.names if it.startswith(f"{crate}/")]
-        files = only or sorted(it for it in os.listdir(of(crate)) if it.endswith(".edit"))
+        files = only or files_of(of(crate))
         edits = [Edit(f"{of(crate)}/{it}", crate, f"{TOP}/crates/{crate}") for it in files]
         print(f"{crate}: {len(edits)} edits", flush=True)
         with tempfile.TemporaryDirectory(prefix="edits-") as room:
