@@ -7,9 +7,9 @@ top=$(cd "$(dirname "$0")/.." && pwd)
 case "${1:-}" in
 desk) needs="isad_core desk_core anyhow" ;;
 forests) needs="tree_core" ;;
-tables) needs="isad_core tree_core catalogue_core office_tables catalogue_rows catalogue_store desk_store sqlite" ;;
-reading_room) needs="isad_core tree_core desk_core catalogue_core office_tables catalogue_rows catalogue_store desk_checks desk_store sqlite" ;;
-office) needs="isad_core desk_core catalogue_store span_places place_checks office_core running_office sqlite" ;;
+tables) needs="isad_core tree_core catalogue_core office_tables catalogue_statements catalogue_store desk_store sqlite" ;;
+reading_room) needs="isad_core tree_core desk_core catalogue_core office_tables catalogue_statements catalogue_store integrity_checks desk_store sqlite" ;;
+office) needs="isad_core desk_core catalogue_store nested_sets integrity_checks office_core office sqlite" ;;
 *) echo "usage: bench/measure.sh desk|forests|tables|reading_room|office [WORDS]" >&2; exit 2 ;;
 esac
 words=("${@:2}")

@@ -2,13 +2,13 @@
 """Wrong rules, one at a time, in a copy of the repository: each has to be refused by a law or a worked row.
 
 mutation/wrong_rules.py [--dry] [WORD ..]: tries those rules whose label has one of the words, or all of them. It edits
-one definition at a time in a copy and checks the office. Build the libraries first (rt check in crates/office_rows).
+one definition at a time in a copy and checks the office. Build the libraries first (rt check in crates/state_encoding).
 With --dry it only looks whether each text that would be edited stands once in its file. It ends with 1 where a rule is let
 through or was not tried."""
 import os, re, subprocess, sys, tempfile, time
 SRC=os.path.dirname(os.path.dirname(os.path.abspath(__file__)))
 W=os.path.join(tempfile.mkdtemp(),'copy')
-O='crates/office_core/specs/'; C='crates/catalogue_core/specs/'; R='crates/office_rows/specs/'; T='crates/office_tables/specs/'; D='crates/desk_core/specs/'
+O='crates/office_core/specs/'; C='crates/catalogue_core/specs/'; R='crates/state_encoding/specs/'; T='crates/office_tables/specs/'; D='crates/desk_core/specs/'
 E=[
 # seats and tickets
 ('a ticket expires on its last day',O+'State.antt','int_lt reader.until s.day','int_le reader.until s.day'),
@@ -238,7 +238,7 @@ E=[
 ('IssuedNow tells one alone',O+'Queries.antt','filter_map (issued_json s) (containers s)','Rattle.std.specs.Prelude.take 1 (filter_map (issued_json s) (containers s))'),
 ('expired permits are not told',O+'Queries.antt','map permit_json (s.permits t)','map permit_json (filter (λ (permit : Permit). Rattle.std.specs.Prelude.int_le s.day permit.until) (s.permits t))'),
 ]
-ROWS=['office_core::worked::worked_desk_rows','office_core::worked::worked_catalogue_rows','office_core::worked::worked_shown_rows','office_core::worked::worked_rows','office_core::worked::worked_answers','office_rows::worked::worked_catalogue_causes','office_rows::worked::worked_desk_causes','office_rows::worked::worked_cell_causes']  # the functions whose rows are looked at first
+ROWS=['office_core::worked::worked_desk_rows','office_core::worked::worked_catalogue_rows','office_core::worked::worked_shown_rows','office_core::worked::worked_rows','office_core::worked::worked_answers','state_encoding::worked::worked_catalogue_causes','state_encoding::worked::worked_desk_causes','state_encoding::worked::worked_cell_causes']  # the functions whose rows are looked at first
 def run(cmd,cwd):
     p=subprocess.run(cmd,cwd=cwd,capture_output=True,text=True); return p.stdout+p.stderr
 def errors(out):
@@ -296,7 +296,7 @@ if __name__=='__main__':
         p=W+'/'+f; orig=open(p).read()
         if orig.count(old)!=1: print(f'NOT APPLIED | {label}',flush=True); continue
         open(p,'w').write(orig.replace(old,readable(new,orig),1)); n+=1
-        line,through=tried(label,f,W+'/crates/office_rows')
+        line,through=tried(label,f,W+'/crates/state_encoding')
         print(line,flush=True)
         if through: passed.append(label)
         if line.startswith('DOES NOT READ'): untried.append(label)
