@@ -15,8 +15,8 @@ use std::alloc::{AllocError, Global};
 
 // What the program's help says at its end.
 const EXITS: &str =
-    "Exit status: 0 done; 1 refused, or no sound office; 2 wrong words, day or settings;
-3 a fault of a file, the store, a port, a session or memory. Standard error says more.";
+    "Exit status: 0 done; 1 refused, not sound or old version; 2 invalid arguments, date or settings;
+3 a fault of a file, the store, a port, a session or memory. Details are on standard error.";
 
 // `--name <VALUE>`, which has to be there.
 fn option<'a>(alloc: Global, name: &'a str, value: &'a str, help: &'a str) -> Arg<'a>
@@ -57,7 +57,7 @@ fn connections<'a>(alloc: Global) -> Arg<'a>
         alloc,
         "connections",
         "NUMBER",
-        "Connections that are served before the program ends, 1 to 10000",
+        "Connections to serve before the program ends, 1 to 10000",
     )
     .value_parser(value_parser!(u32).range(1..=10_000))
 }
@@ -67,7 +67,7 @@ fn store<'a>(alloc: Global) -> Arg<'a>
     ensures rule { rule_of result ≡ store_option }
     ensures local { result.global ≡ false }
 {
-    option(alloc, "store", "STORE", "The file that keeps the office")
+    option(alloc, "store", "STORE", "The file that holds the office")
 }
 
 // A file, which may be left out.
@@ -76,7 +76,7 @@ fn file<'a>(alloc: Global) -> Arg<'a>
     ensures local { result.global ≡ false }
 {
     Arg::new(alloc, "FILE").help(
-        "The CSV file, UTF-8, at most 20000 rows; standard input if it is left out",
+        "The CSV file, in UTF-8, at most 20000 rows; standard input if omitted",
     )
 }
 
@@ -87,7 +87,7 @@ fn given_file<'a>(alloc: Global) -> Arg<'a>
 {
     Arg::new(alloc, "FILE")
         .required(true)
-        .help("The CSV file, UTF-8, at most 20000 rows")
+        .help("The CSV file, in UTF-8, at most 20000 rows")
 }
 
 // The command with the repository's options.
@@ -101,13 +101,13 @@ fn with_repository<'a>(alloc: Global, command: Command<'a>) -> Result<Command<'a
             alloc,
             "country",
             "COUNTRY",
-            "The country code, two letters A to Z, such as GB",
+            "The country code: two letters A to Z, such as GB",
         ))?
         .arg(option(
             alloc,
             "repo",
             "REPOSITORY",
-            "The repository code, 1 to 32 ASCII characters, no spaces, such as 0999",
+            "The repository code: 1 to 32 ASCII characters without spaces, such as 0999",
         ))
 }
 
@@ -118,11 +118,11 @@ fn with_room<'a>(alloc: Global, command: Command<'a>) -> Result<Command<'a>, All
         → IfOk result (λ c. (out-Command c).has_globals ≡ false) }
 {
     command
-        .arg(number(alloc, "seats", "Seats of the reading room, 1 to 200"))?
+        .arg(number(alloc, "seats", "Seats in the reading room, 1 to 200"))?
         .arg(number(
             alloc,
             "daily",
-            "Orders that a reader may place a day, 1 to 50",
+            "Orders that a reader may place per day, 1 to 50",
         ))
 }
 
@@ -136,13 +136,9 @@ fn with_desk<'a>(alloc: Global, command: Command<'a>) -> Result<Command<'a>, All
         .arg(number(
             alloc,
             "hands",
-            "Containers that a reader may have at once, 1 to 10",
+            "Containers that a reader may hold at once, 1 to 10",
         ))?
-        .arg(number(
-            alloc,
-            "run",
-            "Containers that one run fetches at most, 1 to 100",
-        ))
+        .arg(number(alloc, "run", "Containers that one run may fetch, 1 to 100"))
 }
 
 // The command with the settings of an office, and the day on which it opens.
@@ -158,7 +154,7 @@ fn with_settings<'a>(alloc: Global, command: Command<'a>) -> Result<Command<'a>,
         alloc,
         "day",
         "DAY",
-        "The day on which the office opens, YYYY-MM-DD, 1900-01-01 to 9999-12-31",
+        "The first day of the office: YYYY-MM-DD, 1900-01-01 to 9999-12-31",
     ))
 }
 
@@ -167,7 +163,7 @@ fn preview<'a>(alloc: Global) -> Result<Command<'a>, AllocError>
     ensures local { IfOk result (λ c. (out-Command c).has_globals ≡ false) }
 {
     let command = Command::new(alloc, "preview").about(
-        "Prints the finding aids of a CSV file's published descriptions",
+        "Print the finding aids of the published descriptions in a CSV file",
     );
     with_repository(alloc, command)?.arg(file(alloc))
 }
@@ -176,9 +172,7 @@ fn init<'a>(alloc: Global) -> Result<Command<'a>, AllocError>
     ensures shape { IfOk result (λ c. shape_of c ≡ init_command) }
     ensures local { IfOk result (λ c. (out-Command c).has_globals ≡ false) }
 {
-    let command = Command::new(alloc, "init").about(
-        "Makes a new office, in a file that is not there yet",
-    );
+    let command = Command::new(alloc, "init").about("Create an office in a new file");
     with_settings(alloc, command.arg(store(alloc))?)
 }
 
@@ -187,7 +181,7 @@ fn trial<'a>(alloc: Global) -> Result<Command<'a>, AllocError>
     ensures local { IfOk result (λ c. (out-Command c).has_globals ≡ false) }
 {
     let command = Command::new(alloc, "trial").about(
-        "Answers HTTP requests from standard input on a new office in memory",
+        "Answer HTTP requests from standard input with a new office in memory",
     );
     with_settings(alloc, command)
 }
@@ -197,13 +191,13 @@ fn import<'a>(alloc: Global) -> Result<Command<'a>, AllocError>
     ensures local { IfOk result (λ c. (out-Command c).has_globals ≡ false) }
 {
     Command::new(alloc, "import")
-        .about("Takes the descriptions of a CSV file into the office, and prints what came of it")
+        .about("Import the descriptions of a CSV file and print what changed")
         .arg(store(alloc))?
         .arg(option(
             alloc,
             "source",
             "SOURCE",
-            "Where the file comes from, 1 to 64 ASCII letters, digits, '.', '_' or '-'",
+            "Where the file comes from: 1 to 64 ASCII letters, digits, '.', '_' or '-'",
         ))?
         .arg(given_file(alloc))
 }
@@ -220,11 +214,7 @@ fn talk<'a>(alloc: Global) -> Result<Command<'a>, AllocError>
     ensures shape { IfOk result (λ c. shape_of c ≡ talk_command) }
     ensures local { IfOk result (λ c. (out-Command c).has_globals ≡ false) }
 {
-    on_store(
-        alloc,
-        "talk",
-        "Answers HTTP requests from standard input on the office",
-    )
+    on_store(alloc, "talk", "Answer HTTP requests from standard input")
 }
 
 fn serve<'a>(alloc: Global) -> Result<Command<'a>, AllocError>
@@ -232,7 +222,7 @@ fn serve<'a>(alloc: Global) -> Result<Command<'a>, AllocError>
     ensures local { IfOk result (λ c. (out-Command c).has_globals ≡ false) }
 {
     Command::new(alloc, "serve")
-        .about("Answers HTTP requests on 127.0.0.1, one connection after the other")
+        .about("Answer HTTP requests on 127.0.0.1, one connection at a time")
         .arg(store(alloc))?
         .arg(port(alloc))?
         .arg(connections(alloc))
@@ -245,7 +235,7 @@ fn check<'a>(alloc: Global) -> Result<Command<'a>, AllocError>
     on_store(
         alloc,
         "check",
-        "Tells whether the office is sound: 'sound', 'old version', or 'not sound' and a cause",
+        "Check the office and print 'sound', 'old version', or 'not sound' with a cause",
     )
 }
 
@@ -256,7 +246,7 @@ fn migrate<'a>(alloc: Global) -> Result<Command<'a>, AllocError>
     on_store(
         alloc,
         "migrate",
-        "Brings an office of version 1 to version 2, and prints 'migrated'",
+        "Migrate an office from version 1 to version 2 and print 'migrated'",
     )
 }
 
@@ -268,7 +258,7 @@ fn bare<'a>(alloc: Global) -> Result<Command<'a>, AllocError>
         .no_binary_name(true)
         .subcommand_required(true)
         .disable_help_subcommand(true)
-        .about("Finding aids of an archive, and its reading room's desk")
+        .about("Finding aids for an archive, and the desk of its reading room")
         .after_help(EXITS)
         .bin_name("record_office")
 }
