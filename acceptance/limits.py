@@ -5,7 +5,6 @@ A ticket's permits, the fields and the bytes of a head, the messages of a connec
 down, made here by their rules in the form that days.py tells. Each is asked of `trial` and of `talk` over a new store in
 ROOM. It prints how many were held, and ends with 1 where something is other than wanted."""
 import sys
-from pathlib import Path
 
 import days
 
@@ -41,7 +40,8 @@ def answered(question):
 
 def permits():
     """A hundred units, and one more; a later day for one of them; one that is taken back makes room."""
-    lines = ["POST /desk/import/a @units.csv"]
+    lines = ["POST /desk/import/a", "| legacyId,identifier,title,publicationStatus"]
+    lines += [f"| {n},A{n},Plans,Published" for n in range(1, PERMITS + 2)]
     remarks = ",".join(f'{{"kind":2,"row":{n + 1}}}' for n in range(1, PERMITS + 2))
     lines.append(f'200 {{"changed":0,"new":{PERMITS + 1},"remarks":[{remarks}],"same":0,"translations":0}}')
     lines += [f'POST /desk/register {{"name":"Ann","until":"{EVER}"}}', '200 {"ticket":1}']
@@ -77,17 +77,16 @@ DAYS = {
 }
 
 
-def is_held(name, room):
-    file = Path(room) / f"{name}.day"
-    file.write_text("".join(f"{line}\n" for line in DAYS[name]))
-    day = days.Day(file)
-    return day.is_held("trial", *days.SETTINGS) and days.is_kept(day, f"{room}/{name}.db")
+def made():
+    return [days.Day(name, None, "".join(f"{it}\n" for it in lines)) for name, lines in DAYS.items()]
+
+
+def is_held(day, room):
+    return day.is_tried() and days.is_kept(day, f"{room}/{day.name}.db")
 
 
 def main(room):
-    rows = "".join(f"{n},A{n},Plans,Published\n" for n in range(1, PERMITS + 2))
-    (Path(room) / "units.csv").write_text(f"legacyId,identifier,title,publicationStatus\n{rows}")
-    held = sum(is_held(name, room) for name in DAYS)
+    held = sum(is_held(day, room) for day in made())
     print(f"of {len(DAYS)} days at a limit {held} were held by trial and over a store")
     return held != len(DAYS)
 

@@ -1,0 +1,9 @@
+"""Filled stores, to come."""
+
+
+def fill(office, day):
+    pass
+
+
+def made():
+    return []
