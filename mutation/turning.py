@@ -87,7 +87,7 @@ def of_constant(node):
 
 def of_call(node):
     if isinstance(node.func, ast.Name) and node.func.id in CALLED:
-        yield called(CALLED[node.func.id], *node.args) if not node.keywords else node
+        yield with_field(node, "func", ast.Name(id=CALLED[node.func.id], ctx=ast.Load()))
     if name_of(node) == "sorted":
         yield called("reversed_list", node)
     if isinstance(node.func, ast.Attribute) and METHODS.get(node.func.attr):

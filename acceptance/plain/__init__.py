@@ -5,6 +5,7 @@ It was written from the rules, and not from the program. A command that is refus
 bodies and answers, and no HTTP: heads, lengths, methods and how a connection ends are the program's alone. What it does not
 know either: how deep JSON may nest, and a surrogate that stands alone in it."""
 import collections
+import csv
 import pickle
 
 from .catalogue import Catalogue
@@ -16,6 +17,7 @@ from .requests import COMMANDS, Bad, as_json, is_import, members_of, question_of
 from .shown import Shown
 
 __all__ = ["BOX", "ELEMENTS", "Office", "as_json", "text"]
+csv.field_size_limit(1 << 30)
 
 
 class Office(Catalogue, Desk, Shown):

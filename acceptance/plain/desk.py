@@ -5,7 +5,6 @@ import re
 from .elements import BLANK
 from .refusals import refuse
 
-LAST_DAY = "9999-12-31"
 LONGEST_NAME = 100
 MOST_TICKETS, MOST_ORDERS, MOST_RUNS, MOST_PERMITS = 1_000_000, 10_000_000, 1_000_000, 100
 
@@ -45,7 +44,7 @@ class Desk:
         return {c: self.orders[place].ticket for c, place in sorted(self.places.items()) if place != "desk"}
 
     def open_day(self, day):
-        refuse(18, self.day == LAST_DAY or day <= self.day)
+        refuse(18, day <= self.day)
         refuse(19, self.out())
         self.day = day
         self.seated = {}
@@ -111,7 +110,7 @@ class Desk:
     # ---- the containers' ways
 
     def run(self):
-        waiting = dict.fromkeys(self.orders[it].container for it in self.waiting)
+        waiting = {self.orders[it].container for it in self.waiting}
         heads = sorted(self.queue(it)[0] for it in waiting if it not in self.places)
         picked = [it for it in heads if self.is_open(self.orders[it].container, self.orders[it].ticket)][: self.run_size]
         refuse(24, not picked)

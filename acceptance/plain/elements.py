@@ -38,7 +38,7 @@ BLANK = " \t\r\n"
 
 def rank(level):
     """A level's rank, where it has one: its case in ASCII and its hyphens count for nothing."""
-    return RANKS.get(re.sub("[A-Z]", lambda it: it[0].lower(), level.replace("-", "")))
+    return RANKS.get(level.replace("-", "").lower())
 
 
 def one_line(text):

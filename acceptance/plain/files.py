@@ -12,7 +12,6 @@ OTHERS = ["legacyId", "parentId", "qubitParentSlug", "publicationStatus", "cultu
 READ = {*OTHERS, *(column for _, _, columns in ELEMENTS for column in columns)}
 LAST_ROW, MOST_BYTES = 20_001, 65_535
 MARK = "\ufeff"
-csv.field_size_limit(1 << 30)
 
 
 @dataclasses.dataclass

@@ -9,7 +9,6 @@ NAMES = (
 
 class Refused(Exception):
     def __init__(self, code, **members):
-        super().__init__(code)
         self.told = {"code": code, "refused": NAMES[code - 1], **members}
 
 
