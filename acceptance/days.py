@@ -85,7 +85,8 @@ class Day:
     def __init__(self, name, folder, text):
         self.name, self.folder, self.settings = name, folder, dict(USUAL)
         self.said = self.answered = self.told = b""
-        self.status, self.kept, self.asked, self.is_raw, self.weight = 0, [], [], False, 0
+        self.status, self.kept, self.asked, self.is_raw = 0, [], [], False
+        self.filled, self.weight = None, 0
         for lines in re.findall(r"^(?!#).+\n(?:\|.*\n)*", text, re.M):
             self.read(*lines.splitlines())
 
