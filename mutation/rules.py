@@ -17,7 +17,7 @@ import os
 import resource
 import signal
 import sys
-import types
+import time
 from pathlib import Path
 
 ROOT = Path(__file__).resolve().parents[1]
@@ -34,7 +34,7 @@ TURNED = ["catalogue", "desk", "elements", "files", "refusals", "requests", "sho
 OTHERS = ["tables", "__init__"]
 TEXTS = {name: (PLAIN / f"{name}.py").read_text() for name in TURNED + OTHERS}
 COMPILED = {name: compile(text, f"<plain {name}>", "exec") for name, text in TEXTS.items()}
-SECONDS, MEMORY, AT_ONCE = 20, 4 << 30, 2
+SECONDS, MEMORY, AT_ONCE, LONG = 20, 4 << 30, 2, 0.1
 
 
 # ---- what a turned rule may call
@@ -117,7 +117,7 @@ def is_answered(plain, day):
 
 
 def calls_of(day):
-    """The functions that a day calls, by module and name."""
+    """Whether a day is answered as written, and the functions that it calls, by module and name, or none of a long one."""
     called = set()
 
     def seen(frame, event, _):
@@ -125,12 +125,17 @@ def calls_of(day):
         if event == "call" and code.co_filename.startswith("<plain "):
             called.add(code.co_filename[7:-1] + "." + code.co_qualname.partition(".<locals>")[0])
 
-    plain = plain_of(COMPILED)
+    plain, begun = plain_of(COMPILED), time.process_time()
+    is_so = is_answered(plain, day)
+    day.weight = time.process_time() - begun
+    if day.weight > LONG:
+        return is_so, None
     sys.setprofile(seen)
     try:
-        return is_answered(plain, day), called
+        is_answered(plain, day)
     finally:
         sys.setprofile(None)
+    return is_so, called
 
 
 def told_turns():
@@ -230,8 +235,12 @@ class Trial:
 
 
 def all_days():
-    written = [it for it in days.written() + limits.made() + filled.made() if not it.is_raw]
-    return sorted(written, key=lambda it: (it.weight, len(it.asked)))
+    return [it for it in days.written() + limits.made() + filled.made() if not it.is_raw]
+
+
+def is_reached(function, called):
+    """Whether a turn can be seen where these functions are called; a long day may call all, and a table is in no function."""
+    return called is None or "." not in function or function in called
 
 
 def main(*words):
@@ -242,6 +251,7 @@ def main(*words):
     if other or not written:
         print(f"not answered as written: {other}\n0 passed, {len(other)} failed")
         return 1
+    written.sort(key=lambda it: it.weight)
     running = {}
     for name, module, function, tree in itertools.chain(told_turns(), made_turns()):
         if not trial.is_wanted(name):
@@ -250,7 +260,7 @@ def main(*words):
             trial.failed += 1
             print(f"NOT APPLIED | {name}")
             continue
-        tried = [day for day in written if function.count(".") < 1 or function in reached[day.name][1]]
+        tried = [day for day in written if is_reached(function, reached[day.name][1])]
         while len(running) >= AT_ONCE:
             trial.take(*ended(running))
         child, reader = begin(module, tree, tried)

@@ -6,6 +6,7 @@ an effect is done to the next thing; a member of a reply is wrong. A name has th
 after, and no number of a line."""
 import ast
 import collections
+import re
 
 COMPARED = {
     ast.Lt: (ast.LtE, ast.GtE),
@@ -130,7 +131,11 @@ def of_sum(node):
 
 
 def of_format(node):
-    return ()
+    """The other side of a column, and another width."""
+    side, width = node.values[0].value[0], int(node.values[0].value[1:])
+    yield ast.JoinedStr([ast.Constant(f"{'>' if side == '<' else '<'}{width}")])
+    yield ast.JoinedStr([ast.Constant(f"{side}{width + 1}")])
+    yield ast.JoinedStr([ast.Constant(f"{side}{width - 1}")])
 
 
 def with_field(node, field, value):
@@ -198,6 +203,10 @@ def is_docstring(node):
     return isinstance(node, ast.Expr) and isinstance(node.value, ast.Constant)
 
 
+def is_format(node):
+    return isinstance(node, ast.JoinedStr) and len(node.values) == 1 and re.fullmatch("[<>][0-9]+", str(getattr(node.values[0], "value", "")))
+
+
 def put(node, field, place, value):
     if place is None:
         setattr(node, field, value)
@@ -228,9 +237,10 @@ def turns(module, text):
 
 def turned_expressions(tree):
     for parent, field, place, node, function, statement in list(places(tree)):
-        if is_fixed(node, statement) or field == "format_spec" or type(node) not in EXPRESSIONS:
+        alternatives = of_format if field == "format_spec" else EXPRESSIONS.get(type(node))
+        if is_fixed(node, statement) or alternatives is None or is_format(parent):
             continue
-        for other in list(EXPRESSIONS[type(node)](node)):
+        for other in list(alternatives(node)):
             words = f"{shortened(said(node))} -> {shortened(said(other))} in {shortened(said(statement).split(':')[0])}"
             yield function, words, *change(parent, field, place, node, other)
 

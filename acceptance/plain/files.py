@@ -7,7 +7,7 @@ from .elements import BLANK, ELEMENTS
 from .refusals import refuse
 
 BOX = ["physicalObjectName", "physicalObjectLocation", "physicalObjectType"]
-SPLIT = {"eventDates", "eventActors", "eventActorHistories", "language", "script", *BOX}
+SPLIT = {"eventDates", "eventActors", "eventActorHistories", "language", "script"}
 OTHERS = ["legacyId", "parentId", "qubitParentSlug", "publicationStatus", "culture", *BOX]
 READ = {*OTHERS, *(column for _, _, columns in ELEMENTS for column in columns)}
 LAST_ROW, MOST_BYTES = 20_001, 65_535
