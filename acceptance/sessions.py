@@ -24,7 +24,7 @@ DAYS = ["2024-02-28", "2024-02-29", "2024-03-01", "2024-03-02", "2024-03-03", "2
 LATE = ["2030-01-01"] * 6 + DAYS[2:]
 LEVELS = ["Fonds", "fonds", "Collection", "Subfonds", "Sub-series", "Series", "File", "-F-ile", "Item", "Bundle", ""]
 TITLES = ["Plans", "Minutes", "Maps", "", "NULL", "a|b", 'say "so"', "Deeds", "two\nlines", " Letters "]
-STATUSES = ["Published", "Published", "Published", "published", "PUBLISHED", "Draft", ""]
+STATUSES = ["Published", "Published", "Published", "Published", "published", "PUBLISHED", "Draft", ""]
 NAMES = ["Box 1", "Box 2", "Box 3", "Box 4", "NULL", "", " Box 1 "]
 RARE = {"qubitParentSlug", "culture", "accessionNumber", "physicalObjectType"}
 COLUMNS = {
@@ -208,6 +208,8 @@ class Session:
     def order(self):
         ticket = self.ticket()
         able = [it for it in range(1, len(self.office.containers) + 1) if self.office.is_open(it, ticket)]
+        if not able and self.happens(0.5):
+            return self.status()
         container = self.random.choice(able) if able and self.happens(0.8) else self.container()
         return "orders", {"ticket": ticket, "container": container}
 
@@ -215,8 +217,9 @@ class Session:
         """An issue to who is first at a container at the desk, or what that one lacks, or what brings one there."""
         office = self.office
         ready = [it for it, place in office.places.items() if place == "desk" and office.queue(it)]
-        if not ready and self.happens(0.8):
-            return self.random.choice([self.order, self.run])()
+        if not ready and self.happens(0.9):
+            is_due = any(office.orders[it].container not in office.places for it in office.waiting)
+            return self.run() if is_due and self.happens(0.7) else self.order()
         if not ready or self.happens(0.05):
             return "issue", {"container": self.container(), "ticket": self.ticket()}
         container = self.random.choice(ready)
@@ -292,9 +295,9 @@ class Session:
         leave: 2,
         order: 13,
         cancel: 2,
-        run: 8,
+        run: 3,
         reshelve: 1,
-        issue: 15,
+        issue: 20,
         give_back: 3,
         next_day: 3,
         status: 10,
