@@ -3,7 +3,8 @@
 
 Each file days/*.day is asked of `trial`, in one piece and byte by byte, and of `talk` over a new store: each has to print
 the bytes that it has, and the store has to be sound then. With DAY and STORE this one is asked of that store. It prints
-how many days were held, and ends with 1 where something is other than wanted or no day is there. A day has these lines:
+how many days were held, and ends with 1 where something is other than wanted, no day is there, or less than a third have
+other settings than the usual ones. A day has these lines:
 
     # what it is about
     with NAME VALUE ..  settings other than country GB, repo 0999, seats 2, daily 3, hands 1, run 2, day 2024-03-01
@@ -191,7 +192,7 @@ def main(room, day=None, store=None):
     other = sum(day.has_other_settings() for day in days)
     print(f"of {len(days)} days {tried} were held by trial, {read} byte by byte, and {kept} over a store")
     print(f"{other} of them have other settings than 2 seats, 3 orders a day, 1 in hands and 2 a run")
-    return not days or {tried, read, kept} != {len(days)}
+    return not days or {tried, read, kept} != {len(days)} or 3 * other < len(days)
 
 
 if __name__ == "__main__":
