@@ -6,8 +6,9 @@ makes a store, SQLite fills a table up to some rows below its limit, and `check`
 for the last that there is room for, and for one more, which has to be refused Full, but not before what is looked at first;
 and `check` again. It prints how long each day took, and ends with 1 where something is other than wanted.
 
-Of the orders, ten million, the day takes minutes and some 2 GB; it is held only where it is named. An office of acceptance/plain
-counts what fills it, and does not see it: so mutation/rules.py holds these days, orders too, against the plain office."""
+Of the orders, of which there may be ten million, the day is held only where it is named: to open 300,000 took a slow build
+of the program more than a minute. An office of acceptance/plain counts what fills it, and does not see it: so
+mutation/rules.py holds these days, that of the orders too, against the plain office."""
 import contextlib
 import sqlite3
 import sys
@@ -74,8 +75,8 @@ GET /desk/runs/1000000
 |                      Box 1                 1        2       1
 """,
     "containers": f"""with seats 1 daily 1 hands 1 run 1
-{ANN}{one("1,Plans,Published,Box 1|Last")}{NEW}{LENT}{one("2,Maps,Published,One more")}{FULL}{one("1,Plans,Published,One more")}{FULL}\
-{one("1,Plans,Published,Last")}409 {{"code":21,"container":1,"refused":"WithReader"}}
+{ANN}{one("1,Plans,Published,Box 1|Last")}{NEW}{LENT}{one("2,Maps,Published,One more")}{FULL}\
+{one("1,Plans,Published,One more")}{FULL}{one("1,Plans,Published,Last")}409 {{"code":21,"container":1,"refused":"WithReader"}}
 {one("2,Maps,Published,Last")}{NEW}GET /public/aid/2
 200
 | GB 0999 [-] Maps
@@ -95,7 +96,8 @@ POST /desk/remove {{"unit":200000}}
 | GB 0999 [-] Maps
 """,
     "numbers": f"""with seats 1 daily 50 hands 1 run 100
-{ANN}{one("1,Plans,Published,Box 1")}{NEW}{one("2,Maps,Published,")}{NEW}{LENT}{one("3,Deeds,Published,")}{FULL}POST /desk/import/a
+{ANN}{one("1,Plans,Published,Box 1")}{NEW}{one("2,Maps,Published,")}{NEW}{LENT}{one("3,Deeds,Published,")}{FULL}\
+POST /desk/import/a
 | legacyId,title,publicationStatus,physicalObjectName
 | 1,Plans,Published,Box 2
 | 3,Deeds,Published,
@@ -215,7 +217,8 @@ def fill(office, day):
     """Fills a plain office as SQL fills a store."""
     name = day.filled
     if name in ("runs", "orders"):
-        office.post("/desk/import/a", b"legacyId,title,publicationStatus,physicalObjectName\n1,Plans,Published,Box 1" + b"|Box 2" * (name == "orders"))
+        head, boxes = b"legacyId,title,publicationStatus,physicalObjectName\n", b"Box 1|Box 2" if name == "orders" else b"Box 1"
+        office.post("/desk/import/a", head + b"1,Plans,Published," + boxes)
         office.post("/desk/register", b'{"name":"Ann","until":"2024-12-31"}')
     if name == "runs":
         office.post("/public/orders", b'{"ticket":1,"container":1}')

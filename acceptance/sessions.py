@@ -391,12 +391,13 @@ def listed(counts):
 
 
 def main(program, first=0, number=200):
-    kept = [int(it.split()[0]) for it in KEPT.read_text().splitlines() if it and not it.startswith("#")]
-    seeds = [*range(int(first), int(first) + int(number)), *kept]
+    kept = {int(it.split()[0]) for it in KEPT.read_text().splitlines() if it and not it.startswith("#")}
+    seeds = sorted(kept | set(range(int(first), int(first) + int(number))))
     held = sum(is_held(program, seed) for seed in seeds)
     print(f"of {len(seeds)} random sessions, {len(kept)} of kept seeds, {held} were answered as by a plain office")
     came = wanted_counts()
-    print(f"commands, and those refused by number: {listed((f'{path} {code or str()}'.strip(), it) for (path, code), it in sorted(count.items()))}")
+    asked = ((f"{path} {code or ''}".strip(), times) for (path, code), times in sorted(count.items()))
+    print(f"commands, and those refused by number: {listed(asked)}")
     print(f"what came: {listed(came.items())}")
     rare = [name for name, times in came.items() if times < LEAST] if int(number) >= 100 else []
     if rare:

@@ -1,5 +1,5 @@
 #!/usr/bin/env python3
-"""Turns the rules of the plain office, one at a time: each has to be refused by a fixed day. mutation/rules.py [-v] [WORD ..]
+"""Turns the rules of the plain office, one at a time: each has to be refused by a fixed day. mutation/rules.py [WORD ..]
 
 The rules are the modules of acceptance/plain but tables.py and the machinery of requests.py. Each is turned at each of its
 places (turning.py), and as rules_told.py tells by hand. All fixed days of the rules are replayed: those of acceptance/days
@@ -35,6 +35,7 @@ OTHERS = ["tables", "__init__"]
 TEXTS = {name: (PLAIN / f"{name}.py").read_text() for name in TURNED + OTHERS}
 COMPILED = {name: compile(text, f"<plain {name}>", "exec") for name, text in TEXTS.items()}
 SECONDS, MEMORY, AT_ONCE, LONG = 20, 4 << 30, 2, 0.1
+NO_RULES = "no rules"
 
 
 # ---- what a turned rule may call
@@ -162,11 +163,14 @@ def refuser(module, tree, tried):
 
     signal.signal(signal.SIGALRM, late)
     resource.setrlimit(resource.RLIMIT_AS, (MEMORY, MEMORY))
-    compiled, plain = {**COMPILED, module: compile(tree, f"<plain {module}>", "exec")}, None
+    compiled = {**COMPILED, module: compile(tree, f"<plain {module}>", "exec")}
+    try:
+        plain = plain_of(compiled)
+    except Exception:
+        return NO_RULES
     for day in tried:
         signal.alarm(SECONDS)
         try:
-            plain = plain or plain_of(compiled)
             if not is_answered(plain, day):
                 return day.name
         except Exception:
@@ -201,19 +205,21 @@ class Trial:
     """What came of the turns."""
 
     def __init__(self, words):
-        self.is_told = "-v" in words
-        self.words = [it for it in words if it != "-v"]
-        self.passed = self.failed = 0
-        self.same, self.by = set(), {}
+        self.words = words
+        self.passed = self.failed = self.unread = 0
+        self.same, self.by = set(), set()
 
     def is_wanted(self, name):
         return not self.words or any(it in name for it in self.words)
 
     def take(self, name, day):
+        if day == NO_RULES:
+            self.unread += 1
+            return
         reason = rules_same.SAME.get(name)
         if day and reason is None or not day and reason is not None:
             self.passed += 1
-            self.by[day] = self.by.get(day, 0) + 1
+            self.by |= {day} - {""}
         else:
             self.failed += 1
         if reason is not None:
@@ -229,13 +235,13 @@ class Trial:
             for name in sorted(rules_same.SAME.keys() - self.same):
                 self.failed += 1
                 print(f"LISTED AS THE SAME, but no turn | {name}")
-        print(f"{len(self.same)} mean the same; {len(self.by)} days refuse the others")
+        print(f"{len(self.same)} mean the same; {len(self.by)} days refuse the others; {self.unread} left tables that nothing reads")
         print(f"{self.passed} passed, {self.failed} failed")
         return self.failed > 0
 
 
 def all_days():
-    return [it for it in days.written() + limits.made() + filled.made() if not it.is_raw]
+    return [it for it in days.written() + limits.made() + filled.made() if it.asked and not it.is_raw]
 
 
 def is_reached(function, called):

@@ -37,25 +37,28 @@ def essential_but(element):
 
 
 def capped(setting, most):
-    return f"{setting} is {most} at most", "__init__", SETTINGS, SETTINGS.replace(f"int({setting})", f"min(int({setting}), {most})")
+    wrong = SETTINGS.replace(f"int({setting})", f"min(int({setting}), {most})")
+    return f"{setting} is {most} at most", "__init__", SETTINGS, wrong
 
 
 def at_least(setting, least):
-    return f"{setting} is {least} at least", "__init__", SETTINGS, SETTINGS.replace(f"int({setting})", f"max(int({setting}), {least})")
+    wrong = SETTINGS.replace(f"int({setting})", f"max(int({setting}), {least})")
+    return f"{setting} is {least} at least", "__init__", SETTINGS, wrong
 
 
 def too_early(what, module, old):
     return f"{what} are full one too early", module, old, old.replace(" > ", " > -1 + ").replace(" >= ", " >= -1 + ")
 
 
-def closer(name, wrong):
+def closing(name, wrong):
     return name, "catalogue", UNTIL, "        it = self.unit(unit)\n" + wrong
 
 
 TURNS = [
     ("Move tells 21 before 25", "catalogue", DEEP + GOES + "        self.gate()\n",
      DEEP.replace("refuse(25, ", "deep = (") + GOES + "        self.gate()\n        refuse(25, deep)\n"),
-    ("the gate refuses for a holder who has expired", "catalogue", GATE, GATE.replace("ticket),", "ticket) or self.has_expired(ticket),", 1)),
+    ("the gate refuses for a holder who has expired", "catalogue", GATE,
+     GATE.replace("ticket),", "ticket) or self.has_expired(ticket),")),
     ("Return is refused for a holder who has expired", "desk", "        order = self.places[container]\n",
      "        order = self.places[container]\n        refuse(4, self.has_expired(self.orders[order].ticket))\n"),
     ("a remark of kind 1 passes over a parent without a rank", "catalogue", RANKS,
@@ -88,12 +91,13 @@ TURNS = [
      NEW.replace("row.draft", "row.draft or above is not None and self.units[above].draft")),
     ("a new row anywhere below a draft becomes a draft", "catalogue", NEW,
      NEW.replace("row.draft", "row.draft or any(self.units[n].draft for n in self.path(above))")),
-    closer("a closure until a day that is not later keeps the one that was",
+    closing("a closure until a day that is not later keeps the one that was",
            "        it.until = until if until is None or until > self.day else it.until\n"),
-    closer("a closure until a day that is not later stores none",
+    closing("a closure until a day that is not later stores none",
            "        it.until = until if until is None or until > self.day else None\n"),
     ("a permit that has expired is replaced by an earlier day", "desk", LATER,
-     '        kept = self.permits.get((ticket, unit), "")\n        self.permits[ticket, unit] = until if kept < self.day else max(until, kept)\n'),
+     '        kept = self.permits.get((ticket, unit), "")\n'
+     "        self.permits[ticket, unit] = until if kept < self.day else max(until, kept)\n"),
     ("a permit stands until the day that is asked", "desk", LATER, "        self.permits[ticket, unit] = until\n"),
     ("the highest value above is found", "shown", NEAREST,
      "places = [unit, *self.path(unit)[:-1]] if it in FOUND_ABOVE else [unit]"),
@@ -107,11 +111,14 @@ TURNS = [
      NEW.replace(", above", ", until=self.units[above].until if above is not None else None, above")),
     ("a new unit below a closed one is refused", "catalogue", "        self.units[unit] = " + NEW,
      "        refuse(22, any(map(self.is_closed, self.path(above))), row=row.number, cause=11)\n        self.units[unit] = " + NEW),
-    ("an unranked level below a ranked one is remarked on", "catalogue", KIND_1, "return [1] if higher and (not own or own < higher) else []"),
-    ("a ranked level below an unranked one is remarked on", "catalogue", KIND_1, "return [1] if own and (not higher or own < higher) else []"),
+    ("an unranked level below a ranked one is remarked on", "catalogue", KIND_1,
+     "return [1] if higher and (not own or own < higher) else []"),
+    ("a ranked level below an unranked one is remarked on", "catalogue", KIND_1,
+     "return [1] if own and (not higher or own < higher) else []"),
     ("a run passes over a head whose hands are full", "desk", PICKED,
      PICKED[:-1] + " and list(self.out().values()).count(self.orders[it].ticket) < self.hands]"),
-    ("a run passes over a head who has expired", "desk", PICKED, PICKED[:-1] + " and not self.has_expired(self.orders[it].ticket)]"),
+    ("a run passes over a head who has expired", "desk", PICKED,
+     PICKED[:-1] + " and not self.has_expired(self.orders[it].ticket)]"),
     ("a run passes over a head without a seat", "desk", PICKED, PICKED[:-1] + " and self.seat_of(self.orders[it].ticket)]"),
     ("Renew never shortens", "desk", "        self.reader(ticket).until = until\n",
      "        it = self.reader(ticket)\n        it.until = max(until, it.until)\n"),
@@ -122,7 +129,8 @@ TURNS = [
     ("the daily limit does not count cancelled orders", "desk", "        self.waiting.remove(order)\n        return",
      "        self.waiting.remove(order)\n        self.placed[self.day, self.orders[order].ticket] -= 1\n        return"),
     ("a permit opens what is below its unit alone", "catalogue", "not any(self.is_permitted(it, ticket) for it in path)",
-     "not all(any(self.is_permitted(it, ticket) for it in path[:n + 1]) for n, u in enumerate(path) if self.is_closed(u))"),
+     "not all(any(self.is_permitted(it, ticket) for it in path[: n + 1]) for n, u in enumerate(path)\n"
+     "            if self.is_closed(u))"),
     ("a permit opens its own closure alone", "catalogue", "not any(self.is_permitted(it, ticket) for it in path)",
      "any(self.is_closed(it) and not self.is_permitted(it, ticket) for it in path)"),
     ("a file takes a known unit to its parent", "catalogue", "            changed += self.take_values(self.units[unit], row)\n",

@@ -22,7 +22,7 @@ COMPARED = {
 }
 CALLED = {"any": "all", "all": "any", "max": "min", "min": "max", "sorted": "list", "reversed": "iter"}
 CHECKS = {"refuse", "reader", "unit", "container", "gate", "shown", "too_much"}
-METHODS = {"append": "insert_first", "remove": "remove_another", "update": None}
+METHODS = {"append": "insert_first", "remove": "remove_another"}
 
 
 def name_of(call):
@@ -204,7 +204,8 @@ def is_docstring(node):
 
 
 def is_format(node):
-    return isinstance(node, ast.JoinedStr) and len(node.values) == 1 and re.fullmatch("[<>][0-9]+", str(getattr(node.values[0], "value", "")))
+    only = node.values[0] if isinstance(node, ast.JoinedStr) and len(node.values) == 1 else None
+    return isinstance(only, ast.Constant) and re.fullmatch("[<>][0-9]+", only.value)
 
 
 def put(node, field, place, value):
