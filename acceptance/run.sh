@@ -89,6 +89,14 @@ bad_settings() {
     local none=(init --store "$room/no.db" --country GB --repo 0999 --daily 3 --hands 1 --run 2)
     wants 'a setting beyond its limits' 2 '' 'bad settings' "${none[@]}" --seats 201 --day 2024-03-01 </dev/null
     wants 'no day' 2 '' 'bad date' "${none[@]}" --seats 2 --day 2024-02-30 </dev/null
+    local name value words place
+    while read -r name value; do
+        words=("${settings[@]}")
+        for place in "${!words[@]}"; do
+            [ "${words[place]}" != "--$name" ] || words[place + 1]=$value
+        done
+        wants "$name $value" 2 '' 'bad settings' init --store "$room/no.db" "${words[@]}" </dev/null
+    done < <(printf '%s\n' 'seats 0' 'seats 201' 'daily 0' 'daily 51' 'hands 0' 'hands 11' 'run 0' 'run 101')
     wants 'no store of these' 3 '' 'file fault' check --store "$room/no.db" </dev/null
 }
 
