@@ -1,15 +1,16 @@
 #!/usr/bin/env python3
 """Turns the rules of the plain office, one at a time: each has to be refused by a fixed day. mutation/rules.py [WORD ..]
 
-The rules are the modules of acceptance/plain but tables.py and the machinery of requests.py. Each is turned at each of its
-places (turning.py), and as rules_told.py tells by hand. All fixed days of the rules are replayed: those of acceptance/days
-that have no raw line, those of limits.py, and those over filled stores (filled.py). What raw lines say (heads, lengths,
-methods, how a connection ends) is the program's alone. First the rules as they are have to answer each day as it is written.
+The rules are the modules of acceptance/plain, but for tables.py and __init__.py. Each is turned at each of its places, as
+turning.py tells, and as rules_told.py tells by hand. All fixed days of the rules are replayed: those of acceptance/days that
+have no raw line, those of limits.py, and those of filled.py, over an office that is nearly full. What raw lines say (heads,
+lengths, methods, how a connection ends) is the program's alone. First the rules as they are have to answer each day as it is
+written.
 
 A day fails where an answer is another, or none. Of those days that call the turned function the shortest are tried first,
 and the first that fails is named. A turn that means the same is listed in rules_same.py, with the reason: it has to pass.
-With words only those turns are tried whose names have one of them. The last line is `N passed, M failed`; it ends with 1
-where one failed."""
+A turn of a table that cannot be read is none. With words only those turns are tried whose names have one of them. Two run at
+a time. The last line is `N passed, M failed`; it ends with 1 where one failed."""
 import ast
 import importlib.util
 import itertools
