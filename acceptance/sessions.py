@@ -52,7 +52,7 @@ KEPT = Path(__file__).parent / "seeds.txt"
 STATES = ["shelf", "desk", "out"]
 PERMITS = ["new", "longer", "as it was", "expired", "revoked", "gone with its unit", "opens a closure", "below a closure"]
 CAUSES = [1, 2, 3, 4, 5, 6, 7, 8, 11, 12]
-LEAST = 4
+LEAST = 5
 count = collections.Counter()
 
 
