@@ -3,14 +3,18 @@
 
 Each file days/*.day is asked of `trial`, in one piece and byte by byte, and of `talk` over a new store: each has to print
 the bytes that it has, and the store has to be sound then. With DAY and STORE this one is asked of that store. It prints
-how many days were held, and ends with 1 where something is other than wanted or no day is there. A day has these lines:
+how many days were held, and ends with 1 where something is other than wanted, no day is there, or less than a third have
+other settings than the usual ones. A day has these lines:
 
     # what it is about
+    with NAME VALUE ..  settings other than country GB, repo 0999, seats 2, daily 3, hands 1, run 2, day 2024-03-01
     POST PATH BODY      a request; @FILE in place of BODY is a file that lies beside the day; where neither is there, the
                         text that follows
     GET PATH
     200 JSON            its answer; where no JSON is there, the text that follows
     | TEXT              a line of a text
+    kept QUERY          what SQLite answers when the store is asked this at the end: the text that follows, a line for each
+                        row, with | between its cells
     > TEXT, < TEXT      a line that is said or answered, ended by CR LF; after >$ and <$ by LF, after >^ by CR, after >|
                         and <| by nothing
     ends STATUS TEXT    the exit status, if it is not 0, and the line on standard error
@@ -18,18 +22,31 @@ how many days were held, and ends with 1 where something is other than wanted or
 import contextlib
 import re
 import socket
+import sqlite3
 import subprocess
 import sys
 import threading
 from pathlib import Path
 
-SETTINGS = "--country GB --repo 0999 --seats 2 --daily 3 --hands 1 --run 2 --day 2024-03-01".split()
+HERE = Path(__file__).parent
+USUAL = {"country": "GB", "repo": "0999", "seats": "2", "daily": "3", "hands": "1", "run": "2", "day": "2024-03-01"}
 PHRASES = {"200": "OK", "400": "Bad Request", "404": "Not Found", "409": "Conflict"}
 ENDS = {"": b"\r\n", "$": b"\n", "^": b"\r", "|": b""}
 
 
+def options(settings):
+    return [word for name, value in settings.items() for word in (f"--{name}", value)]
+
+
+SETTINGS = options(USUAL)
+
+
 def post(path, body):
     return f"POST {path} HTTP/1.1\r\nHost: x\r\nContent-Length: {len(body)}\r\n\r\n".encode() + body
+
+
+def get(path):
+    return f"GET {path} HTTP/1.1\r\nHost: x\r\n\r\n".encode()
 
 
 def answer(status, kind, body):
@@ -39,7 +56,7 @@ def answer(status, kind, body):
 
 def whole(words, said):
     """Runs the program with an input that comes as it likes; returns status, output and what was told."""
-    done = subprocess.run([PROGRAM, *words], input=said, capture_output=True, timeout=60)
+    done = subprocess.run([PROGRAM, *words], input=said, capture_output=True, timeout=300)
     return done.returncode, done.stdout, done.stderr
 
 
@@ -62,69 +79,120 @@ def by_bytes(words, said):
 
 
 class Day:
-    """What is said to an office, what it answers, and how the program ends."""
+    """What is said to an office, what it answers, and how the program ends.
 
-    def __init__(self, file):
-        self.name, self.folder = file.stem, file.parent
+    Where no line of it is raw, `asked` has each request with its answer, as method, path, body, status and text."""
+
+    def __init__(self, name, folder, text):
+        self.name, self.folder, self.settings = name, folder, dict(USUAL)
         self.said = self.answered = self.told = b""
-        self.status = 0
-        for lines in re.findall(r"^(?!#).+\n(?:\|.*\n)*", file.read_text(), re.M):
+        self.status, self.kept, self.asked, self.is_raw = 0, [], [], False
+        self.filled, self.weight = None, 0
+        for lines in re.findall(r"^(?!#).+\n(?:\|.*\n)*", text, re.M):
             self.read(*lines.splitlines())
+
+    @classmethod
+    def of(cls, file):
+        return cls(file.stem, file.parent, file.read_text())
 
     def read(self, line, *text):
         """Takes in a line, with the lines of the text that follows it."""
         word, _, rest = line.partition(" ")
         lines = "".join(f"{it[2:]}\n" for it in text)
-        if word == "POST":
-            path, _, body = rest.partition(" ")
-            said = (self.folder / body[1:]).read_bytes() if body[:1] == "@" else (body or lines).encode()
-            self.said += post(path, said)
-        elif word == "GET":
-            self.said += f"GET {rest} HTTP/1.1\r\nHost: x\r\n\r\n".encode()
-        elif word[0] == ">":
-            self.said += rest.encode() + ENDS[word[1:]]
-        elif word[0] == "<":
-            self.answered += rest.encode() + ENDS[word[1:]]
-        elif word == "ends":
+        if word == "with":
+            names = rest.split()
+            self.settings |= dict(zip(names[::2], names[1::2]))
+        elif word == "kept":
+            self.kept.append((rest, lines))
+        elif word[0] in "><" or word == "ends":
+            self.read_raw(word, rest)
+        elif word in ("GET", "POST"):
+            self.ask(word, rest, lines)
+        else:
+            self.take(word, rest or lines, "application/json" if rest else "text/plain; charset=utf-8")
+
+    def ask(self, method, rest, lines):
+        path, _, body = rest.partition(" ")
+        said = (self.folder / body[1:]).read_bytes() if body[:1] == "@" else (body or lines).encode()
+        self.said += get(path) if method == "GET" else post(path, said)
+        self.asked.append([method, path, said])
+
+    def take(self, status, text, kind):
+        self.answered += answer(status, kind, text.encode())
+        if self.asked:
+            self.asked[-1] += [int(status), text]
+
+    def read_raw(self, word, rest):
+        self.is_raw = True
+        if word == "ends":
             status, _, told = rest.partition(" ")
             self.status, self.told = int(status), f"{told}\n".encode()
-        elif rest:
-            self.answered += answer(word, "application/json", rest.encode())
+        elif word[0] == ">":
+            self.said += rest.encode() + ENDS[word[1:]]
         else:
-            self.answered += answer(word, "text/plain; charset=utf-8", lines.encode())
+            self.answered += rest.encode() + ENDS[word[1:]]
 
     def is_held(self, *words, run=whole):
         """Whether the program answers as the day has it, and tells where it does not."""
         told, wanted = run(words, self.said), (self.status, self.answered, self.told)
         if told != wanted:
-            print(f"WRONG {self.name} by {words[0]}, {run.__name__}: {told}, wanted {wanted}")
+            print(f"WRONG {self.name} by {words[0]}, {run.__name__}: {parted(told, wanted)}")
         return told == wanted
+
+    def is_tried(self, run=whole):
+        return self.is_held("trial", *options(self.settings), run=run)
+
+    def has_other_settings(self):
+        return any(self.settings[it] != USUAL[it] for it in ("seats", "daily", "hands", "run"))
+
+    def is_kept(self, store):
+        """Whether the tables of a store have what the day says."""
+        with contextlib.closing(sqlite3.connect(store)) as connection:
+            for query, wanted in self.kept:
+                rows = connection.execute(query).fetchall()
+                told = "".join("|".join("" if it is None else str(it) for it in row) + "\n" for row in rows)
+                if told != wanted:
+                    print(f"WRONG {self.name}, kept {query}: {told!r}, wanted {wanted!r}")
+                    return False
+        return True
+
+
+def parted(told, wanted):
+    """Where two ways of ending differ: from some bytes before the first that does."""
+    place = next((n for n, (a, b) in enumerate(zip(told[1], wanted[1])) if a != b), min(len(told[1]), len(wanted[1])))
+    first = max(0, place - 200)
+    return f"{told[0]}, {told[1][first:place + 200]}, {told[2]}, wanted {wanted[0]}, {wanted[1][first:place + 200]}, {wanted[2]}"
+
+
+def does(day, *words):
+    done = subprocess.run([PROGRAM, *words], capture_output=True, timeout=300)
+    if done.returncode:
+        print(f"WRONG {day.name}, {words[0]}: {done.returncode}, {done.stdout + done.stderr}")
+    return not done.returncode
 
 
 def is_kept(day, store):
-    """Whether the day is held over a new store, which is sound then."""
-    for words in (["init", *SETTINGS], ["talk"], ["check"]):
-        command, *rest = words
-        if command == "talk":
-            if not day.is_held("talk", "--store", store):
-                return False
-            continue
-        done = subprocess.run([PROGRAM, command, "--store", store, *rest], capture_output=True, timeout=60)
-        if done.returncode:
-            print(f"WRONG {day.name}, {command}: {done.returncode}, {done.stderr}")
-            return False
-    return True
+    """Whether the day is held over a new store, which is sound then and has what the day says."""
+    opened = "--store", store
+    made = does(day, "init", *opened, *options(day.settings)) and day.is_held("talk", *opened)
+    return made and does(day, "check", *opened) and day.is_kept(store)
+
+
+def written():
+    return [Day.of(it) for it in sorted((HERE / "days").glob("*.day"))]
 
 
 def main(room, day=None, store=None):
     if day:
-        return not Day(Path(day)).is_held("talk", "--store", store)
-    days = [Day(it) for it in sorted((Path(__file__).parent / "days").glob("*.day"))]
-    tried = sum(day.is_held("trial", *SETTINGS) for day in days)
-    read = sum(day.is_held("trial", *SETTINGS, run=by_bytes) for day in days)
+        return not Day.of(Path(day)).is_held("talk", "--store", store)
+    days = written()
+    tried = sum(day.is_tried() for day in days)
+    read = sum(day.is_tried(by_bytes) for day in days)
     kept = sum(is_kept(day, f"{room}/{day.name}.db") for day in days)
+    other = sum(day.has_other_settings() for day in days)
     print(f"of {len(days)} days {tried} were held by trial, {read} byte by byte, and {kept} over a store")
-    return not days or {tried, read, kept} != {len(days)}
+    print(f"{other} of them have other settings than 2 seats, 3 orders a day, 1 in hands and 2 a run")
+    return not days or {tried, read, kept} != {len(days)} or 3 * other < len(days)
 
 
 if __name__ == "__main__":

@@ -1,15 +1,17 @@
 #!/usr/bin/env python3
-"""What an office and a connection take at most, and one more: limits.py PROGRAM ROOM
+"""What an office, a file and a connection take at most, and one more: limits.py PROGRAM ROOM
 
-A ticket's permits, the fields and the bytes of a head, the messages of a connection: days that are too long to be written
-down, made here by their rules in the form that days.py tells. Each is asked of `trial` and of `talk` over a new store in
-ROOM. It prints how many were held, and ends with 1 where something is other than wanted."""
+A ticket's permits, the greatest settings, the rows and the bytes of a field, the fields and the bytes of a head, the messages
+of a connection: days that are too long to be written down, made here by their rules in the form that days.py tells. Each is
+asked of `trial` and of `talk` over a new store in ROOM. It prints how many were held, and ends with 1 where something is other
+than wanted."""
 import sys
-from pathlib import Path
 
 import days
 
 FIELDS, HEAD, MESSAGES, PERMITS = 64, 16_384, 10_000, 100
+ROWS, BYTES = 20_001, 65_535
+LIMIT = '409 {"code":7,"refused":"DailyLimit"}'
 EVER = "9999-12-31"
 FULL = '409 {"code":23,"refused":"Full"}'
 ASKED = ["> GET /desk/issued HTTP/1.1", "> Host: x"]
@@ -41,7 +43,8 @@ def answered(question):
 
 def permits():
     """A hundred units, and one more; a later day for one of them; one that is taken back makes room."""
-    lines = ["POST /desk/import/a @units.csv"]
+    lines = ["POST /desk/import/a", "| legacyId,identifier,title,publicationStatus"]
+    lines += [f"| {n},A{n},Plans,Published" for n in range(1, PERMITS + 2)]
     remarks = ",".join(f'{{"kind":2,"row":{n + 1}}}' for n in range(1, PERMITS + 2))
     lines.append(f'200 {{"changed":0,"new":{PERMITS + 1},"remarks":[{remarks}],"same":0,"translations":0}}')
     lines += [f'POST /desk/register {{"name":"Ann","until":"{EVER}"}}', '200 {"ticket":1}']
@@ -53,11 +56,97 @@ def permits():
     for unit in range(1, PERMITS + 1):
         permit(unit, "2024-03-31")
     permit(PERMITS + 1, "2024-03-31", FULL)
+    permit(PERMITS + 2, "2024-03-31", '409 {"code":1,"refused":"UnknownUnit"}')
     permit(1, "2024-04-01")
     lines += ['POST /desk/revoke {"ticket":1,"unit":50}', '200 {"unit":50}']
     permit(PERMITS + 1, "2024-03-31")
     permit(50, "2024-03-31", FULL)
     return lines
+
+
+def boxes(number):
+    """A unit in as many boxes, and three readers."""
+    names = "|".join(f"B{n}" for n in range(1, number + 1))
+    lines = ["POST /desk/import/a", "| legacyId,title,publicationStatus,physicalObjectName", f"| 1,Plans,Published,{names}"]
+    lines.append('200 {"changed":0,"new":1,"remarks":[{"kind":2,"row":2}],"same":0,"translations":0}')
+    for ticket in (1, 2, 3):
+        lines += [f'POST /desk/register {{"name":"Ann","until":"{EVER}"}}', f'200 {{"ticket":{ticket}}}']
+    return lines
+
+
+def order(ticket, container, answer):
+    return [f'POST /public/orders {{"ticket":{ticket},"container":{container}}}', answer]
+
+
+def seats():
+    """Two hundred readers sit, from the first seat on; one more does not, until one leaves."""
+    lines = ["with seats 200 daily 1 hands 1 run 1"]
+    for ticket in range(1, 202):
+        lines += [f'POST /desk/register {{"name":"Ann","until":"{EVER}"}}', f'200 {{"ticket":{ticket}}}']
+    for ticket in range(1, 201):
+        lines += [f'POST /desk/seat {{"ticket":{ticket}}}', f'200 {{"seat":{ticket}}}']
+    last = 'POST /desk/seat {"ticket":201}'
+    lines += [last, '409 {"code":8,"refused":"NoSeatFree"}', 'POST /desk/leave {"ticket":77}', '200 {"seat":77}']
+    return [*lines, last, '200 {"seat":77}', "GET /desk/readers/200", reader_in(200)]
+
+
+def reader_in(seat):
+    return f'200 {{"name":"Ann","orders":[],"seat":{seat},"ticket":{seat},"until":"{EVER}"}}'
+
+
+def orders():
+    """Fifty orders of a ticket in a day, cancelled ones too; another ticket and another day have their own."""
+    lines = ["with seats 1 daily 50 hands 1 run 1", *boxes(51)]
+    for container in range(1, 51):
+        lines += order(1, container, f'200 {{"order":{container}}}')
+    lines += [*order(1, 51, LIMIT), 'POST /desk/cancel {"order":7}', '200 {"order":7}', *order(1, 7, LIMIT)]
+    lines += [*order(2, 51, '200 {"order":51}'), 'POST /desk/day {"day":"2024-03-02"}', '200 {"day":"2024-03-02"}']
+    return [*lines, *order(1, 51, '200 {"order":52}')]
+
+
+def a_run():
+    """A hundred boxes in a run, those of the earliest orders, and in the next what is left."""
+    lines = ["with seats 1 daily 50 hands 1 run 100", *boxes(101)]
+    for number in range(1, 102):
+        lines += order((number + 49) // 50, 102 - number, f'200 {{"order":{number}}}')
+    lines += ["POST /desk/run", '200 {"run":1,"taken":100}', "GET /desk/runs/1", "200", "| Run 1  2024-03-01"]
+    names = sorted((f"B{container}", container) for container in range(2, 102))
+    lines += [f"| {'':<20} {name:<16} {it:>6} {102 - it:>8} {(151 - it) // 50:>7}" for name, it in names]
+    return [*lines, "POST /desk/run", '200 {"run":2,"taken":1}', "POST /desk/run", '409 {"code":24,"refused":"NothingToMove"}']
+
+
+def bad_row(row, cause):
+    return f'409 {{"cause":{cause},"code":22,"refused":"BadFile","row":{row}}}'
+
+
+def rows():
+    """The last row that a file may have, and one more, of each kind; what else is wrong with that one is told first."""
+    blank = ["| ,,,"] * (ROWS - 3)
+    first = ["POST /desk/import/a", "| legacyId,culture,title,qubitParentSlug", "| 1,en,Minutes,", *blank]
+    remarks = f'[{{"kind":2,"row":2}},{{"kind":2,"row":{ROWS}}}]'
+    lines = [*first, "| 2,en,Maps,", f'200 {{"changed":0,"new":2,"remarks":{remarks},"same":0,"translations":0}}']
+    more = ["| ,,,", "| 1,fr,Registres,", "| 3,en,Deeds,", "| 3,en,Deeds,slug", "| ,en,Deeds,", "| 1,en,Minutes,", "| 3"]
+    for row, cause in zip([*more, f"| 3,en,{'x' * (BYTES + 1)},"], [9, 9, 9, 8, 6, 7, 5, 9]):
+        lines += [*first, "| 4,en,Plans,", row, bad_row(ROWS + 1, cause)]
+    last = "| 1,fr,Registres,"
+    told = '200 {"changed":0,"new":0,"remarks":[{"kind":2,"row":2}],"same":1,"translations":1}'
+    return [*lines, *first, last, told, *first, "| ,,,", told.replace('translations":1', 'translations":0')]
+
+
+def fields():
+    """A field of as many bytes as it may have, in what is read, and one more; what is not read may have more."""
+    lines, head = [], ["POST /desk/import/a", "| legacyId,culture,title,eventDates,qubitParentSlug,other"]
+    most = "é" * (BYTES // 2) + "x"
+    same = '200 {"changed":1,"new":0,"remarks":[{"kind":2,"row":2}],"same":0,"translations":0}'
+    new = '200 {"changed":0,"new":1,"remarks":[{"kind":2,"row":2}],"same":0,"translations":0}'
+    lines += [*head, f"| 1,, {most} ,,,{most}x", new, *head, f"| 1,,Plans,{most},,", same]
+    for row in (f"| 1,,{most}x,,,", f"| 1,,,{most}x,,", f"| 1,{most}x,,,,", f"| 1{most},,,,,", f"| 1,,,{'|' * (BYTES + 1)},,"):
+        lines += [*head, row, bad_row(2, 10)]
+    for row, cause in ((f"| 1,,{most}x", 5), (f"| ,,{most}x,,,", 6), (f"| 1,,{most}x,,s,", 8)):
+        lines += [*head, row, bad_row(2, cause)]
+    translated = same.replace('translations":0', 'translations":1')
+    lines += [*head, "| 1,en,Plans,,,", f"| 1,fr,{most}x,,,", translated]
+    return [*lines, *head, "| 1,en,Plans,,,", f"| 1,en,{most}x,,,", bad_row(3, 7)]
 
 
 def messages():
@@ -74,20 +163,24 @@ DAYS = {
     "a_byte_more": [*head_as_long(HEAD + 1), *REFUSED],
     "no_end_of_a_head": [ASKED[0].replace(">", ">|") + "x" * (HEAD - len(ASKED[0]) + 2), *REFUSED],
     "most_messages": messages(),
+    "two_hundred_seats": seats(),
+    "fifty_orders": orders(),
+    "a_hundred_a_run": a_run(),
+    "most_rows": rows(),
+    "longest_field": fields(),
 }
 
 
-def is_held(name, room):
-    file = Path(room) / f"{name}.day"
-    file.write_text("".join(f"{line}\n" for line in DAYS[name]))
-    day = days.Day(file)
-    return day.is_held("trial", *days.SETTINGS) and days.is_kept(day, f"{room}/{name}.db")
+def made():
+    return [days.Day(name, None, "".join(f"{it}\n" for it in lines)) for name, lines in DAYS.items()]
+
+
+def is_held(day, room):
+    return day.is_tried() and days.is_kept(day, f"{room}/{day.name}.db")
 
 
 def main(room):
-    rows = "".join(f"{n},A{n},Plans,Published\n" for n in range(1, PERMITS + 2))
-    (Path(room) / "units.csv").write_text(f"legacyId,identifier,title,publicationStatus\n{rows}")
-    held = sum(is_held(name, room) for name in DAYS)
+    held = sum(is_held(day, room) for day in made())
     print(f"of {len(DAYS)} days at a limit {held} were held by trial and over a store")
     return held != len(DAYS)
 

@@ -3,9 +3,10 @@
 #   acceptance/run.sh [PROGRAM]
 # Here: each exit status, `serve` by curl, a backup after a server that was stopped, a store by sqlite3, what `check` says
 # where sqlite3 changed a row, and the file of version 1 that is kept beside this. days.py: days of an office, over `trial`
-# and over `talk`. limits.py: days at the limits of an office and of a connection. rounds.py: every command and question
-# fifty times in one session. sessions.py: random sessions beside a plain office. ../mutation/faults/init.py: `init` without one of
-# its allocations. migrating.py: a store of version 1 of 2,000 units, made by sqlite3, is migrated and compared. stopped.py:
+# and over `talk`. limits.py: days at the limits of an office, a file and a connection. filled.py: days of offices that are
+# nearly full. rounds.py: every command and question fifty times in one session. sessions.py: random sessions beside a plain
+# office. ../mutation/rules.py: rules of that office, each of which fails a fixed day when it is turned.
+# ../mutation/faults/init.py: `init` without one of its allocations. migrating.py: a store of version 1 of 2,000 units, made by sqlite3, is migrated and compared. stopped.py:
 # commands that are stopped after each change of their files. failing.py: a disk that fails at each of these changes, under a
 # program that goes on. killed.py: kill -9 in the middle of imports and sessions. sockets.py: the sockets of `serve`: writes, time-outs,
 # answers that close, the port.
@@ -89,6 +90,14 @@ bad_settings() {
     local none=(init --store "$room/no.db" --country GB --repo 0999 --daily 3 --hands 1 --run 2)
     wants 'a setting beyond its limits' 2 '' 'bad settings' "${none[@]}" --seats 201 --day 2024-03-01 </dev/null
     wants 'no day' 2 '' 'bad date' "${none[@]}" --seats 2 --day 2024-02-30 </dev/null
+    local name value words place
+    while read -r name value; do
+        words=("${settings[@]}")
+        for place in "${!words[@]}"; do
+            [ "${words[place]}" != "--$name" ] || words[place + 1]=$value
+        done
+        wants "$name $value" 2 '' 'bad settings' init --store "$room/no.db" "${words[@]}" </dev/null
+    done < <(printf '%s\n' 'seats 0' 'seats 201' 'daily 0' 'daily 51' 'hands 0' 'hands 11' 'run 0' 'run 101')
     wants 'no store of these' 3 '' 'file fault' check --store "$room/no.db" </dev/null
 }
 
@@ -289,8 +298,11 @@ fi
 an_old_store
 timeout 600 python3 "$here/days.py" "$program" "$fast" || wrong=1
 timeout 300 python3 "$here/limits.py" "$program" "$fast" || wrong=1
+timeout 600 python3 "$here/filled.py" "$program" "$fast" || wrong=1
 timeout 120 python3 "$here/rounds.py" "$program" || wrong=1
 timeout 300 python3 "$here/sessions.py" "$program" 0 100 || wrong=1
+timeout 600 python3 "$here/../mutation/rules.py" >"$room/rules" || wrong=1
+grep -v '^refused by\|^same ' "$room/rules"
 if has cc gcc; then timeout 300 python3 "$here/../mutation/faults/init.py" "$program" "$fast" 25 || wrong=1; fi
 if has sqlite3 && has cc gcc; then
     timeout 300 python3 "$here/migrating.py" --program "$program" --room "$fast" 2000 || wrong=1

@@ -1,15 +1,21 @@
 #!/usr/bin/env python3
 """Holds random sessions of the program against a plain office: sessions.py PROGRAM [FIRST [COUNT]]
 
-Each session, of 200 where no number is named, is made by a seed of its own, from 0 or FIRST on: seventy commands, so
-chosen that many are accepted and most refusals come, and after each of them three questions. `trial` is asked, and has to
-answer to the byte as plain.py does. It prints how many sessions were so and how often each command was accepted or refused,
-and ends with 1 where a session was not so, with the first answer that was other."""
+Each session, of 200 where no number is named, is made by a seed of its own, from 0 or FIRST on, and by those of seeds.txt,
+which once found something. The seed chooses the settings, what rows may say, and how often each command comes: seventy
+commands, so chosen that many are accepted and most refusals come, and after each of them three questions. Some sessions
+begin with a chain of units, with a ticket that has a hundred permits, or with a file that is no text. `trial` is asked, and
+has to answer to the byte as acceptance/plain does.
+
+It prints how many sessions were so, how often each command was accepted or refused, and how often each refusal, cause,
+remark, state of a container and kind of permit came. It ends with 1 where a session was not so, with the first answer that
+was other, and where of a hundred sessions or more something came less often than LEAST tells."""
 import collections
 import json
 import random
 import subprocess
 import sys
+from pathlib import Path
 
 import days
 import plain
@@ -18,13 +24,13 @@ DAYS = ["2024-02-28", "2024-02-29", "2024-03-01", "2024-03-02", "2024-03-03", "2
 LATE = ["2030-01-01"] * 6 + DAYS[2:]
 LEVELS = ["Fonds", "fonds", "Collection", "Subfonds", "Sub-series", "Series", "File", "-F-ile", "Item", "Bundle", ""]
 TITLES = ["Plans", "Minutes", "Maps", "", "NULL", "a|b", 'say "so"', "Deeds", "two\nlines", " Letters "]
-STATUSES = ["Published", "Published", "Published", "published", "PUBLISHED", "Draft", ""]
+STATUSES = ["Published", "Published", "Published", "Published", "published", "PUBLISHED", "Draft", ""]
 NAMES = ["Box 1", "Box 2", "Box 3", "Box 4", "NULL", "", " Box 1 "]
 RARE = {"qubitParentSlug", "culture", "accessionNumber", "physicalObjectType"}
 COLUMNS = {
     "legacyId": None,
     "parentId": None,
-    "qubitParentSlug": [""] * 200 + ["slug"],
+    "qubitParentSlug": [""] * 30 + ["slug"] * 2,
     "identifier": ["A", "B", "C", "7", "", "", " X "],
     "title": TITLES,
     "eventDates": ["1774|1893", "NULL", "", "1901"],
@@ -34,21 +40,69 @@ COLUMNS = {
     "language": ["en|fr", "", ""],
     "scopeAndContent": ["Ships", ""],
     "publicationStatus": STATUSES,
-    "culture": ["en", "en", "fr", ""],
+    "culture": ["en", "fr", "de", "en", "fr", ""],
     "physicalObjectName": NAMES,
     "physicalObjectLocation": ["East", "West", ""],
     "physicalObjectType": ["Folder", ""],
     "accessionNumber": ["", "x"],
 }
 COMMANDS = 70
+SEATS, DAILY, HANDS, RUN = [1, 1, 2, 3, 200], [1, 2, 3, 3, 50], [1, 1, 2, 3, 10], [1, 2, 2, 3, 100]
+KEPT = Path(__file__).parent / "seeds.txt"
+STATES = ["shelf", "desk", "out"]
+PERMITS = ["new", "longer", "as it was", "expired", "revoked", "gone with its unit", "opens a closure", "below a closure"]
+CAUSES = [1, 2, 3, 4, 5, 6, 7, 8, 11, 12]
+LEAST = 5
+count = collections.Counter()
 
 
 class Session:
     """What is said in a session, with what a plain office answers."""
 
     def __init__(self, seed):
-        self.random, self.office = random.Random(seed), plain.Office()
-        self.said = [it for _ in range(COMMANDS) for it in self.some()]
+        self.random = random.Random(seed)
+        self.settings = self.some_settings()
+        self.office = plain.Office(**self.settings)
+        self.numbers = self.random.choice([8, 25, 25, 60])
+        self.pools = {name: pool and self.fewer(pool) for name, pool in COLUMNS.items()}
+        self.weights = [often * self.random.choice([0.5, 1, 1, 2]) for often in self.OFTEN.values()]
+        self.first = list(self.BEGINNINGS.get(seed % 10, lambda _: ())(self))
+        self.said = [it for _ in range(COMMANDS + len(self.first)) for it in self.some()]
+
+    def some_settings(self):
+        """The usual settings in one session of three, others in the others."""
+        if self.happens(0.35):
+            return dict(days.USUAL)
+        chosen = {"seats": SEATS, "daily": DAILY, "hands": HANDS, "run": RUN, "country": ["GB", "DE"], "repo": ["0999", "x/1"]}
+        return days.USUAL | {name: str(self.random.choice(pool)) for name, pool in chosen.items()}
+
+    def fewer(self, pool):
+        """A part of a pool, or all of it."""
+        return self.random.sample(pool, self.random.randint((len(pool) + 1) // 2, len(pool)))
+
+    # ---- how a session may begin
+
+    def a_chain(self):
+        rows = "".join(f"{n},{n - 1 if n > 1 else ''},Published\n" for n in range(1, 65))
+        yield "/desk/import/chain", f"legacyId,parentId,publicationStatus\n{rows}"
+        yield "/desk/import/chain", "legacyId,parentId\n65,64\n"
+        yield "/desk/import/a", "legacyId,publicationStatus,physicalObjectName\n1,Published,Box 1\n2,Published,Box 2\n"
+        yield "/desk/move", '{"unit":1,"parent":65}'
+        yield "/desk/move", f'{{"unit":65,"parent":{self.random.randint(63, 64)}}}'
+
+    def a_hundred_permits(self):
+        rows = "".join(f"{n},Published\n" for n in range(1, 103))
+        yield "/desk/import/b", f"legacyId,publicationStatus\n{rows}"
+        yield "/desk/register", '{"name":"Ann","until":"2030-01-01"}'
+        for unit in range(1, 103):
+            yield "/desk/permit", json.dumps({"ticket": 1, "unit": unit, "until": self.random.choice(LATE)})
+
+    def no_file(self):
+        yield "/desk/import/a", b"legacyId\n\xff\n"
+        yield "/desk/import/a", ""
+        yield "/desk/import/a", "legacyId,title,title\n1,,\n"
+
+    BEGINNINGS = {3: a_chain, 5: a_hundred_permits, 7: no_file}
 
     def happens(self, chance):
         return self.random.random() < chance
@@ -60,12 +114,16 @@ class Session:
 
     def some(self):
         """A command and three questions, each with its bytes and what has to be answered."""
-        path, body = self.command()
+        path, body = self.first.pop(0) if self.first else self.command()
+        body, seen = body if isinstance(body, bytes) else body.encode(), Seen(self.office)
         status, told = self.office.post(path, body)
         count["/".join(path.split("/")[:3]), told.get("code", 0)] += 1
-        yield path, body, days.post(path, body.encode()), self.answer(status, told)
+        seen.command(self.office, path, body, told)
+        yield path, body, days.post(path, body), self.answer(status, told)
         for path in self.random.sample(self.questions(), 3):
-            yield path, "", f"GET {path} HTTP/1.1\r\nHost: x\r\n\r\n".encode(), self.answer(*self.office.get(path))
+            status, told = self.office.get(path)
+            seen.question(self.office, path, status, told)
+            yield path, None, days.get(path), self.answer(status, told)
 
     @staticmethod
     def answer(status, told):
@@ -77,23 +135,23 @@ class Session:
 
     def cell(self, column, known):
         if column == "legacyId":
-            if known and self.happens(0.5):
+            if known and self.happens(0.4):
                 return self.random.choice(known)
-            return str(self.random.randint(1, 25)) if self.happens(0.99) else self.random.choice(["", " ", "\t"])
+            return str(self.random.randint(1, self.numbers)) if self.happens(0.99) else self.random.choice(["", " ", "\t"])
         if column == "parentId":
             if known and self.happens(0.53):
                 return self.random.choice(known)
-            return str(self.random.randint(1, 25)) if self.happens(0.04) else ""
+            return str(self.random.randint(1, self.numbers)) if self.happens(0.04) else ""
         if column.startswith("physicalObject"):
-            return "|".join(self.random.choice(COLUMNS[column]) for _ in range(self.random.choice([0, 0, 1, 1, 2, 3])))
-        return self.random.choice(COLUMNS[column])
+            return "|".join(self.random.choice(self.pools[column]) for _ in range(self.random.choice([0, 0, 1, 1, 2, 3])))
+        return self.random.choice(self.pools[column])
 
     def quoted(self, cell):
         return '"' + cell.replace('"', '""') + '"' if set(cell) & set(',"\n') or self.happens(0.1) else cell
 
     def file(self, source):
         known = [it.legacy for it in self.office.units.values() if it.source == source]
-        columns = [it for it in COLUMNS if self.happens(0.35 if it in RARE else 0.98 if it == "legacyId" else 0.8)]
+        columns = [it for it in COLUMNS if self.happens(0.35 if it in RARE else 0.96 if it == "legacyId" else 0.8)]
         if self.happens(0.01):
             columns.append(self.random.choice(columns))
         self.random.shuffle(columns)
@@ -141,7 +199,7 @@ class Session:
 
     def day(self):
         later = [it for it in DAYS[:-1] if it > self.office.day]
-        return later[0] if later and self.happens(0.9) else self.random.choice(DAYS[:-1])
+        return later[0] if later and self.happens(0.8) else self.random.choice(DAYS[:-1])
 
     def import_file(self):
         source = self.random.choice(["a", "a", "b"]) if self.happens(0.98) else "c,d"
@@ -150,6 +208,8 @@ class Session:
     def order(self):
         ticket = self.ticket()
         able = [it for it in range(1, len(self.office.containers) + 1) if self.office.is_open(it, ticket)]
+        if not able and self.happens(0.5):
+            return self.status()
         container = self.random.choice(able) if able and self.happens(0.8) else self.container()
         return "orders", {"ticket": ticket, "container": container}
 
@@ -157,8 +217,9 @@ class Session:
         """An issue to who is first at a container at the desk, or what that one lacks, or what brings one there."""
         office = self.office
         ready = [it for it, place in office.places.items() if place == "desk" and office.queue(it)]
-        if not ready and self.happens(0.8):
-            return self.random.choice([self.order, self.run])()
+        if not ready and self.happens(0.9):
+            is_due = any(office.orders[it].container not in office.places for it in office.waiting)
+            return self.run() if is_due and self.happens(0.7) else self.order()
         if not ready or self.happens(0.05):
             return "issue", {"container": self.container(), "ticket": self.ticket()}
         container = self.random.choice(ready)
@@ -169,7 +230,7 @@ class Session:
             return "renew", {"ticket": ticket, "until": "2030-01-01"}
         if not office.is_open(container, ticket) and self.happens(0.5):
             return "permit", {"ticket": ticket, "unit": self.unit(), "until": self.random.choice(LATE)}
-        return "issue", {"container": container, "ticket": ticket if self.happens(0.9) else self.ticket()}
+        return "issue", {"container": container, "ticket": ticket if self.happens(0.8) else self.ticket()}
 
     def leave(self):
         return "leave", {"ticket": self.one_of(self.office.seated.values(), len(self.office.readers))}
@@ -189,8 +250,7 @@ class Session:
         return "move", {"unit": self.unit(), "parent": parent}
 
     def cancel(self):
-        waiting = [n for n, it in self.office.orders.items() if it.state == "waiting"]
-        return "cancel", {"order": self.one_of(waiting, len(self.office.orders))}
+        return "cancel", {"order": self.one_of(self.office.waiting, len(self.office.orders))}
 
     def give_back(self):
         return "return", {"container": self.one_of(self.office.out(), len(self.office.containers))}
@@ -217,7 +277,10 @@ class Session:
         return "remove", {"unit": self.unit()}
 
     def permit(self):
-        return "permit", {"ticket": self.ticket(), "unit": self.unit(), "until": self.random.choice(LATE)}
+        office = self.office
+        closed = [it for it in office.units if any(map(office.is_closed, office.path(it)))]
+        unit = self.random.choice(closed) if closed and self.happens(0.4) else self.unit()
+        return "permit", {"ticket": self.ticket(), "unit": unit, "until": self.random.choice(LATE)}
 
     def revoke(self):
         granted = [unit for _, unit in self.office.permits]
@@ -228,15 +291,15 @@ class Session:
         import_file: 5,
         register: 2,
         renew: 2,
-        seat: 4,
+        seat: 5,
         leave: 2,
         order: 13,
         cancel: 2,
-        run: 8,
+        run: 3,
         reshelve: 1,
-        issue: 15,
+        issue: 20,
         give_back: 3,
-        next_day: 1,
+        next_day: 3,
         status: 10,
         closure: 6,
         move: 10,
@@ -248,8 +311,7 @@ class Session:
     def command(self):
         """The path and the body of a command: a file where there are no units, then a reader where there is none."""
         first = Session.import_file if not self.office.units else Session.register if not self.office.readers else None
-        kinds, weights = zip(*self.OFTEN.items())
-        word, members = (first or self.random.choices(kinds, weights)[0])(self)
+        word, members = (first or self.random.choices(list(self.OFTEN), self.weights)[0])(self)
         path = f"/public/{word}" if word == "orders" else f"/desk/{word}"
         return path, members if isinstance(members, str) else json.dumps(members)
 
@@ -264,11 +326,51 @@ class Session:
         return [*paths, f"/desk/runs/{self.random.randint(1, len(office.runs) + 1)}"]
 
 
+class Seen:
+    """Counts what came, by what the office was before a command and is after it."""
+
+    def __init__(self, office):
+        self.permits = dict(office.permits)
+
+    def command(self, office, path, body, told):
+        for code in [told["code"]] if "code" in told else []:
+            count["refusal", code] += 1
+        if "cause" in told:
+            count["cause", told["cause"]] += 1
+        for it in told.get("remarks", []):
+            count["remark", it["kind"]] += 1
+        if path == "/public/orders" and "order" in told and not office.is_open(json.loads(body)["container"], 0):
+            count["permit", "opens a closure"] += 1
+        self.count_permits(office, path, body, told)
+
+    def count_permits(self, office, path, body, told):
+        gone = self.permits.keys() - office.permits.keys()
+        if gone:
+            count["permit", "revoked" if path == "/desk/revoke" else "gone with its unit"] += 1
+        if path == "/desk/permit" and "until" in told:
+            it, asked = (told["ticket"], told["unit"]), json.loads(body)["until"]
+            kind = "new" if it not in self.permits else "longer" if asked > self.permits[it] else "as it was"
+            count["permit", kind] += 1
+            if any(map(office.is_closed, office.path(told["unit"])[:-1])):
+                count["permit", "below a closure"] += 1
+
+    @staticmethod
+    def question(office, path, status, told):
+        word = "/".join(path.split("/")[1:3])
+        if status == 404:
+            count["refusal", {"desk/runs": 26, "desk/queue": 3}.get(word, 1)] += 1
+        elif word == "desk/queue":
+            count["container", told["place"]] += 1
+        elif word == "desk/permits":
+            count["permit", "expired"] += sum(it["until"] < office.day for it in told)
+
+
 def is_held(program, seed):
     """Whether the program answers a session as the plain office does, and tells where it does not."""
     session = Session(seed)
     said = b"".join(it for _, _, it, _ in session.said)
-    done = subprocess.run([program, "trial", *days.SETTINGS], input=said, capture_output=True, timeout=60)
+    words = [program, "trial", *days.options(session.settings)]
+    done = subprocess.run(words, input=said, capture_output=True, timeout=60)
     place = 0
     for path, body, _, wanted in session.said:
         if done.stdout[place : place + len(wanted)] != wanted:
@@ -278,13 +380,30 @@ def is_held(program, seed):
     return (done.returncode, done.stderr, len(done.stdout)) == (0, b"", place)
 
 
+def wanted_counts():
+    """What has to come: its name, and how often it came."""
+    kinds = {"refusal": range(1, 29), "cause": CAUSES, "remark": [1, 2], "container": STATES, "permit": PERMITS}
+    return {f"{name} {it}": count.pop((name, it), 0) for name, pool in kinds.items() for it in pool}
+
+
+def listed(counts):
+    return ", ".join(f"{name} {times}" for name, times in counts)
+
+
 def main(program, first=0, number=200):
-    held = sum(is_held(program, seed) for seed in range(int(first), int(first) + int(number)))
-    print(f"of {number} random sessions {held} were answered as by a plain office; commands, and those refused by number:")
-    print(", ".join(f"{path} {code or ''}".strip() + f" {times}" for (path, code), times in sorted(count.items())))
-    return held != int(number)
+    kept = {int(it.split()[0]) for it in KEPT.read_text().splitlines() if it and not it.startswith("#")}
+    seeds = sorted(kept | set(range(int(first), int(first) + int(number))))
+    held = sum(is_held(program, seed) for seed in seeds)
+    print(f"of {len(seeds)} random sessions, {len(kept)} of kept seeds, {held} were answered as by a plain office")
+    came = wanted_counts()
+    asked = ((f"{path} {code or ''}".strip(), times) for (path, code), times in sorted(count.items()))
+    print(f"commands, and those refused by number: {listed(asked)}")
+    print(f"what came: {listed(came.items())}")
+    rare = [name for name, times in came.items() if times < LEAST] if int(number) >= 100 else []
+    if rare:
+        print(f"came less than {LEAST} times: {rare}")
+    return bool(rare) or held != len(seeds)
 
 
 if __name__ == "__main__":
-    count = collections.Counter()
     sys.exit(main(*sys.argv[1:]))

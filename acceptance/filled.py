@@ -1,0 +1,281 @@
+#!/usr/bin/env python3
+"""Days of offices that are nearly full: filled.py PROGRAM ROOM [NAME ..]
+
+The limits on units, their numbers, containers, tickets, runs and orders are too far to be reached by requests. So `init`
+makes a store, SQLite fills a table up to some rows below its limit, and `check` has to find it sound. Then `talk` is asked
+for the last that there is room for, and for one more, which has to be refused Full, but not before what is looked at first;
+and `check` again. It prints how long each day took, and ends with 1 where something is other than wanted.
+
+Of the orders, of which there may be ten million, the day is held only where it is named: to open 300,000 took a slow build
+of the program more than a minute. An office of acceptance/plain counts what fills it, and does not see it: so
+mutation/rules.py holds these days, that of the orders too, against the plain office."""
+import contextlib
+import sqlite3
+import sys
+import time
+from pathlib import Path
+
+import days
+
+UNTIL = 'until":"2024-12-31"}'
+ANN = f'POST /desk/register {{"name":"Ann","{UNTIL}\n200 {{"ticket":1}}\n'
+FULL = '409 {"code":23,"refused":"Full"}\n'
+NEW = '200 {"changed":0,"new":1,"remarks":[{"kind":2,"row":2}],"same":0,"translations":0}\n'
+SAME = '200 {"changed":0,"new":0,"remarks":[{"kind":2,"row":2}],"same":1,"translations":0}\n'
+
+
+def one(row):
+    """A file of one row."""
+    return f"POST /desk/import/a\n| legacyId,title,publicationStatus,physicalObjectName\n| {row}\n"
+
+
+LENT = f"""POST /public/orders {{"ticket":1,"container":1}}
+200 {{"order":1}}
+POST /desk/run
+200 {{"run":1,"taken":1}}
+POST /desk/seat {{"ticket":1}}
+200 {{"seat":1}}
+POST /desk/issue {{"container":1,"ticket":1}}
+200 {{"order":1}}
+"""
+BAD = 'POST /desk/register {"name":" ","' + UNTIL + '\n409 {"code":27,"refused":"BadName"}\n'
+DAYS = {
+    "tickets": f"""with seats 200 daily 50 hands 10 run 100
+{BAD}POST /desk/register {{"name":"Ben","{UNTIL}
+200 {{"ticket":1000000}}
+{BAD}POST /desk/register {{"name":"Cay","{UNTIL}
+{FULL}POST /desk/seat {{"ticket":1000000}}
+200 {{"seat":1}}
+GET /desk/readers/1000000
+200 {{"name":"Ben","orders":[],"seat":1,"ticket":1000000,"until":"2024-12-31"}}
+GET /desk/readers/1000001
+404 {{"error":"not found"}}
+""",
+    "runs": f"""with seats 1 daily 50 hands 1 run 1
+{one("1,Plans,Published,Box 1")}{SAME}POST /desk/run
+409 {{"code":24,"refused":"NothingToMove"}}
+POST /public/orders {{"ticket":1,"container":1}}
+200 {{"order":2}}
+POST /desk/run
+200 {{"run":1000000,"taken":1}}
+POST /desk/cancel {{"order":2}}
+200 {{"order":2}}
+POST /desk/reshelve
+200 {{"containers":[1]}}
+POST /desk/run
+409 {{"code":24,"refused":"NothingToMove"}}
+POST /public/orders {{"ticket":1,"container":1}}
+200 {{"order":3}}
+POST /desk/run
+{FULL}GET /desk/queue/1
+200 {{"container":1,"name":"Box 1","out":null,"place":"shelf","waiting":[{{"order":3,"ticket":1}}]}}
+GET /desk/runs/1000000
+200
+| Run 1000000  2024-03-01
+|                      Box 1                 1        2       1
+""",
+    "containers": f"""with seats 1 daily 1 hands 1 run 1
+{ANN}{one("1,Plans,Published,Box 1|Last")}{NEW}{LENT}{one("2,Maps,Published,One more")}{FULL}\
+{one("1,Plans,Published,One more")}{FULL}{one("1,Plans,Published,Last")}409 {{"code":21,"container":1,"refused":"WithReader"}}
+{one("2,Maps,Published,Last")}{NEW}GET /public/aid/2
+200
+| GB 0999 [-] Maps
+|   Container 100000: Last
+""",
+    "units": f"""with seats 200 daily 1 hands 1 run 100
+{ANN}{one("200000,Plans,Published,Box 1")}{NEW}{LENT}{one("200001,Maps,Published,")}{FULL}POST /desk/import/a
+| legacyId,title,publicationStatus,physicalObjectName
+| 200000,Plans,Published,Box 2
+| 200001,Maps,Published,
+{FULL}{one("200000,Plans,Published,Box 1")}{SAME}POST /desk/return {{"container":1}}
+200 {{"order":1}}
+POST /desk/remove {{"unit":200000}}
+200 {{"units":1}}
+{one("200001,Maps,Published,")}{NEW}GET /public/units/200001
+200
+| GB 0999 [-] Maps
+""",
+    "numbers": f"""with seats 1 daily 50 hands 1 run 100
+{ANN}{one("1,Plans,Published,Box 1")}{NEW}{one("2,Maps,Published,")}{NEW}{LENT}{one("3,Deeds,Published,")}{FULL}\
+POST /desk/import/a
+| legacyId,title,publicationStatus,physicalObjectName
+| 1,Plans,Published,Box 2
+| 3,Deeds,Published,
+{FULL}POST /desk/remove {{"unit":100000000}}
+200 {{"units":1}}
+{one("3,Deeds,Published,")}{FULL}GET /public/fonds
+200
+| 99999999 GB 0999 [-] Plans
+POST /desk/import/a,b
+409 {{"code":27,"refused":"BadName"}}
+POST /desk/import/a
+| legacyId,title
+| 3,Deeds
+| 3,Deeds
+409 {{"cause":7,"code":22,"refused":"BadFile","row":3}}
+""",
+    "orders": f"""with seats 1 daily 1 hands 1 run 1
+POST /public/orders {{"ticket":1,"container":1}}
+200 {{"order":10000000}}
+POST /public/orders {{"ticket":2,"container":1}}
+{FULL}POST /public/orders {{"ticket":1,"container":1}}
+409 {{"code":6,"refused":"AlreadyOrdered"}}
+POST /public/orders {{"ticket":1,"container":2}}
+409 {{"code":7,"refused":"DailyLimit"}}
+POST /public/orders {{"ticket":2,"container":3}}
+409 {{"code":5,"refused":"NotAvailable"}}
+POST /desk/renew {{"ticket":2,"until":"2024-02-01"}}
+200 {{"ticket":2}}
+POST /public/orders {{"ticket":2,"container":1}}
+409 {{"code":4,"refused":"TicketExpired"}}
+POST /public/orders {{"ticket":1001,"container":1}}
+409 {{"code":2,"refused":"UnknownTicket"}}
+POST /desk/cancel {{"order":10000000}}
+200 {{"order":10000000}}
+""",
+}
+BY_HAND = {"orders"}
+
+
+def counted(most):
+    return f"WITH RECURSIVE n(i) AS (SELECT 1 UNION ALL SELECT i + 1 FROM n WHERE i < {most}) "
+
+
+TWO_BOXES = [
+    "INSERT INTO unit VALUES (1, 'a', '1', '', 0, NULL)",
+    "INSERT INTO span VALUES (1, 1, 2)",
+    "INSERT INTO element VALUES (1, 2, 'Plans')",
+    "INSERT INTO container VALUES (1, 'Box 1', '', '')",
+    "INSERT INTO housing VALUES (1, 1, 1)",
+    "UPDATE office SET next_unit = 2",
+]
+SQL = {
+    "tickets": [counted(999_999) + "INSERT INTO reader SELECT i, 'Ann', 20088 FROM n"],
+    "runs": [
+        *TWO_BOXES,
+        "INSERT INTO reader VALUES (1, 'Ann', 20088)",
+        "INSERT INTO orders VALUES (1, 1, 1, 19783, 3)",
+        counted(999_999) + "INSERT INTO run SELECT i, 19783 FROM n",
+        counted(999_999) + "INSERT INTO run_line SELECT i, 1, 1, 1 FROM n",
+    ],
+    "containers": [counted(99_999) + "INSERT INTO container SELECT i, 'Box ' || i, '', '' FROM n"],
+    "units": [
+        counted(199_999) + "INSERT INTO unit SELECT i, 'a', i, '', 1, NULL FROM n",
+        counted(199_999) + "INSERT INTO span SELECT i, 2 * i - 1, 2 * i FROM n",
+        "UPDATE office SET next_unit = 200000",
+    ],
+    "numbers": ["UPDATE office SET next_unit = 99999999"],
+    "orders": [
+        *TWO_BOXES,
+        "INSERT INTO container VALUES (2, 'Box 2', '', '')",
+        "INSERT INTO housing VALUES (1, 2, 2)",
+        counted(1000) + "INSERT INTO reader SELECT i, 'Ann', 20088 FROM n",
+        counted(9_999_999) + "INSERT INTO orders SELECT i, 1 + i % 1000, 1, 19782 - i / 1000, 3 FROM n",
+    ],
+}
+
+
+# ---- a plain office that counts what fills it
+
+
+class Counted(dict):
+    """Things by their numbers, behind as many as nobody looks at."""
+
+    def __init__(self, more, things=()):
+        super().__init__(things)
+        self.more = more
+
+    def __len__(self):
+        return self.more + super().__len__()
+
+    def __reduce__(self):
+        return Counted, (self.more, dict(self))
+
+
+class CountedList(list):
+    """Containers: the first, and those behind as many as nobody looks at."""
+
+    def __init__(self, more, things=()):
+        super().__init__(things)
+        self.more = more
+
+    def __len__(self):
+        return self.more + super().__len__()
+
+    def index(self, it):
+        place = super().index(it)
+        return place and place + self.more
+
+    def __getitem__(self, place):
+        return super().__getitem__(place and place - self.more)
+
+    def __reduce__(self):
+        return CountedList, (self.more, list(iter(self)))
+
+
+def fill(office, day):
+    """Fills a plain office as SQL fills a store."""
+    name = day.filled
+    if name in ("runs", "orders"):
+        head, boxes = b"legacyId,title,publicationStatus,physicalObjectName\n", b"Box 1|Box 2" if name == "orders" else b"Box 1"
+        office.post("/desk/import/a", head + b"1,Plans,Published," + boxes)
+        office.post("/desk/register", b'{"name":"Ann","until":"2024-12-31"}')
+    if name == "runs":
+        office.post("/public/orders", b'{"ticket":1,"container":1}')
+        office.post("/desk/cancel", b'{"order":1}')
+        office.runs = Counted(999_999)
+    elif name == "orders":
+        office.post("/desk/register", b'{"name":"Ann","until":"2024-12-31"}')
+        office.orders = Counted(9_999_999)
+    elif name == "tickets":
+        office.readers = Counted(999_999)
+    elif name == "containers":
+        office.containers = CountedList(99_998, [("Box 1", "", "")])
+    elif name == "units":
+        office.units, office.next = Counted(199_999), 200_000
+    elif name == "numbers":
+        office.next = 99_999_999
+
+
+# ---- the program
+
+
+def made():
+    made = []
+    for name, text in DAYS.items():
+        day = days.Day(f"filled_{name}", None, text)
+        day.filled, day.weight = name, 1
+        made.append(day)
+    return made
+
+
+def is_filled(day, store):
+    with contextlib.closing(sqlite3.connect(store)) as connection:
+        connection.execute("PRAGMA foreign_keys = ON")
+        for statement in SQL[day.filled]:
+            connection.execute(statement)
+        connection.commit()
+    return days.does(day, "check", "--store", store)
+
+
+def is_held(day, room):
+    store, begun = f"{room}/{day.name}.db", time.time()
+    opened = "--store", store
+    held = days.does(day, "init", *opened, *days.options(day.settings)) and is_filled(day, store)
+    held = held and day.is_held("talk", *opened) and days.does(day, "check", *opened)
+    print(f"{day.filled}: {time.time() - begun:.0f} s")
+    for it in Path(room).glob(f"{day.name}.db*"):
+        it.unlink()
+    return held
+
+
+def main(room, *names):
+    wanted = [it for it in made() if (it.filled in names if names else it.filled not in BY_HAND)]
+    held = sum(is_held(day, room) for day in wanted)
+    print(f"of {len(wanted)} days of offices that are nearly full {held} were held")
+    return not wanted or held != len(wanted)
+
+
+if __name__ == "__main__":
+    days.PROGRAM = sys.argv[1]
+    sys.exit(main(*sys.argv[2:]))

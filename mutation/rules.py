@@ -1,0 +1,281 @@
+#!/usr/bin/env python3
+"""Turns the rules of the plain office, one at a time: each has to be refused by a fixed day. mutation/rules.py [WORD ..]
+
+The rules are the modules of acceptance/plain, but for tables.py and __init__.py. Each is turned at each of its places, as
+turning.py tells, and as rules_told.py tells by hand. All fixed days of the rules are replayed: those of acceptance/days that
+have no raw line, those of limits.py, and those of filled.py, over an office that is nearly full. What raw lines say (heads,
+lengths, methods, how a connection ends) is the program's alone. First the rules as they are have to answer each day as it is
+written.
+
+A day fails where an answer is another, or none. Of those days that call the turned function the shortest are tried first,
+and the first that fails is named. A turn that means the same is listed in rules_same.py, with the reason: it has to pass.
+A turn of a table that cannot be read is none. With words only those turns are tried whose names have one of them. Two run at
+a time. The last line is `N passed, M failed`; it ends with 1 where one failed."""
+import ast
+import importlib.util
+import itertools
+import os
+import resource
+import signal
+import sys
+import time
+from pathlib import Path
+
+ROOT = Path(__file__).resolve().parents[1]
+sys.path[:0] = [str(ROOT / "acceptance"), str(ROOT / "mutation")]
+import days  # noqa: E402
+import filled  # noqa: E402
+import limits  # noqa: E402
+import rules_same  # noqa: E402
+import rules_told  # noqa: E402
+import turning  # noqa: E402
+
+PLAIN = ROOT / "acceptance" / "plain"
+TURNED = ["catalogue", "desk", "elements", "files", "refusals", "requests", "shown"]
+OTHERS = ["tables", "__init__"]
+TEXTS = {name: (PLAIN / f"{name}.py").read_text() for name in TURNED + OTHERS}
+COMPILED = {name: compile(text, f"<plain {name}>", "exec") for name, text in TEXTS.items()}
+SECONDS, MEMORY, AT_ONCE, LONG = 20, 4 << 30, 2, 0.1
+NO_RULES = "no rules"
+
+
+# ---- what a turned rule may call
+
+
+def wrong(value):
+    """Another value of the same kind."""
+    if isinstance(value, int):
+        return value + 1
+    if isinstance(value, str):
+        return value + "x"
+    return 0 if value is None else [] if value else [0]
+
+
+def another(things, key):
+    """Another key, where there is one."""
+    others = sorted(it for it in things if it != key) if isinstance(things, dict) else []
+    return next((it for it in others if it > key), others[0]) if others else key
+
+
+def insert_first(things, it):
+    things.insert(0, it)
+
+
+def remove_another(things, it):
+    things.pop(0 if things[0] != it else -1)
+
+
+def reversed_list(things):
+    return list(reversed(things))
+
+
+CALLED = {it.__name__: it for it in (wrong, another, insert_first, remove_another, reversed_list)}
+
+
+# ---- an office by turned rules
+
+
+class Finder:
+    """Finds the modules of `plain` in what was compiled."""
+
+    def __init__(self, compiled):
+        self.compiled = compiled
+
+    def find_spec(self, name, path=None, target=None):
+        head, _, module = name.partition(".")
+        if head != "plain":
+            return None
+        return importlib.util.spec_from_loader(name, self, is_package=not module)
+
+    def create_module(self, spec):
+        return None
+
+    def exec_module(self, module):
+        vars(module).update(CALLED)
+        exec(self.compiled[module.__name__.partition(".")[2] or "__init__"], vars(module))
+
+
+def plain_of(compiled):
+    """The package, made anew out of these modules."""
+    for name in [it for it in sys.modules if it.partition(".")[0] == "plain"]:
+        del sys.modules[name]
+    sys.meta_path[:] = [Finder(compiled), *(it for it in sys.meta_path if not isinstance(it, Finder))]
+    return importlib.import_module("plain")
+
+
+def is_answered(plain, day):
+    """Whether an office answers a day as it is written."""
+    tables = importlib.import_module("plain.tables")
+    office = plain.Office(**day.settings)
+    filled.fill(office, day)
+    for method, path, body, status, text in day.asked:
+        told, said = office.get(path) if method == "GET" else office.post(path, body)
+        if (told, said if isinstance(said, str) else plain.as_json(said)) != (status, text):
+            return False
+    return all(tables.kept(office, query) == text for query, text in day.kept)
+
+
+# ---- turns
+
+
+def calls_of(day):
+    """Whether a day is answered as written, and the functions that it calls, by module and name, or none of a long one."""
+    called = set()
+
+    def seen(frame, event, _):
+        code = frame.f_code
+        if event == "call" and code.co_filename.startswith("<plain "):
+            called.add(code.co_filename[7:-1] + "." + code.co_qualname.partition(".<locals>")[0])
+
+    plain, begun = plain_of(COMPILED), time.process_time()
+    is_so = is_answered(plain, day)
+    day.weight = time.process_time() - begun
+    if day.weight > LONG:
+        return is_so, None
+    sys.setprofile(seen)
+    try:
+        is_answered(plain, day)
+    finally:
+        sys.setprofile(None)
+    return is_so, called
+
+
+def told_turns():
+    """The turns that are told by hand, each with what makes its module: its text stands there once."""
+    for name, module, old, new in rules_told.TURNS:
+        is_there = TEXTS[module].count(old) == 1
+        yield name, module, "", (lambda text=TEXTS[module].replace(old, new): ast.parse(text)) if is_there else None
+
+
+def made_turns():
+    """The turns of all modules, each while it is made."""
+    for module in TURNED:
+        for name, function, tree, make, back in turning.turns(module, TEXTS[module]):
+            make()
+            yield name, module, module + function, lambda tree=tree: ast.fix_missing_locations(tree)
+            back()
+
+
+def refuser(module, tree, tried):
+    """The name of the first day that fails by a turned module, or none."""
+
+    def late(*_):
+        raise TimeoutError
+
+    signal.signal(signal.SIGALRM, late)
+    resource.setrlimit(resource.RLIMIT_AS, (MEMORY, MEMORY))
+    compiled = {**COMPILED, module: compile(tree, f"<plain {module}>", "exec")}
+    try:
+        plain = plain_of(compiled)
+    except Exception:
+        return NO_RULES
+    for day in tried:
+        signal.alarm(SECONDS)
+        try:
+            if not is_answered(plain, day):
+                return day.name
+        except Exception:
+            return day.name
+        finally:
+            signal.alarm(0)
+    return ""
+
+
+def begin(module, tree, tried):
+    """A process of its own that tells which day fails."""
+    reader, writer = os.pipe()
+    child = os.fork()
+    if child:
+        os.close(writer)
+        return child, reader
+    os.close(reader)
+    sys.stdout = sys.stderr = open(os.devnull, "w")
+    os.write(writer, refuser(module, tree(), tried).encode())
+    os._exit(0)
+
+
+def ended(running):
+    """Waits for the first of these processes: its turn, and the day that it told."""
+    child, status = os.wait()
+    name, reader = running.pop(child)
+    with os.fdopen(reader) as told:
+        return name, told.read() if status == 0 else "no end"
+
+
+class Trial:
+    """What came of the turns."""
+
+    def __init__(self, words):
+        self.words = words
+        self.passed = self.failed = self.unread = 0
+        self.same, self.by = set(), set()
+
+    def is_wanted(self, name):
+        return not self.words or any(it in name for it in self.words)
+
+    def take(self, name, day):
+        if day == NO_RULES:
+            self.unread += 1
+            return
+        reason = rules_same.SAME.get(name)
+        if day and reason is None or not day and reason is not None:
+            self.passed += 1
+            self.by |= {day} - {""}
+        else:
+            self.failed += 1
+        if reason is not None:
+            self.same.add(name)
+        word = f"refused by {day}" if day else "same" if reason else "NOT REFUSED"
+        if reason is not None and day:
+            word = f"LISTED AS THE SAME, but refused by {day}"
+        print(f"{word} | {name}", flush=True)
+
+    def ends(self):
+        """Tells what is listed and is no turn, and the sums."""
+        if not self.words:
+            for name in sorted(rules_same.SAME.keys() - self.same):
+                self.failed += 1
+                print(f"LISTED AS THE SAME, but no turn | {name}")
+        print(f"{len(self.same)} mean the same; {len(self.by)} days refuse the others; {self.unread} left tables that nothing reads")
+        print(f"{self.passed} passed, {self.failed} failed")
+        return self.failed > 0
+
+
+def all_days():
+    return [it for it in days.written() + limits.made() + filled.made() if it.asked and not it.is_raw]
+
+
+def is_reached(function, called):
+    """Whether a turn can be seen where these functions are called; a long day may call all, and a table is in no function."""
+    return called is None or "." not in function or function in called
+
+
+def main(*words):
+    written, trial = all_days(), Trial(words)
+    reached = {day.name: calls_of(day) for day in written}
+    other = [name for name, (is_so, _) in reached.items() if not is_so]
+    print(f"of {len(written)} days the rules as they are answer {len(written) - len(other)}")
+    if other or not written:
+        print(f"not answered as written: {other}\n0 passed, {len(other)} failed")
+        return 1
+    written.sort(key=lambda it: it.weight)
+    running = {}
+    for name, module, function, tree in itertools.chain(told_turns(), made_turns()):
+        if not trial.is_wanted(name):
+            continue
+        if tree is None:
+            trial.failed += 1
+            print(f"NOT APPLIED | {name}")
+            continue
+        tried = [day for day in written if is_reached(function, reached[day.name][1])]
+        while len(running) >= AT_ONCE:
+            trial.take(*ended(running))
+        child, reader = begin(module, tree, tried)
+        running[child] = name, reader
+    while running:
+        trial.take(*ended(running))
+    return trial.ends()
+
+
+if __name__ == "__main__":
+    sys.exit(main(*sys.argv[1:]))

@@ -1,0 +1,35 @@
+"""Turns of rules that mean the same, by their names, with the reason."""
+
+ALL_FULL = "all three are told as 23"
+SEATED = "who has a box has a seat: nobody leaves with one, and no day ends"
+HEAD = "the head line has it, and no line prints its name"
+ASKED = "a refused question is answered 404, whatever its number"
+NO_RANK = "neither is a level that has a rank"
+ROW_FULL = {
+    ("len(self.containers) > MOST_CONTAINERS", "len(self.units) > MOST_UNITS"),
+    ("self.next - 1 > LAST_UNIT", "len(self.units) > MOST_UNITS"),
+    ("len(self.containers) > MOST_CONTAINERS", "self.next - 1 > LAST_UNIT"),
+}
+IN_ELEMENTS = "in ELEMENTS = [('3.1.1', 'Reference code(s)', ['identifier']), ('3.1.2', 'Title', ['title']),.."
+SHOWN = "in refuse(1, any((self.units[it].draft for it in path)) or any(map(self.is_closed, path["
+SAME = {
+    **{f"catalogue.Catalogue.too_much: refuse(23, {later}) before refuse(23, {first})": ALL_FULL for later, first in ROW_FULL},
+    **{f"elements: '{it}' -> '{it}x' {IN_ELEMENTS}": HEAD for it in ("Reference code(s)", "Title", "Level of description")},
+    "catalogue.Catalogue.remarks: '' -> 'x' in own, higher = (rank(self.units[n].texts.get(LEVEL, '')) for n in "
+    "(unit, it.above))": NO_RANK,
+    "catalogue.Catalogue.add: refuse(22, len(self.path(above)) >= DEEPEST, row=row.number, cause=12) before "
+    "refuse(22, row.parent and above is None, row=row.number, cause=11)": "a row whose parent is missing has no depth",
+    "catalogue.Catalogue.remove: self.gate() before self.permits = {(t, u): until for (t, u), until in "
+    "self.permits.items() if u in self.units}": "permits for what is gone open nothing that is left",
+    "desk.Desk.leave_seat: refuse(11, ticket in self.out().values()) before self.reader(ticket)": "who has a box has a ticket",
+    "desk.Desk.leave_seat: refuse(11, ticket in self.out().values()) before refuse(10, seat is None)": SEATED,
+    "desk.Desk.issue: refuse(16, list(self.out().values()).count(ticket) >= self.hands) before "
+    "refuse(10, self.seat_of(ticket) is None)": SEATED,
+    "elements: 6 -> 7 in RANKS = {'fonds'": "item has the last rank all the same",
+    "files.read_file: refuse(22, legacy in cultures, row=number, cause=7) before refuse(22, not legacy, row=number, cause=6)":
+        "no row before it has a blank number",
+    f"shown.Shown.shown: 1 -> 2 {SHOWN}": ASKED,
+    "shown.Shown.shown: 1 -> 2 in refuse(1, unit not in self.units)": ASKED,
+    "shown.Shown.slip: 26 -> 27 in refuse(26, run not in self.runs)": ASKED,
+    "shown.Shown.slip: 26 -> 25 in refuse(26, run not in self.runs)": ASKED,
+}

@@ -1,0 +1,46 @@
+#!/usr/bin/env python3
+"""Looks for random sessions that find wrong rules: mutation/seeds.py [FIRST [COUNT]]
+
+Makes the sessions of acceptance/sessions.py of COUNT seeds from FIRST on, 0 to 199 where nothing is named, by the rules as
+they are, and asks each of an office by each wrong rule of rules_told.py. It prints for each rule the first two seeds whose
+sessions are answered otherwise. What is found by few goes into acceptance/seeds.txt, which sessions.py always asks. A change
+of what a seed makes there is followed by a look for seeds again. No part of CI: it takes some minutes."""
+import itertools
+import sys
+
+import rules
+import rules_told
+import sessions
+
+
+def replayed(plain, settings, said):
+    """Whether an office answers a session as it was made."""
+    office = plain.Office(**settings)
+    try:
+        for path, body, _, wanted in said:
+            status, told = office.get(path) if body is None else office.post(path, body)
+            if sessions.Session.answer(status, told) != wanted:
+                return False
+    except Exception:
+        return False
+    return True
+
+
+def found(made, module, old, new):
+    """The seeds of sessions that are answered otherwise by a wrong rule."""
+    text = rules.TEXTS[module].replace(old, new)
+    plain = rules.plain_of({**rules.COMPILED, module: compile(text, f"<plain {module}>", "exec")})
+    return (seed for seed, settings, said in made if not replayed(plain, settings, said))
+
+
+def main(first=0, number=200):
+    made = []
+    for seed in range(int(first), int(first) + int(number)):
+        session = sessions.Session(seed)
+        made.append((seed, session.settings, session.said))
+    for name, module, old, new in rules_told.TURNS:
+        print(f"{name}: {list(itertools.islice(found(made, module, old, new), 2))}", flush=True)
+
+
+if __name__ == "__main__":
+    main(*sys.argv[1:])

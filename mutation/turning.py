@@ -1,0 +1,259 @@
+"""Turns a module of Python one place at a time: turns(module, text) gives a name for each turn, with what makes it.
+
+A check or an effect is left out, or a later check comes before it; a comparison is off by one or turned; an operand of
+`and` and `or`, a condition of a list, a key of a reply or of a table is left out; a number is one more, a text another one;
+an effect is done to the next thing; a member of a reply is wrong. A name has the function, and what stands there before and
+after, and no number of a line."""
+import ast
+import collections
+import re
+
+COMPARED = {
+    ast.Lt: (ast.LtE, ast.GtE),
+    ast.LtE: (ast.Lt, ast.Gt),
+    ast.Gt: (ast.GtE, ast.LtE),
+    ast.GtE: (ast.Gt, ast.Lt),
+    ast.Eq: (ast.NotEq,),
+    ast.NotEq: (ast.Eq,),
+    ast.In: (ast.NotIn,),
+    ast.NotIn: (ast.In,),
+    ast.Is: (ast.IsNot,),
+    ast.IsNot: (ast.Is,),
+}
+CALLED = {"any": "all", "all": "any", "max": "min", "min": "max", "sorted": "list", "reversed": "iter"}
+CHECKS = {"refuse", "reader", "unit", "container", "gate", "shown", "too_much"}
+METHODS = {"append": "insert_first", "remove": "remove_another"}
+
+
+def name_of(call):
+    if not isinstance(call, ast.Call):
+        return None
+    return call.func.id if isinstance(call.func, ast.Name) else getattr(call.func, "attr", None)
+
+
+def is_check(statement):
+    return isinstance(statement, (ast.Expr, ast.Assign)) and name_of(statement.value) in CHECKS
+
+
+def is_effect(statement):
+    if isinstance(statement, ast.Expr):
+        return isinstance(statement.value, ast.Call)
+    if isinstance(statement, ast.Assign):
+        targets = statement.targets[0].elts if isinstance(statement.targets[0], ast.Tuple) else statement.targets
+        return any(isinstance(it, (ast.Attribute, ast.Subscript)) for it in targets)
+    return isinstance(statement, (ast.AugAssign, ast.Delete, ast.Continue))
+
+
+def called(name, *words):
+    return ast.Call(func=ast.Name(id=name, ctx=ast.Load()), args=list(words), keywords=[])
+
+
+# ---- what may stand in the place of an expression
+
+
+def of_compare(node):
+    for n, op in enumerate(node.ops):
+        for other in COMPARED.get(type(op), ()):
+            yield ast.Compare(left=node.left, ops=[*node.ops[:n], other(), *node.ops[n + 1 :]], comparators=node.comparators)
+
+
+def of_bool(node):
+    yield ast.BoolOp(op=ast.And() if isinstance(node.op, ast.Or) else ast.Or(), values=node.values)
+    for n in range(len(node.values)):
+        rest = node.values[:n] + node.values[n + 1 :]
+        yield rest[0] if len(rest) == 1 else ast.BoolOp(op=node.op, values=rest)
+
+
+def of_not(node):
+    if isinstance(node.op, ast.Not):
+        yield node.operand
+
+
+def of_choice(node):
+    yield node.body
+    yield node.orelse
+
+
+def of_constant(node):
+    value = node.value
+    if isinstance(value, bool):
+        yield ast.Constant(not value)
+    elif isinstance(value, int):
+        yield ast.Constant(value + 1)
+        if value > 1:
+            yield ast.Constant(value - 1)
+    elif isinstance(value, str):
+        yield ast.Constant(value + "x")
+
+
+def of_call(node):
+    if isinstance(node.func, ast.Name) and node.func.id in CALLED:
+        yield with_field(node, "func", ast.Name(id=CALLED[node.func.id], ctx=ast.Load()))
+    if name_of(node) == "sorted":
+        yield called("reversed_list", node)
+    if isinstance(node.func, ast.Attribute) and METHODS.get(node.func.attr):
+        yield called(METHODS[node.func.attr], node.func.value, *node.args)
+
+
+def of_list(node):
+    for n, loop in enumerate(node.generators):
+        for m in range(len(loop.ifs)):
+            fewer = ast.comprehension(loop.target, loop.iter, loop.ifs[:m] + loop.ifs[m + 1 :], loop.is_async)
+            yield with_field(node, "generators", [*node.generators[:n], fewer, *node.generators[n + 1 :]])
+
+
+def of_dict(node):
+    for n, (key, value) in enumerate(zip(node.keys, node.values)):
+        yield ast.Dict(keys=node.keys[:n] + node.keys[n + 1 :], values=node.values[:n] + node.values[n + 1 :])
+        if key is not None and not isinstance(value, (ast.Constant, ast.Tuple, ast.List, ast.Dict)):
+            wrong = called("wrong", value)
+            yield ast.Dict(keys=node.keys, values=[*node.values[:n], wrong, *node.values[n + 1 :]])
+
+
+def of_elements(node):
+    if isinstance(getattr(node, "ctx", ast.Load()), ast.Load):
+        for n in range(len(node.elts) if len(node.elts) > 1 else 0):
+            yield with_field(node, "elts", node.elts[:n] + node.elts[n + 1 :])
+
+
+def of_subscript(node):
+    if isinstance(node.slice, ast.Slice):
+        yield node.value
+    elif isinstance(node.ctx, (ast.Store, ast.Del)) and not isinstance(node.slice, ast.Constant):
+        yield with_field(node, "slice", called("another", with_field(node.value, "ctx", ast.Load()), node.slice))
+    elif isinstance(node.slice, ast.Constant) and node.slice.value == 0:
+        yield with_field(node, "slice", ast.UnaryOp(op=ast.USub(), operand=ast.Constant(1)))
+
+
+def of_sum(node):
+    if isinstance(node.op, (ast.Add, ast.Sub)):
+        yield with_field(node, "op", ast.Sub() if isinstance(node.op, ast.Add) else ast.Add())
+
+
+def of_format(node):
+    """The other side of a column, and another width."""
+    side, width = node.values[0].value[0], int(node.values[0].value[1:])
+    yield ast.JoinedStr([ast.Constant(f"{'>' if side == '<' else '<'}{width}")])
+    yield ast.JoinedStr([ast.Constant(f"{side}{width + 1}")])
+    yield ast.JoinedStr([ast.Constant(f"{side}{width - 1}")])
+
+
+def with_field(node, field, value):
+    fields = {name: getattr(node, name) for name in node._fields}
+    return type(node)(**{**fields, field: value})
+
+
+EXPRESSIONS = {
+    ast.Compare: of_compare,
+    ast.BoolOp: of_bool,
+    ast.UnaryOp: of_not,
+    ast.IfExp: of_choice,
+    ast.Constant: of_constant,
+    ast.Call: of_call,
+    ast.ListComp: of_list,
+    ast.GeneratorExp: of_list,
+    ast.SetComp: of_list,
+    ast.DictComp: of_list,
+    ast.Dict: of_dict,
+    ast.Tuple: of_elements,
+    ast.List: of_elements,
+    ast.Set: of_elements,
+    ast.Subscript: of_subscript,
+    ast.BinOp: of_sum,
+}
+
+
+# ---- what may stand in the place of a list of statements
+
+
+def of_statements(body):
+    """Other lists of statements, each with the words that tell what was done."""
+    for n, it in enumerate(body):
+        rest = body[:n], body[n + 1 :]
+        if is_effect(it) or isinstance(it, ast.Return) and n + 1 < len(body):
+            yield f"{said(it)} left out", [*rest[0], ast.Pass(), *rest[1]]
+        if isinstance(it, ast.If):
+            yield f"if {said(it.test)} always", [*rest[0], *it.body, *rest[1]]
+            yield f"if {said(it.test)} never", [*rest[0], *(it.orelse or [ast.Pass()]), *rest[1]]
+        for m in range(n + 1, len(body)):
+            if is_check(body[m]) and (is_check(it) or is_effect(it)):
+                yield f"{said(body[m])} before {said(it)}", [*rest[0], body[m], *body[n:m], *body[m + 1 :]]
+
+
+def said(node):
+    return ast.unparse(ast.fix_missing_locations(node)).replace("\n", " ")
+
+
+def places(tree):
+    """Each node with the name of its function and the statement that it stands in; those of docstrings left out."""
+
+    def below(node, function, statement):
+        for field, value in ast.iter_fields(node):
+            for n, child in enumerate(value if isinstance(value, list) else [value]):
+                if isinstance(child, ast.AST) and not is_docstring(child):
+                    inner = f"{function}.{child.name}" if isinstance(child, (ast.FunctionDef, ast.ClassDef)) else function
+                    held = child if isinstance(child, ast.stmt) else statement
+                    yield node, field, n if isinstance(value, list) else None, child, inner, held
+                    yield from below(child, inner, held)
+
+    yield from below(tree, "", None)
+
+
+def is_docstring(node):
+    return isinstance(node, ast.Expr) and isinstance(node.value, ast.Constant)
+
+
+def is_format(node):
+    only = node.values[0] if isinstance(node, ast.JoinedStr) and len(node.values) == 1 else None
+    return isinstance(only, ast.Constant) and re.fullmatch("[<>][0-9]+", only.value)
+
+
+def put(node, field, place, value):
+    if place is None:
+        setattr(node, field, value)
+    else:
+        getattr(node, field)[place] = value
+
+
+def is_fixed(node, statement):
+    """What is no rule: imports, what a type is, and names by which modules know each other."""
+    fixed = isinstance(statement, (ast.Import, ast.ImportFrom, ast.AnnAssign, ast.ClassDef, ast.FunctionDef))
+    return fixed or isinstance(statement, ast.Assign) and said(statement.targets[0]) == "__all__"
+
+
+def shortened(text, size=90):
+    return text if len(text) <= size else f"{text[:size]}.."
+
+
+def turns(module, text):
+    """Each turn: its name, its function, and two functions, of which the first makes it and the second takes it back."""
+    tree, names = ast.parse(text), collections.Counter()
+    for function, words, make, back in [*turned_expressions(tree), *turned_statements(tree)]:
+        name = f"{module}{function}: {words}"
+        names[name] += 1
+        if names[name] > 1:
+            name += f" ({names[name]})"
+        yield name, function, tree, make, back
+
+
+def turned_expressions(tree):
+    for parent, field, place, node, function, statement in list(places(tree)):
+        alternatives = of_format if field == "format_spec" else EXPRESSIONS.get(type(node))
+        if is_fixed(node, statement) or alternatives is None or is_format(parent):
+            continue
+        for other in list(alternatives(node)):
+            words = f"{shortened(said(node))} -> {shortened(said(other))} in {shortened(said(statement).split(':')[0])}"
+            yield function, words, *change(parent, field, place, node, other)
+
+
+def turned_statements(tree):
+    for parent, field, place, node, function, statement in list(places(tree)):
+        for name in ("body", "orelse"):
+            body = getattr(node, name, None)
+            if isinstance(body, list) and not isinstance(node, ast.ClassDef):
+                for words, other in list(of_statements(body)):
+                    yield function, words, *change(node, name, None, body, other)
+
+
+def change(parent, field, place, old, new):
+    return (lambda: put(parent, field, place, new)), (lambda: put(parent, field, place, old))
