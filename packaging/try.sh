@@ -1,0 +1,94 @@
+#!/usr/bin/env bash
+# Makes the package, asks lintian, installs it on a clean Debian root, boots systemd there in namespaces of its own, runs an
+# office by the package, upgrades, removes and purges it, and says what it did:
+#
+#     packaging/try.sh PROGRAM [ROOT.tar]
+#
+# ROOT.tar is the clean root, which is made where it is not there (some two minutes). Needs root, mmdebstrap, lintian and the
+# network for Debian's packages; nothing outside its folder is changed but a control group of its own, which it takes away.
+# Its last line is `N passed, M failed`; where systemd cannot be begun here it says so, and that counts as failed.
+set -euo pipefail
+here=$(cd "$(dirname "$0")" && pwd)
+[ $# -ge 1 ] || { echo "usage: packaging/try.sh PROGRAM [ROOT.tar]" >&2; exit 2; }
+room=$(mktemp -d)
+chmod 755 "$room"
+tar=${2:-$room/root.tar}
+group=/sys/fs/cgroup/unified/record-office-try.$$
+booted=
+passed=0
+failed=0
+
+ends() {
+    [ -z "$booted" ] || kill -KILL "$booted" 2>/dev/null || true
+    sleep 1
+    [ ! -d "$group" ] || find "$group" -depth -type d -exec rmdir {} + 2>/dev/null || true
+    rm -rf --one-file-system "$room"
+}
+trap ends EXIT
+
+# is WHAT STATUS: counts one thing that was tried
+is() {
+    if [ "$2" = 0 ]; then
+        passed=$((passed + 1))
+        echo "passed: $1"
+    else
+        failed=$((failed + 1))
+        echo "FAILED: $1"
+    fi
+}
+
+deb=$("$here/deb.sh" "$1" "$room")
+lintian --fail-on error,warning "$deb" >"$room/lintian" 2>&1 && is "lintian finds no error and no warning" 0 || {
+    cat "$room/lintian"
+    is "lintian finds no error and no warning" 1
+}
+
+[ -s "$tar" ] || mmdebstrap --quiet --variant=minbase --include=systemd-sysv,dbus,curl,iproute2,ca-certificates bookworm "$tar"
+root=$room/root
+mkdir "$root"
+tar -C "$root" -xf "$tar" --exclude='./dev/*'
+cp /etc/resolv.conf "$root/etc/resolv.conf"
+cp "$deb" "$root/root/record-office.deb"
+cp "$here/try_inside.sh" "$root/root"
+cp "$here/../examples/archives.csv" "$root/root"
+install() {
+    unshare -mpf --kill-child bash -c "
+        mount --bind '$root' '$root'; mount -t proc proc '$root/proc'; mount --rbind /dev '$root/dev'; mount -t tmpfs none '$root/run'
+        chroot '$root' sh -c 'export DEBIAN_FRONTEND=noninteractive; apt-get update -qq && apt-get install -qq -y /root/record-office.deb'"
+}
+install >"$room/install" 2>&1 && is "apt installs the package, with nginx and HAProxy, on a clean root" 0 || {
+    tail -20 "$room/install"
+    is "apt installs the package, with nginx and HAProxy, on a clean root" 1
+}
+
+# systemd as the first process of its own namespaces, in a control group of its own, with a network of loopback alone
+boot() {
+    mkdir "$group"
+    setsid bash -c "echo \$\$ >'$group/cgroup.procs'; exec unshare -mpfCn --kill-child bash -c '
+        mount --bind $root $root; cd $root
+        mount -t proc proc proc; mount -t sysfs -o ro sysfs sys; mount -t tmpfs none run; mount -t tmpfs none tmp; mount --rbind /dev dev
+        mount -t cgroup2 none sys/fs/cgroup; ip link set lo up
+        pivot_root . mnt; umount -l /mnt; exec env container=other /lib/systemd/systemd'" <"/dev/null" >"$room/boot" 2>&1 &
+    for _ in $(seq 30); do
+        sleep 1
+        booted=$(pgrep -f '^/lib/systemd/systemd$' | while read -r one; do
+            [ "$(readlink "/proc/$one/root")" != / ] || [ "$(readlink "/proc/$one/ns/pid")" = "$(readlink /proc/self/ns/pid)" ] || echo "$one"
+        done | head -1)
+        [ -z "$booted" ] || return 0
+    done
+    return 1
+}
+
+if boot && sleep 3; then
+    is "systemd begins there" 0
+    nsenter -t "$booted" -m -p -n -C bash /root/try_inside.sh >"$room/inside" 2>&1 || true
+    cat "$room/inside"
+    passed=$((passed + $(grep -c '^passed: ' "$room/inside" || true)))
+    failed=$((failed + $(grep -c '^FAILED: ' "$room/inside" || true)))
+    grep -q '^to the end$' "$room/inside" || is "the trial inside came to its end" 1
+else
+    cat "$room/boot"
+    is "systemd begins there" 1
+fi
+echo "$passed passed, $failed failed"
+[ "$failed" = 0 ]
