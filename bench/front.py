@@ -98,16 +98,19 @@ def ends(office, units, many):
     say("restarts at the end of `--connections`", clients, took, f"; {office.starts - starts} restarts")
 
 
-def kills(office, units, many, apart):
+def kills(office, units, many):
+    """Kills the program three times, each time some seconds after it has answered again."""
     starts = office.starts
 
     def kill():
         for _ in range(3):
-            time.sleep(apart)
+            time.sleep(2.5)
             office.serving.kill()
+            time.sleep(0.5)
+            Client(office.ports["readers"], ["/public/fonds"]).run()
 
     clients, took = crowd(office, units, many, kill)
-    say(f"killed three times, {apart:.0f} s apart", clients, took, f"; {office.starts - starts} restarts")
+    say("killed three times", clients, took, f"; {office.starts - starts} restarts")
 
 
 class Desk:
@@ -186,7 +189,7 @@ def measure(words, room):
     print("| | requests | a second | p50 | p99 | longest | lost |\n|---|---|---|---|---|---|---|", flush=True)
     with Office(words.program, store, f"{room}/long", words.port, 10000, NO_LIMITS) as office:
         steady(office, words.units, many)
-        kills(office, words.units, many * 2, 2.5 if words.units <= 20000 else 12)
+        kills(office, words.units, many * 2)
         slow(office, words.units)
         desk = Desk(office, 350 if words.units > 2000 else 40)
         clients, took = crowd(office, words.units, many, desk.run)
