@@ -126,7 +126,7 @@ class Shell:
 def agrees(said, expected):
     """Whether the lines are these, where a line `...` stands for any."""
     pattern = "\n".join("(?:.*(?:\n.*)*)" if line.strip() == "..." else re.escape(line) for line in expected)
-    return re.fullmatch(pattern, said) is not None
+    return re.fullmatch(pattern, "\n".join(line.rstrip() for line in said.splitlines())) is not None
 
 
 def free_port():

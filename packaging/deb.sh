@@ -70,8 +70,7 @@ Architecture: $arch
 Maintainer: $maintainer
 Installed-Size: $(du -sk --exclude=DEBIAN "$root" | cut -f1)
 Depends: adduser, libc6 (>= $(needed_libc "$program"))
-Recommends: haproxy (>= 2.4), nginx (>= 1.19.4), openssl
-Suggests: sqlite3
+Recommends: haproxy (>= 2.4), nginx (>= 1.19.4), openssl, sqlite3
 Section: database
 Priority: optional
 Description: public side of a record office: catalogue and reading room

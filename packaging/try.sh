@@ -1,6 +1,6 @@
 #!/usr/bin/env bash
 # Makes the package, asks lintian, installs it on a clean Debian root, boots systemd there in namespaces of its own, runs an
-# office by the package, upgrades, removes and purges it, and says what it did:
+# office by the lines of OPERATING, upgrades, removes and purges it, and says what it did:
 #
 #     packaging/try.sh PROGRAM [ROOT.tar]
 #
@@ -51,6 +51,9 @@ cp /etc/resolv.conf "$root/etc/resolv.conf"
 cp "$deb" "$root/root/record-office.deb"
 cp "$here/try_inside.sh" "$root/root"
 cp "$here/../examples/archives.csv" "$root/root"
+mkdir -p "$root/root/top/crates/record_office/out"
+cp -r "$here/../front" "$here/../packaging" "$root/root/top"
+cp "$1" "$root/root/top/crates/record_office/out/record_office"
 install() {
     unshare -mpf --kill-child bash -c "
         mount --bind '$root' '$root'; mount -t proc proc '$root/proc'; mount --rbind /dev '$root/dev'; mount -t tmpfs none '$root/run'
@@ -79,13 +82,29 @@ boot() {
     return 1
 }
 
-if boot && sleep 3; then
-    is "systemd begins there" 0
-    nsenter -t "$booted" -m -p -n -C bash /root/try_inside.sh >"$room/inside" 2>&1 || true
+# inside COMMAND ..: runs it there, and counts what it says
+inside() {
+    nsenter -t "$booted" -m -p -n -C "$@" >"$room/inside" 2>&1 || true
     cat "$room/inside"
     passed=$((passed + $(grep -c '^passed: ' "$room/inside" || true)))
     failed=$((failed + $(grep -c '^FAILED: ' "$room/inside" || true)))
+}
+
+# operating PLACE FOLDER: the lines of OPERATING that are of this place
+operating() {
+    local how=0
+    "$here/../acceptance/operating.py" --place "$1" --shell "nsenter -t $booted -m -p -n -C bash -c 'cd $2 && exec bash'" >"$room/lines" || how=$?
+    grep -v '^left out' "$room/lines" || true
+    is "the lines of OPERATING, place '$1': $(tail -1 "$room/lines")" "$how"
+}
+
+if boot && sleep 3; then
+    is "systemd begins there" 0
+    inside bash /root/try_inside.sh before
+    operating package /root
+    inside bash /root/try_inside.sh after
     grep -q '^to the end$' "$room/inside" || is "the trial inside came to its end" 1
+    operating hand /root/top
 else
     cat "$room/boot"
     is "systemd begins there" 1
