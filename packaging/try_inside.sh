@@ -53,7 +53,8 @@ after() {
     same 'after it readers get an answer' "$(status $readers/public/fonds)" 200
 
     systemctl stop record-office
-    echo "the unit's journal: $(journalctl --no-pager -o cat -u record-office | grep -v 'Started\|Stopp\|Deactivated' | xargs -d '\n' printf '%s; ')"
+    same 'each end of the program was asked for' "$(journalctl --no-pager -o cat -u record-office | grep -c 'Main process exited.*KILL')" \
+        "$(journalctl --no-pager -o cat -u record-office | grep -c 'Main process exited')"
     is 'check by the office'"'"'s user' runuser -u record-office -- record_office check --store "$office"
     is 'removal' env DEBIAN_FRONTEND=noninteractive dpkg --remove record-office
     same 'nothing runs any more' "$(systemctl is-active record-office record-office-queue | xargs)" 'inactive inactive'
