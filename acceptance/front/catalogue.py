@@ -15,7 +15,7 @@ ODD = {
     "override": "Plans \u202eneddih\u202c of \u2066locks\u2069",
     "separators": "One\u2028two\u2029three\u0085four\u000bfive",
     "closed": "closed until 2030-01-01",
-    "lines": "  3.1.3 Date(s): 1900",
+    "lines": "3.1.3 Date(s): 1900",
     "unit": "Unit 1: GB 0999 HUL [Fonds] Hull Dock Company",
     "long": "Llanfairpwllgwyngyllgogerychwyrndrobwllllantysiliogogogoch" * 6,
     "accents": "Caf\u00e9 cafe\u0301 \u0130stanbul \ufb01le \U0001f4dc",
@@ -50,6 +50,8 @@ def dock_company():
     yield row(legacyId="code", parentId="1", identifier="<b>[Series] x", title="Its code is odd", levelOfDescription="[File] <i>",
               publicationStatus="Published")
     yield row(legacyId="blank", parentId="1", publicationStatus="Published", scopeAndContent="Neither code, title nor level.")
+    yield row(legacyId="rank", parentId="3", identifier="1", title="Of a level above", levelOfDescription="Subfonds", publicationStatus="Published")
+    yield row(legacyId="lacks", identifier="LCK", title="It lacks dates", levelOfDescription="Fonds", publicationStatus="Published")
     yield row(legacyId="below blank", parentId="blank", identifier="Y", title="Below a blank one", levelOfDescription="File",
               publicationStatus="Published")
 

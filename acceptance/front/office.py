@@ -17,6 +17,7 @@ import re
 import shutil
 import socket
 import subprocess
+import sys
 import threading
 import time
 import urllib.error
@@ -204,3 +205,18 @@ def mime_types():
 def fresh(folder):
     shutil.rmtree(folder, ignore_errors=True)
     return folder
+
+
+def main(program, folder, *files):
+    """An office to look at, until Ctrl-C: office.py PROGRAM FOLDER [FILE..]"""
+    office = Office(fresh(folder), program).init()
+    for path in files:
+        print(office.take_in("catalogue", path), end="")
+    with office, contextlib.suppress(KeyboardInterrupt):
+        print(f"readers {office.public}\nstaff   {office.staff}, name {PASSWORD[0]}, password {PASSWORD[1]}\nCtrl-C ends it", flush=True)
+        while True:
+            time.sleep(60)
+
+
+if __name__ == "__main__":
+    main(*sys.argv[1:])

@@ -8,7 +8,7 @@ import time
 from office import SIGNED_IN
 
 CLIENTS = 8
-MANY = 250
+MANY = 40
 
 
 class Client(threading.Thread):

@@ -4,7 +4,7 @@ import base64
 import json
 import socket
 import threading
-from http.server import BaseHTTPRequestHandler, HTTPServer
+from http.server import BaseHTTPRequestHandler, ThreadingHTTPServer
 
 from office import PASSWORD, SIGNED_IN
 
@@ -19,7 +19,6 @@ ODD_PATHS = [form.format(way) for way in ("desk/issued", "desk/run", "desk/regis
 def raw(port, text, body=b""):
     with socket.create_connection(("127.0.0.1", port), 20) as it:
         it.sendall(text.encode("latin-1") + body)
-        it.shutdown(socket.SHUT_WR)
         got = b""
         while piece := it.recv(65536):
             got += piece
@@ -36,7 +35,7 @@ class Rules:
         self.public, self.staff = (asks.office.ports[name] for name in ("8080", "8081"))
 
     def play(self):
-        for part in (self.odd_paths, self.readers_limits, self.password, self.other_sites, self.other_names, self.heads, self.foreign_page):
+        for part in (self.odd_paths, self.readers_limits, self.password, self.other_sites, self.other_names, self.heads, *([self.foreign_page] if self.page else [])):
             self.checks.part(f"rules: {part.__name__}", part)
 
     def state(self):
@@ -127,6 +126,6 @@ def serve(html):
         def log_message(self, *_):
             pass
 
-    server = HTTPServer(("127.0.0.1", 0), Handler)
+    server = ThreadingHTTPServer(("127.0.0.1", 0), Handler)  # a browser keeps connections open that it does not use
     threading.Thread(target=server.serve_forever, daemon=True).start()
     return server

@@ -54,8 +54,8 @@ def two_offices(checks, program, folder, shots, parts):
                 pages(checks, office, browser, folder, pictures(shots))
             else:
                 office_without_pages(office, folder)
-            if browser and "rules" in parts:
-                Rules(checks, Asks(office), browser.page(SIGNED_IN)).play()
+            if "rules" in parts:
+                Rules(checks, Asks(office), browser and browser.page(SIGNED_IN)).play()
             if "restarts" in parts:
                 restarts.play(checks, Asks(office))
         if browser and "refusals" in parts:

@@ -25,19 +25,22 @@ def play(checks, visit, day, shot):
     readers = ["/", f"/unit/{day.unit('fonds')}", f"/unit/{day.unit('plans')}", f"/unit/{day.unit('board') + 1}", f"/aid/{day.unit('fonds')}", "/help", "/unit/999"]
     staff = ["/", "/counter", "/counter/1", "/readers", "/readers/1", "/orders", "/runs", "/runs/1", "/out", f"/units/{day.unit('plans')}", "/import"]
     pages = [(visit, hash_) for hash_ in readers] + [(day, hash_) for hash_ in staff]
-    checks.part("shapes: widths", widths, checks, visit, day, pages)
-    checks.part("shapes: parts", parts, checks, pages)
-    checks.part("shapes: pictures", pictures, visit, day, pages, shot)
-
-
-def widths(checks, visit, day, pages):
     for width in WIDTHS:
-        visit.page.size(width, 800)
-        day.page.size(width, 800)
-        for at, hash_ in pages:
-            page = at.at(hash_)
-            over = page.js("document.documentElement.scrollWidth - innerWidth")
-            checks.check(f"nothing runs over at {width}: {hash_}", over <= 0, over)
+        checks.part(f"shapes: {width} wide", width_of, checks, visit, day, pages, width, shot)
+    checks.part("shapes: parts", parts, checks, pages)
+    for page in (visit.page, day.page):
+        page.size(1200, 850)
+
+
+def width_of(checks, visit, day, pages, width, shot):
+    for page in (visit.page, day.page):
+        page.size(width, 800, 1, width == 320)
+    for at, hash_ in pages:
+        page = at.at(hash_)
+        over = page.js("document.documentElement.scrollWidth - innerWidth")
+        checks.check(f"nothing runs over at {width}: {hash_}", over <= 0, over)
+        if width == 320:
+            shot(page, f"phone-{'reader' if at is visit else 'desk'}{hash_.replace('/', '-')}")
 
 
 def parts(checks, pages):
@@ -53,10 +56,3 @@ def parts(checks, pages):
         lively = page.js("[...document.querySelectorAll('form.command')].every((form) => form.querySelector('[role=status]'))")
         checks.check(f"each outcome is told: {hash_}", lively)
 
-
-def pictures(visit, day, pages, shot):
-    for at, hash_ in pages:
-        at.page.size(320, 640, 2, True)
-        shot(at.at(hash_), f"phone-{'reader' if at is visit else 'desk'}{hash_.replace('/', '-')}")
-    for page in (visit.page, day.page):
-        page.size(1200, 850)

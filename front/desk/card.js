@@ -94,7 +94,7 @@ const permitForm = (view) => command(view, 'Give a permit', ({ unit, until }) =>
   });
 
 function permitTable(view, permits) {
-  return table('Permits', ['Unit', 'Good until', 'Take away'], permits.map(({ unit, until }) => [unitLink(unit), until, revokeForm(view, unit)]));
+  return table('Permits', ['Unit', 'Good until', 'Take away'], permits.map(({ unit, until }) => [unitLink(unit), el('span', { class: 'whole' }, until), revokeForm(view, unit)]));
 }
 
 function revokeForm(view, unit) {

@@ -43,7 +43,7 @@ function issueForm(ticketRow) {
   const form = commandForm({
     key: 'issue', fields: [ticketRow, about, containerRow], button: 'Issue',
     send: ({ ticket, container }) => issue(numberOf(container), numberOf(ticket)),
-    done: (value, { ticket, container }) => { about.replaceChildren(); return issued(value, numberOf(ticket), numberOf(container)); },
+    done: (value, { ticket, container }) => { showReader(about, null); return issued(value, numberOf(ticket), numberOf(container)); },
     explain: deskWords,
     help: (answer, { ticket }, again) => (answer.code === 10 ? seatButton(numberOf(ticket), again) : readerOf(answer, numberOf(ticket))),
     look: ({ container }) => lookAtContainer(numberOf(container)),

@@ -6,6 +6,8 @@ import { el, words } from '../shared/dom.js';
 import { permits, queue, reader, slip, unit } from '../shared/routes.js';
 import { newestTicket, readerLink } from './names.js';
 
+const NEWEST = 5; // so many tickets are listed
+
 const line = (...children) => el('p', {}, ...children);
 
 /** A question whose answer is missing is an answer too: there is no such thing. */
@@ -28,9 +30,12 @@ export async function lookAtNewestTicket() {
   const newest = await newestTicket();
   if (newest === null) return null;
   if (newest === 0) return line('No ticket has been given yet.');
-  const answer = await reader(newest);
-  return answer.ok ? [line('The newest ticket: ', readerLink(newest), `, good until ${answer.value.until}.`),
-    line('If it has the name that you typed, the registration was done.')] : null;
+  const tickets = Array.from({ length: Math.min(newest, NEWEST) }, (_, place) => newest - place);
+  const cards = await Promise.all(tickets.map((ticket) => reader(ticket)));
+  if (cards.some((answer) => !answer.ok)) return null;
+  return [line('The newest tickets:'),
+    el('ul', {}, cards.map(({ value }) => el('li', {}, readerLink(value.ticket), `, good until ${value.until}`))),
+    line('If one of them is the one that you asked for, the registration was done.')];
 }
 
 export async function lookAtNewestRun() {

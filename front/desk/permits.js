@@ -36,7 +36,7 @@ async function gather(unit, told, list) {
   const found = await holdersOf(unit);
   if (found === null) { told.textContent = 'The office did not answer for all cards. Try again in a minute.'; return; }
   told.textContent = found.length === 0 ? 'Nobody has a permit for this very unit.' : `${count(found.length, 'permit', 'permits')}.`;
-  list.replaceChildren(...(found.length === 0 ? [] : [table('Permits for this unit', ['Reader', 'Good until'], found.map((one) => [readerLink(one.ticket), one.until]))]));
+  list.replaceChildren(...(found.length === 0 ? [] : [table('Permits for this unit', ['Reader', 'Good until'], found.map((one) => [readerLink(one.ticket), el('span', { class: 'whole' }, one.until)]))]));
 }
 
 export async function holdersOf(unit) {

@@ -21,11 +21,11 @@ export async function unitsPage(number) {
   return { title: `Unit ${number}`, content: [
     el('h1', {}, `Unit ${number}`),
     el('h2', {}, 'What the public sees'), view.page,
-    el('div', { class: 'cards four' },
+    el('div', { class: 'cards' },
       card('Status', statusForm(view)), card('Closure', closureForm(view)), card('Move', moveForm(view)),
       card('Permits', permitForm(number), permitList(number)),
-      card('Remove', removeForm(number, () => show(view)))),
-    card('Another unit', look),
+      card('Remove', removeForm(number, () => show(view))),
+      card('Another unit', look)),
   ] };
 }
 

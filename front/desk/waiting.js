@@ -6,7 +6,7 @@ import { queue, reader } from '../shared/routes.js';
 import { boxLink, newestTicket, readerLink } from './names.js';
 import { card } from './parts.js';
 
-const FEW = 1000; // so many cards are asked for at once, without a press of a button
+const FEW = 200; // so many cards are asked for at once, without a press of a button
 
 export function waitingList() {
   const told = el('p', { class: 'told', role: 'status' });

@@ -20,7 +20,7 @@ export function commandForm(parts) {
   const outcome = el('div', { class: 'outcome', role: 'status' });
   const form = el('form', { class: 'command' }, parts.fields ?? [], el('p', { class: 'buttons' }, press), outcome);
   const state = { parts, form, press, outcome, busy: false, free: 0, last: '' };
-  form.addEventListener('keydown', stopHeldKey);
+  form.addEventListener('keydown', (event) => { stopHeldKey(event); noteMissed(event, state); });
   press.addEventListener('click', (event) => stopSecondClick(event, state));
   form.addEventListener('submit', (event) => submit(event, state));
   resume(state);
@@ -33,6 +33,11 @@ function stopHeldKey(event) {
 
 function stopSecondClick(event, state) {
   if (event.detail > 0 && performance.now() < state.free) event.preventDefault();
+}
+
+/** A barcode that is read while the form waits goes nowhere, and whoever read it has to know. */
+function noteMissed(event, state) {
+  if (state.busy && /^[0-9]$/.test(event.key)) state.missed = true;
 }
 
 async function submit(event, state) {
@@ -55,6 +60,7 @@ function isRepeat(state, values) {
 }
 
 function begin(state) {
+  state.missed = false;
   shut(state, true);
   state.outcome.replaceChildren();
   state.slow = setTimeout(() => state.outcome.replaceChildren(el('p', { class: 'waiting' }, 'Waiting for the office …')), 400);
@@ -78,12 +84,14 @@ async function succeed(state, value, values) {
   state.form.reset();
   state.parts.focus?.(state.form, null);
   const shown = await state.parts.done(value, values);
-  if (shown) state.outcome.replaceChildren(note('done', shown));
+  if (shown) state.outcome.replaceChildren(note('done', [shown, missed(state)]));
 }
+
+const missed = (state) => state.missed && el('p', {}, 'A number was typed or scanned while the office was busy. It was not taken: please do it again.');
 
 function fail(state, answer, values) {
   state.outcome.replaceChildren(note('refused', [
-    refusal(state.parts, answer), state.parts.help?.(answer, values, () => sendAgain(state))]));
+    refusal(state.parts, answer), state.parts.help?.(answer, values, () => sendAgain(state)), missed(state)]));
   if (state.parts.focus) state.parts.focus(state.form, answer);
   else selectFirst(state.form);
 }
@@ -95,7 +103,7 @@ function sendAgain(state) {
 }
 
 function selectFirst(form) {
-  const input = form.querySelector('input');
+  const input = form.querySelector('input') ?? form.querySelector('button[type=submit]');
   input?.focus();
   if (input?.type === 'text') input.select();
 }
