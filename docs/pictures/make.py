@@ -15,7 +15,7 @@ from browser import Browser  # noqa: E402
 from office import SIGNED_IN, Office  # noqa: E402
 
 WIDTH, HEIGHT = 860, 600
-SHOTS = [("readers-unit", False, "/units/2"), ("desk-readers", True, "/readers"), ("desk-counter", True, "/counter"), ("desk-runs", True, "/runs/1")]
+SHOTS = [("readers-unit", False, "/unit/2"), ("desk-readers", True, "/readers"), ("desk-counter", True, "/counter"), ("desk-runs", True, "/runs/1")]
 
 
 def file_of_the_document():
@@ -48,7 +48,7 @@ def shoot(office, browser):
         page = browser.page(SIGNED_IN if desk else None)
         page.size(WIDTH, HEIGHT)
         page.open(f"{office.staff if desk else office.public}/#{place}")
-        page.shot(HERE / f"{name}.png", full=False)
+        page.shot(HERE / f"{name}.png", full=not desk)
         print(f"{name}.png: {(HERE / f'{name}.png').stat().st_size} bytes")
 
 
