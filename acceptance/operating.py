@@ -22,6 +22,7 @@ import os
 import pathlib
 import re
 import shlex
+import shutil
 import signal
 import socket
 import subprocess
@@ -194,6 +195,9 @@ def main():
     words.add_argument("--place", choices=PLACES, default="here")
     words.add_argument("--shell")
     words = words.parse_args()
+    lacking = [tool for tool in ("curl", "sqlite3") if words.place == "here" and not shutil.which(tool)]
+    if lacking:
+        sys.exit(f"needs {' and '.join(lacking)}\n0 passed, 1 failed")
     all_blocks = blocks(DOCUMENT.read_text(encoding="utf-8"))
     with tempfile.TemporaryDirectory() as folder:
         if words.place == "here":
