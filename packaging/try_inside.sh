@@ -32,6 +32,7 @@ before() {
 
 after() {
     same 'readers get an answer' "$(status $readers/public/fonds)" 200
+    same 'and a finding aid' "$(status $readers/public/aid/1)" 200
     same 'the desk asks for a password' "$(status $desk/desk/issued)" 401
     same 'the desk takes it' "$(status -u desk:quiet-paper $desk/desk/issued)" 200
     same 'another name is turned away' "$(status -H 'Host: other.example.org' -u desk:quiet-paper $desk/desk/issued)" 421
