@@ -43,6 +43,11 @@ lintian --fail-on error,warning "$deb" >"$room/lintian" 2>&1 && is "lintian find
     is "lintian finds no error and no warning" 1
 }
 
+how=0
+said=$(LC_ALL=C.UTF-8 MANWIDTH=80 man --warnings -l -Tutf8 "$here/record_office.1" 2>&1 >/dev/null) || how=$?
+[ -z "$said" ] || how=1
+is "man finds nothing wrong with the manual page${said:+: $said}" "$how"
+
 [ -s "$tar" ] || mmdebstrap --quiet --variant=minbase --include=systemd-sysv,dbus,curl,iproute2,ca-certificates bookworm "$tar"
 root=$room/root
 mkdir "$root"

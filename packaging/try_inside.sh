@@ -27,6 +27,8 @@ before() {
     done
     same 'without an office neither unit runs' "$(systemctl is-active record-office record-office-queue | xargs)" 'inactive inactive'
     same 'both are enabled' "$(systemctl is-enabled record-office record-office-queue | xargs)" 'enabled enabled'
+    is 'systemd finds nothing wrong with the units' sh -c \
+        'test -z "$(systemd-analyze verify --man=no record-office.service record-office-queue.service 2>&1 | tee /dev/stderr)"'
     is 'the manual page is there' test -s /usr/share/man/man1/record_office.1.gz -o -e /etc/dpkg/dpkg.cfg.d/excludes
 }
 
