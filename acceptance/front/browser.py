@@ -140,11 +140,14 @@ class Page:
 
     def scan(self, digits):
         """What a barcode reader sends: digits one after the other, and Enter."""
+        self.digits(digits)
+        self.key("Enter")
+
+    def digits(self, digits):
         for digit in digits:
             for kind in ("keyDown", "keyUp"):
                 self.call("Input.dispatchKeyEvent", type=kind, key=digit, code=f"Digit{digit}", windowsVirtualKeyCode=ord(digit),
                           **({"text": digit} if kind == "keyDown" else {}))
-        self.key("Enter")
 
     def key(self, key, repeat=False):
         code = {"Enter": 13, "Tab": 9, "Escape": 27, " ": 32}[key]

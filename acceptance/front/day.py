@@ -20,7 +20,7 @@ class Day:
 
     def play(self):
         for part in (self.registers, self.finds, self.reader_orders, self.desk_orders, self.fetches, self.counter, self.waits,
-                     self.out, self.takes_back, self.permits, self.units, self.removes, self.next_day, self.uncertain):
+                     self.out, self.takes_back, self.permits, self.units, self.removes, self.next_day, self.keyboard, self.uncertain):
             self.checks.part(f"day: {part.__name__}", part)
 
     # The catalogue comes in
@@ -198,7 +198,7 @@ class Day:
         page = self.at("/")
         page.see("1 container is out.")
         page.fill("The new day", "2024-03-02")
-        page.press("Open the day")
+        self.opens(page, "2024-03-02")
         page.see("A container is still out with a reader.")
         self.checks.check("a new day is refused while something is out", True)
         page = self.at("/counter")
@@ -317,9 +317,42 @@ class Day:
         self.checks.check("the clock's date is suggested", page.js("/^\\d{4}-\\d\\d-\\d\\d$/.test(document.querySelector('input[type=date]').value)"))
         page.fill("The new day", "2024-03-02")
         page.press("Open the day")
+        page.see("A day that has been opened cannot be taken back", "dialog")
+        self.shot(page, "desk-day", full=False)
+        page.press("Open no day", "dialog")
+        page.see("No day was opened.")
+        time.sleep(0.65)
+        self.opens(page, "2024-03-02")
         page.see("2024-03-02 is open.")
+        self.checks.same("no other day is offered then", page.js("document.querySelector('input[type=date]').value"), "")
         page.see("The day opened last in this browser is 2024-03-02.")
         self.shot(page, "desk-today")
+
+    def keyboard(self):
+        """From the top of the page by Tab, letters and Enter alone: a reader's card is opened, and its ticket renewed."""
+        page = self.at("/")
+        self.visit.tab_to(page, "Readers")
+        page.key("Enter")
+        page.wait("document.activeElement.name === 'who'")
+        page.type("zoe")
+        page.key("Enter")
+        page.see("1 reader with", ".told")
+        self.visit.tab_to(page, "Zo\u00eb")
+        page.key("Enter")
+        page.wait("location.hash === '#/readers/3' && document.activeElement.tagName === 'H1'")
+        for _ in range(40):
+            page.key("Tab")
+            if page.js("document.activeElement.name === 'until'"):
+                break
+        page.digits("12312032")
+        page.key("Enter")
+        page.see("Ticket good until 2032-12-31.")
+        self.checks.same("a ticket is renewed by keys alone", json.loads(self.asks.text("/desk/readers/3", True))["until"], "2032-12-31")
+
+    def opens(self, page, day):
+        page.press("Open the day")
+        page.see("A day that has been opened cannot be taken back", "dialog")
+        page.press(f"Open {day}", "dialog")
 
     # When nobody knows whether it was done
 

@@ -15,6 +15,7 @@ import pathlib
 import pwd
 import re
 import shutil
+import signal
 import socket
 import subprocess
 import sys
@@ -209,6 +210,7 @@ def fresh(folder):
 
 def main(program, folder, *files):
     """An office to look at, until Ctrl-C: office.py PROGRAM FOLDER [FILE..]"""
+    signal.signal(signal.SIGTERM, lambda *_: sys.exit(143))  # so that what was started is ended
     office = Office(fresh(folder), program).init()
     for path in files:
         print(office.take_in("catalogue", path), end="")

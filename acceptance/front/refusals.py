@@ -58,6 +58,9 @@ class Refusals:
             else:
                 self.page.fill(label, value, card)
         self.page.press(button, card)
+        if button == "Open the day":
+            self.page.see("cannot be taken back", "dialog")
+            self.page.press(f"Open {fields['The new day']}", "dialog")
         self.sees(code, more)
 
     def sees(self, code, more=""):

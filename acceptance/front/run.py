@@ -5,6 +5,7 @@ The last line is `N passed, M failed`; the exit status is 0 where none failed.""
 
 import pathlib
 import shutil
+import signal
 import sys
 
 sys.dont_write_bytecode = True
@@ -74,6 +75,7 @@ def office_without_pages(office, folder):
 
 
 def main(program, folder, shots, *parts):
+    signal.signal(signal.SIGTERM, lambda *_: sys.exit(143))  # so that what was started is ended
     checks = Checks()
     folder, shots = pathlib.Path(fresh(folder)).resolve(), pathlib.Path(fresh(shots)).resolve()
     folder.mkdir(parents=True)

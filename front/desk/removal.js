@@ -7,8 +7,8 @@ import { aid, remove } from '../shared/routes.js';
 import { headsOfAid } from '../shared/texts.js';
 import { onceMore } from './looks.js';
 import { heldContainer, said } from './parts.js';
+import { isSure, STAYED } from './sure.js';
 
-const STAYED = { ok: false, kind: 'stayed' };
 const SHOWN = 12; // so many units are named
 
 export function removeForm(unit, refresh) {
@@ -27,7 +27,12 @@ export function removeForm(unit, refresh) {
 async function removeIfSure(unit) {
   const answer = await aid(unit);
   if (!answer.ok && answer.kind !== 'missing') return answer.kind === 'silent' ? { ok: false, kind: 'silent' } : answer;
-  return await isSure(unit, whatGoes(answer)) ? remove(unit) : STAYED;
+  const question = {
+    title: `Remove unit ${unit} for good?`, stay: 'Keep it', go: `Remove unit ${unit}`, kind: 'grave',
+    content: [whatGoes(answer), el('p', {}, 'Drafts and closed units below it go too, and so do all permits for these units. '
+      + 'Orders, runs and containers stay.')],
+  };
+  return await isSure(question) ? remove(unit) : STAYED;
 }
 
 function whatGoes(answer) {
@@ -40,19 +45,4 @@ function whatGoes(answer) {
       el('ul', { class: 'goes-too' }, below.slice(0, SHOWN).map((head) => words(head, 'li'))),
       below.length > SHOWN && el('p', {}, `And ${(below.length - SHOWN).toLocaleString('en-GB')} more.`)],
   ];
-}
-
-function isSure(unit, goes) {
-  const stay = el('button', { value: 'stay', class: 'plain', autofocus: true }, 'Keep it');
-  const leave = el('button', { value: 'go', class: 'grave' }, `Remove unit ${unit}`);
-  const dialog = el('dialog', { 'aria-labelledby': 'removal' },
-    el('h2', { id: 'removal' }, `Remove unit ${unit} for good?`), goes,
-    el('p', {}, 'Drafts and closed units below it go too, and so do all permits for these units. Orders, runs and containers stay.'),
-    el('form', { method: 'dialog', class: 'buttons' }, stay, leave));
-  return new Promise((resolve) => {
-    dialog.addEventListener('close', () => { dialog.remove(); resolve(dialog.returnValue === 'go'); });
-    document.body.append(dialog);
-    dialog.showModal();
-    stay.focus();
-  });
 }

@@ -7,6 +7,7 @@ import { deskWords } from '../shared/refusals.js';
 import { issued, openDay } from '../shared/routes.js';
 import { onceMore } from './looks.js';
 import { card, problem, said } from './parts.js';
+import { isSure, STAYED } from './sure.js';
 
 const KEPT = 'last day opened here';
 
@@ -25,11 +26,24 @@ function dayForm() {
     key: 'day',
     fields: [dayField('day', 'The new day', { value: dayOfThisComputer(), hint: 'All seats become free. Nothing may be out.' })],
     button: 'Open the day',
-    send: ({ day }) => openDay(day),
+    send: ({ day }) => openIfSure(day),
     done: opened,
-    explain: deskWords,
+    explain: (answer) => (answer === STAYED ? ['No day was opened.', ''] : deskWords(answer)),
+    focus: (form, answer) => { if (answer === null) form.elements.day.value = ''; form.elements.day.focus(); },
     look: onceMore('“not later than the day that is open” means that it was done.'),
   });
+}
+
+/** A day cannot be closed again, so one that is not today by the clock is asked about. */
+async function openIfSure(day) {
+  const today = dayOfThisComputer();
+  if (day === today) return openDay(day);
+  const question = {
+    title: `Open ${day}?`, stay: 'Open no day', go: `Open ${day}`,
+    content: el('p', {}, `By the clock of this computer today is ${today}. A day that has been opened cannot be taken back: `
+      + 'every ticket and every closure that ends before it is over then.'),
+  };
+  return await isSure(question) ? openDay(day) : STAYED;
 }
 
 /** What the clock of this computer says, as a suggestion: the office itself reads no clock. */

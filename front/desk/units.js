@@ -1,21 +1,23 @@
 // Units: what the public sees of one, its status, closure and place, permits for it, and its removal.
 
-import { count, el } from '../shared/dom.js';
+import { count, el, link } from '../shared/dom.js';
 import { checkField, choiceField, dayField, numberField } from '../shared/fields.js';
 import { commandForm } from '../shared/form.js';
 import { numberOf } from '../shared/numbers.js';
 import { deskWords } from '../shared/refusals.js';
 import { go } from '../shared/router.js';
-import { move, setClosure, setStatus, unit as askUnit } from '../shared/routes.js';
+import { headLine } from '../shared/heads.js';
+import { fonds, move, setClosure, setStatus, unit as askUnit } from '../shared/routes.js';
+import { readFonds, readPage } from '../shared/texts.js';
 import { lookAtUnit } from './looks.js';
 import { card, heldContainer, lookUp, problem, said, unitLink } from './parts.js';
 import { permitForm, permitList } from './permits.js';
 import { removeForm } from './removal.js';
 
 export async function unitsPage(number) {
-  const field = numberField('unit', 'Unit', { hint: 'The number in the address of the unit’s public page.' });
+  const field = numberField('unit', 'Unit', { hint: 'The number at the end of the address of its public page. A draft is found by its number alone.' });
   const look = lookUp(field, 'Open the unit', (typed) => go(`#/units/${typed}`));
-  if (!number) return { title: 'Units', focus: field.querySelector('input'), content: [el('h1', {}, 'Units'), look] };
+  if (!number) return { title: 'Units', focus: field.querySelector('input'), content: [el('h1', {}, 'Units'), look, await tops()] };
   const view = { number, page: el('div', { role: 'region', 'aria-label': 'What the public sees', tabindex: 0 }) };
   await show(view);
   return { title: `Unit ${number}`, content: [
@@ -31,7 +33,20 @@ export async function unitsPage(number) {
 
 async function show(view) {
   const answer = await askUnit(view.number);
-  view.page.replaceChildren(answer.ok ? el('pre', { class: 'page' }, answer.value) : nothing(answer));
+  view.page.replaceChildren(...(answer.ok
+    ? [el('pre', { class: 'page' }, answer.value), unitList(readPage(answer.value).units)] : [nothing(answer)]).filter(Boolean));
+}
+
+/** Units that the public sees, as links to their pages here. */
+function unitList(units) {
+  const shown = units.filter(({ number }) => number !== null);
+  return shown.length > 0 && el('ul', { class: 'lower' }, shown.map(({ number, rest }) =>
+    el('li', {}, link(`#/units/${number}`, headLine(rest)), ` (unit ${number})`)));
+}
+
+async function tops() {
+  const answer = await fonds();
+  return answer.ok ? [el('h2', {}, 'Top units that the public sees'), unitList(readFonds(answer.value)) || el('p', {}, 'None yet.')] : problem(answer);
 }
 
 function nothing(answer) {
