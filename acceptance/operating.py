@@ -110,13 +110,13 @@ class Shell:
         self.process.stdin.write(f"{text}printf '\\n%s\\n' {end}\n".encode())
         self.process.stdin.flush()
         said = b""
-        alarm = signal.alarm(LONGEST)
+        signal.alarm(LONGEST)
         while not said.endswith(f"\n{end}\n".encode()):
             piece = self.process.stdout.read1(65536)
             if not piece:
                 raise RuntimeError(f"the shell ended at: {text}")
             said += piece
-        signal.alarm(alarm)
+        signal.alarm(0)
         return said.decode(errors="replace").removesuffix(f"\n{end}\n").removesuffix("\n")
 
     def end(self):
@@ -189,7 +189,12 @@ def say_left_out(all_blocks, place):
             print(f"left out: {len(block.commands())} lines from line {block.start} on, {block.mark}")
 
 
+def too_long(*_):
+    raise TimeoutError(f"a line did not end within {LONGEST} s")
+
+
 def main():
+    signal.signal(signal.SIGALRM, too_long)
     words = argparse.ArgumentParser()
     words.add_argument("program", nargs="?", default=BUILT, type=pathlib.Path)
     words.add_argument("--place", choices=PLACES, default="here")
