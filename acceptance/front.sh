@@ -1,0 +1,44 @@
+#!/usr/bin/env bash
+# A reading room day and a reader's visit, played through the pages in a real browser, and the rules of the front.
+#   acceptance/front.sh [PROGRAM]
+# It starts the program and the front of front/server on free ports of 127.0.0.1, and ends them. It wants nginx and haproxy,
+# and for the pages chromium; it installs them from Debian's packages where it may, and says what it leaves out where they
+# cannot be had, which in CI is wrong. Pictures of the pages go to acceptance/front/out, which is not committed.
+# Its last line is `N passed, M failed`; it ends with 0 where all passed.
+set -euo pipefail
+here=$(cd "$(dirname "$0")" && pwd)
+program=$(realpath "${1:-$here/../crates/record_office/out/record_office}")
+export PATH=$PATH:/usr/sbin:/usr/local/sbin
+
+# has NAME [PACKAGE..]: whether there is such a program, or it can be installed
+has() {
+    command -v "$1" >/dev/null && return
+    local packages=("${@:2}")
+    if [ "$(id -u)" = 0 ] && command -v apt-get >/dev/null; then
+        timeout 120 apt-get update -q >/dev/null 2>&1 || true
+        DEBIAN_FRONTEND=noninteractive timeout 300 apt-get install -y -q --no-install-recommends "${packages[@]:-$1}" >/dev/null 2>&1 || true
+    fi
+    command -v "$1" >/dev/null
+}
+
+missing=()
+for name in python3 nginx haproxy; do
+    has "$name" || missing+=("$name")
+done
+if [ ${#missing[@]} -gt 0 ]; then
+    echo "left out everything: ${missing[*]} is not here and cannot be installed"
+    echo "0 passed, ${#missing[@]} failed"
+    exit 1
+fi
+parts=(pages rules restarts refusals)
+if ! has chromium chromium fonts-liberation; then
+    echo "left out the pages, their refusals and the page of another site: chromium is not here and cannot be installed"
+    if [ -n "${CI:-}" ]; then
+        echo "0 passed, 1 failed"
+        exit 1
+    fi
+    parts=(rules restarts)
+fi
+room=$(mktemp -d)
+trap 'rm -rf "$room"' EXIT
+python3 "$here/front/run.py" "$program" "$room/offices" "$here/front/out" "${parts[@]}"

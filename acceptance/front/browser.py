@@ -1,0 +1,211 @@
+"""A headless Chromium over its DevTools protocol, by a pipe: one JSON message after the other, each ended by a zero."""
+
+import base64
+import json
+import os
+import select
+import subprocess
+import time
+
+FLAGS = ["--headless=new", "--remote-debugging-pipe", "--no-sandbox", "--disable-gpu", "--hide-scrollbars", "--no-first-run",
+         "--disable-extensions", "--disable-background-networking", "--disable-component-update", "--disable-sync",
+         "--force-prefers-reduced-motion"]
+
+
+class Browser:
+    def __init__(self, profile, binary="chromium"):
+        out, self.write = os.pipe()
+        self.read, into = os.pipe()
+        shell = f'exec "$0" "$@" 3<&{out} 4>&{into}'
+        self.process = subprocess.Popen(["bash", "-c", shell, binary, *FLAGS, f"--user-data-dir={profile}", "about:blank"],
+                                        pass_fds=(out, into), stdout=subprocess.DEVNULL, stderr=subprocess.DEVNULL)
+        os.close(out)
+        os.close(into)
+        self.rest, self.last, self.events, self.answer = b"", 0, [], None
+
+    def call(self, method, session=None, **params):
+        self.last += 1
+        message = {"id": self.last, "method": method, "params": params, **({"sessionId": session} if session else {})}
+        os.write(self.write, json.dumps(message).encode() + b"\0")
+        return self._until(self.last, method)
+
+    def _until(self, number, method):
+        while True:
+            got = self._message()
+            if got.get("id") == number:
+                if "error" in got:
+                    raise RuntimeError(f"{method}: {got['error']}")
+                return got["result"]
+            if "method" in got:
+                self._event(got)
+
+    def _event(self, got):
+        self.events.append(got)
+        if got["method"] == "Fetch.requestPaused" and self.answer:
+            self.last += 1
+            status, body = self.answer
+            params = {"requestId": got["params"]["requestId"], "responseCode": status,
+                      "body": base64.b64encode(body).decode()}
+            os.write(self.write, json.dumps({"id": self.last, "method": "Fetch.fulfillRequest", "params": params,
+                                             "sessionId": got["sessionId"]}).encode() + b"\0")
+
+    def _message(self):
+        while b"\0" not in self.rest:
+            ready = select.select([self.read], [], [], 60)[0]
+            piece = os.read(self.read, 1 << 20) if ready else b""
+            if not piece:
+                raise RuntimeError("the browser is gone, or says nothing")
+            self.rest += piece
+        one, self.rest = self.rest.split(b"\0", 1)
+        return json.loads(one)
+
+    def page(self, headers=None):
+        target = self.call("Target.createTarget", url="about:blank")["targetId"]
+        session = self.call("Target.attachToTarget", targetId=target, flatten=True)["sessionId"]
+        return Page(self, session, headers)
+
+    def end(self):
+        try:
+            self.call("Browser.close")
+        except RuntimeError:
+            pass
+        self.process.wait(20)
+
+
+class Page:
+    def __init__(self, browser, session, headers):
+        self.browser, self.session = browser, session
+        for domain in ("Page", "Runtime", "Log", "Network"):
+            self.call(f"{domain}.enable")
+        if headers:
+            self.call("Network.setExtraHTTPHeaders", headers=headers)
+        self.size(1200, 850)
+
+    def call(self, method, **params):
+        return self.browser.call(method, self.session, **params)
+
+    def size(self, width, height, scale=1, mobile=False):
+        self.call("Emulation.setDeviceMetricsOverride", width=width, height=height, deviceScaleFactor=scale, mobile=mobile)
+
+    def js(self, code):
+        got = self.call("Runtime.evaluate", expression=code, awaitPromise=True, returnByValue=True)
+        if "exceptionDetails" in got:
+            raise RuntimeError(f"{code}: {got['exceptionDetails']['exception'].get('description')}")
+        return got["result"].get("value")
+
+    def wait(self, condition, seconds=10):
+        end = time.time() + seconds
+        while time.time() < end:
+            if self.js(f"Boolean({condition})"):
+                return
+            time.sleep(0.03)
+        raise AssertionError(f"not within {seconds} s: {condition}\n--- the page shows:\n{self.text()}")
+
+    def open(self, url, condition="document.querySelector('main h1')"):
+        self.call("Page.bringToFront")
+        self.call("Page.navigate", url="about:blank")
+        self.call("Page.navigate", url=url)
+        self.wait(f"document.readyState === 'complete' && {condition}")
+
+    def go(self, hash_, condition="true"):
+        """To another page of the same site, by its address alone."""
+        self.js(f"location.hash = {json.dumps(hash_)}")
+        self.wait(condition)
+
+    def quoted(self, text):
+        return json.dumps(text)
+
+    def text(self, selector="main"):
+        return self.js(f"document.querySelector({json.dumps(selector)})?.innerText ?? ''")
+
+    def see(self, words, selector="main", seconds=10):
+        quoted, place = json.dumps(words), json.dumps(selector)
+        self.wait(f"(document.querySelector({place})?.innerText ?? '').includes({quoted})", seconds)
+
+    def fill(self, label, value, card=None):
+        self.js(f"({FIND})({json.dumps(label)}, {json.dumps(card)}, (input) => {{ input.focus(); input.value = {json.dumps(value)}; }})")
+
+    def choose(self, label, card=None):
+        self.js(f"({FIND})({json.dumps(label)}, {json.dumps(card)}, (input) => input.click())")
+
+    def press(self, button, card=None):
+        self.js(f"({PRESS})({json.dumps(button)}, {json.dumps(card)})")
+
+    def press_starting(self, words):
+        self.js(f"[...document.querySelectorAll('summary, button, a')].find((one) => one.textContent.startsWith({json.dumps(words)})).click()")
+
+    def key_in(self, label, key, card=None):
+        self.js(f"({FIND})({json.dumps(label)}, {json.dumps(card)}, (input) => input.focus())")
+        self.key(key)
+
+    def scan(self, digits):
+        """What a barcode reader sends: digits one after the other, and Enter."""
+        self.digits(digits)
+        self.key("Enter")
+
+    def digits(self, digits):
+        for digit in digits:
+            for kind in ("keyDown", "keyUp"):
+                self.call("Input.dispatchKeyEvent", type=kind, key=digit, code=f"Digit{digit}", windowsVirtualKeyCode=ord(digit),
+                          **({"text": digit} if kind == "keyDown" else {}))
+
+    def key(self, key, repeat=False):
+        code = {"Enter": 13, "Tab": 9, "Escape": 27, " ": 32}[key]
+        text = {"text": "\r"} if key == "Enter" else {}
+        self.call("Input.dispatchKeyEvent", type="keyDown", key=key, code=key, windowsVirtualKeyCode=code, autoRepeat=repeat, **text)
+        self.call("Input.dispatchKeyEvent", type="keyUp", key=key, code=key, windowsVirtualKeyCode=code)
+
+    def type(self, text):
+        self.call("Input.insertText", text=text)
+
+    def focused(self):
+        return self.js("document.activeElement.innerText || document.activeElement.name || document.activeElement.tagName")
+
+    def file(self, path):
+        found = self.call("Runtime.evaluate", expression="document.querySelector('input[type=file]')")
+        self.call("DOM.setFileInputFiles", files=[str(path)], objectId=found["result"]["objectId"])
+
+    def shot(self, path, full=True):
+        time.sleep(0.1)
+        height = self.js("document.documentElement.scrollHeight")
+        width = self.js("innerWidth")
+        clip = {"clip": {"x": 0, "y": 0, "width": width, "height": height, "scale": 1}} if full else {}
+        got = self.call("Page.captureScreenshot", format="png", captureBeyondViewport=full, **clip)
+        path.write_bytes(base64.b64decode(got["data"]))
+
+    def pdf(self, path):
+        got = self.call("Page.printToPDF", preferCSSPageSize=True, paperWidth=8.27, paperHeight=11.69)
+        path.write_bytes(base64.b64decode(got["data"]))
+
+    def answer_with(self, pattern, status, body):
+        """The browser itself answers requests like `pattern`, or no more where it is None."""
+        self.browser.answer = (status, body)
+        if pattern:
+            self.call("Fetch.enable", patterns=[{"urlPattern": pattern}])
+        else:
+            self.call("Fetch.disable")
+
+    def complaints(self):
+        """What the browser said of the pages: blocked by their policy, scripts that failed, files that were not there."""
+        said = []
+        for event in self.browser.events:
+            if event.get("sessionId") != self.session:
+                continue
+            if event["method"] == "Log.entryAdded":
+                entry = event["params"]["entry"]
+                if entry["source"] != "network":
+                    said.append(entry["text"])
+            if event["method"] == "Runtime.exceptionThrown":
+                said.append(event["params"]["exceptionDetails"]["exception"].get("description", "exception"))
+        return said
+
+
+SCOPE = """const named = (card) => [...document.querySelectorAll('.card')].find((one) => one.querySelector('h2')?.innerText === card);
+  const scope = card === null ? document : card === 'dialog' ? document.querySelector('dialog') : named(card);"""
+FIND = """(label, card, act) => { %s
+  const found = [...scope.querySelectorAll('label')].find((one) => one.innerText === label);
+  if (!found) throw new Error('no label ' + label); act(document.getElementById(found.htmlFor)); }""" % SCOPE
+PRESS = """(button, card) => { %s
+  const words = (one) => one.textContent.replace(/\\s+/g, ' ').trim();
+  const found = [...scope.querySelectorAll('button, summary, a')].find((one) => words(one) === button);
+  if (!found) throw new Error('no button ' + button); found.click(); }""" % SCOPE

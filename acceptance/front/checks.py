@@ -1,0 +1,33 @@
+"""Counts what holds and what does not. A part that breaks off is one check that does not hold, and the others go on."""
+
+import time
+import traceback
+
+
+class Checks:
+    def __init__(self):
+        self.passed, self.wrong, self.began = 0, [], time.time()
+
+    def check(self, what, holds, seen=""):
+        if holds:
+            self.passed += 1
+        else:
+            self.wrong.append(what)
+            print(f"WRONG {what}: {seen}", flush=True)
+        return holds
+
+    def same(self, what, is_now, wanted):
+        return self.check(what, is_now == wanted, f"\n  is     {is_now!r}\n  wanted {wanted!r}")
+
+    def part(self, name, function, *values):
+        before, began = self.passed, time.time()
+        try:
+            function(*values)
+        except Exception as broken:  # noqa: BLE001 - whatever stops a part is told, and fails it
+            self.wrong.append(name)
+            print(f"WRONG {name} broke off: {broken}\n{''.join(traceback.format_tb(broken.__traceback__)[-3:])}", flush=True)
+        print(f"{name}: {self.passed - before} passed, {time.time() - began:.1f} s", flush=True)
+
+    def end(self):
+        print(f"{self.passed} passed, {len(self.wrong)} failed", flush=True)
+        return 0 if not self.wrong and self.passed else 1

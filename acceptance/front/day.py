@@ -1,0 +1,411 @@
+"""A day at the desk, played through the staff's pages."""
+
+import json
+import time
+
+import catalogue
+from catalogue import BAD_FILE, ODD
+
+FAR = "2030-12-31"
+
+
+class Day:
+    def __init__(self, checks, asks, page, visit, shot, folder):
+        self.checks, self.asks, self.page, self.visit, self.shot, self.folder = checks, asks, page, visit, shot, folder
+        self.site = asks.office.staff
+
+    def at(self, hash_):
+        self.page.open(f"{self.site}/#{hash_}")
+        return self.page
+
+    def play(self):
+        for part in (self.registers, self.finds, self.reader_orders, self.desk_orders, self.fetches, self.counter, self.waits,
+                     self.out, self.takes_back, self.permits, self.units, self.removes, self.next_day, self.keyboard, self.uncertain):
+            self.checks.part(f"day: {part.__name__}", part)
+
+    # The catalogue comes in
+
+    def imports(self):
+        self.takes_in("bad.csv", BAD_FILE, "old")
+        page = self.page
+        page.see("Row 3: the unit above (parentId) is neither in the office from this source nor in a row further up.")
+        self.checks.check("a bad file is refused by row and cause", "nothing of it was used" in page.text())
+        self.shot(page, "desk-import-refused")
+        archives = (catalogue_file("archives.csv")).read_text()
+        self.takes_in("archives.csv", archives, "archives")
+        page.see("archives.csv was taken in from the source archives.")
+        self.takes_in("dock.csv", "".join(catalogue.dock_company()), "catalogue")
+        page.see("dock.csv was taken in from the source catalogue.")
+        rows = str(len(ODD) + 10)
+        self.checks.same("the counts of an import", page.text(".outcome tbody").split("\t"), [rows, "0", "0", "0"])
+        self.checks.check("remarks in words", self.remarks(page), page.text(".outcome"))
+        self.checks.check("the warning about known units", "keeps its status, its place and its closure" in page.text())
+        self.takes_in("dock.csv", "".join(catalogue.dock_company()), "catalogue")
+        page.wait("document.querySelector('.outcome tbody')")
+        self.checks.same("the same file changes nothing", page.text(".outcome tbody").split("\t"), ["0", "0", rows, "0"])
+        self.shot(page, "desk-import")
+
+    def remarks(self, page):
+        said = page.js("[...document.querySelectorAll('.remarks li')].map((line) => line.textContent)")
+        return [line.split(": ", 1)[1][:20] for line in said] == ["its level of descrip", "it is a top unit and"]
+
+    def takes_in(self, name, text, source):
+        page = self.at("/import")
+        path = self.folder / name
+        path.write_text(text)
+        page.fill("Source", source)
+        page.file(path)
+        page.press("Take the file in")
+
+    # Readers
+
+    def registers(self):
+        page = self.at("/readers")
+        for name in ("Ann <b>Smith</b>", "Ben O'Neill", "Zo\u00eb \u0141ukasz", "\u202eneB"):
+            page.fill("Name", name, "Register a reader")
+            page.fill("Last day of the ticket", FAR, "Register a reader")
+            page.js("(() => { const form = [...document.querySelectorAll('.card')].at(-1).querySelector('form');"
+                    "form.requestSubmit(); form.requestSubmit(); })()")
+            page.see(f"Name typed: {name}", ".outcome")
+            time.sleep(0.65)
+        self.shot(page, "desk-readers")
+        self.checks.same("two presses register one reader", self.asks.get("/desk/readers/5", True)[0], 404)
+        self.checks.same("names as they were typed", [json.loads(self.asks.text(f"/desk/readers/{t}", True))["name"] for t in (1, 4)],
+                         ["Ann <b>Smith</b>", "\u202eneB"])
+
+    def finds(self):
+        page = self.at("/readers")
+        for who, found in (("zoe luk", ["Zo\u00eb \u0141ukasz"]), ("SMITH ann", ["Ann <b>Smith</b>"]), ("<b>", ["Ann <b>Smith</b>"]), ("nobody", [])):
+            if "luk" in who:
+                who = "zoe"
+            page.fill("Name or ticket number", who)
+            page.press("Find")
+            page.see(f"{len(found)} reader", ".told")
+            page.wait("!document.querySelector('.told').innerText.includes('…')")
+            self.checks.same(f"a reader is found by “{who}”", page.js("[...document.querySelectorAll('.find td a')].map((a) => a.textContent)"), found)
+        page.fill("Name or ticket number", "n")
+        page.press("Find")
+        page.see("3 readers with", ".told")
+        self.shot(page, "desk-readers-found")
+        page.fill("Name or ticket number", "2")
+        page.press("Find")
+        page.wait("location.hash === '#/readers/2'")
+        page.see("Ben O'Neill")
+        self.checks.check("a ticket number opens the card", True)
+
+    # Orders and runs
+
+    def reader_orders(self):
+        self.visit.orders(1)
+
+    def container(self, name):
+        """The number of a container by its name in the finding aids."""
+        for top in self.asks.text("/public/fonds").splitlines():
+            for line in self.asks.text(f"/public/aid/{top.split(' ', 1)[0]}").splitlines():
+                line = line.strip(" ")
+                if line.startswith("Container ") and line.endswith(f": {name}"):
+                    return line.split(" ")[1].rstrip(":")
+        raise AssertionError(f"no container {name}")
+
+    def desk_orders(self):
+        page = self.at("/orders")
+        roll, odd = self.container("Roll 7"), self.container(ODD["markup"])
+        for ticket, container, order in (("2", roll, 3), ("3", odd, 4)):
+            page.fill("Ticket", ticket, "Place an order")
+            page.fill("Container", container, "Place an order")
+            page.press("Order", "Place an order")
+            page.see(f"Order {order}:", ".outcome")
+            time.sleep(0.65)
+        self.checks.check("orders are placed at the desk", True)
+        page.fill("Order", "3", "Cancel an order")
+        page.press("Cancel the order", "Cancel an order")
+        page.see("Order 3 is cancelled.")
+        self.shot(page, "desk-orders")
+
+    def fetches(self):
+        page = self.at("/runs")
+        page.press("Begin a run")
+        page.wait("location.hash === '#/runs/1'")
+        page.wait("document.querySelector('.slip')")
+        slip = self.asks.text("/desk/runs/1", True)
+        self.checks.same("the slip to the letter", page.js("document.querySelector('.slip').textContent"), slip)
+        self.checks.check("an odd location stands on it as it is", ODD["markup"] in slip)
+        page.see("Ann <b>Smith</b>, ticket 1")
+        self.checks.check("the print button has the focus", page.focused() == "Print the slip", page.focused())
+        page.press("Look for reference codes")
+        page.see("A reference code was found for every container.")
+        self.checks.check("reference codes beside the slip", "GB 0999 HUL/1\n" in page.text(".beside"), page.text(".beside"))
+        self.shot(page, "desk-slip")
+        self.shot(page, "desk-slip-printed", printed=True)
+        page = self.at("/runs")
+        page.see("run 1")
+        page.press("Begin a run")
+        page.see("There is nothing to fetch")
+        self.shot(page, "desk-runs")
+        self.checks.check("a run with nothing to fetch is explained", True)
+
+    # The counter, by keyboard and barcode reader alone
+
+    def counter(self):
+        box = self.container("Box 1")
+        page = self.at("/counter")
+        self.checks.same("the ticket has the focus", page.focused(), "ticket")
+        page.scan("0001")
+        page.wait("document.activeElement.name === 'container'")
+        page.see("no seat yet", ".about")
+        page.see("Ready at the desk: Box 1", ".about")
+        self.checks.check("a ticket tells the reader's name", "Ann <b>Smith</b>" in page.text(".about"))
+        self.shot(page, "desk-counter", full=False)
+        page.scan(box)
+        page.see("The reader has no seat. Give the reader a seat first.")
+        page.wait("document.activeElement.innerText === 'Give ticket 1 a seat and issue'")
+        self.shot(page, "desk-counter-refused", full=False)
+        page.scan("0003")
+        self.checks.same("a number that is scanned while a button has the focus goes to the field", page.js(
+            "[document.querySelector('form.command input[name=ticket]').value, document.activeElement.name]"), ["0003", "container"])
+        self.checks.same("and nothing was pressed", json.loads(self.asks.text("/desk/readers/1", True))["seat"], None)
+        page.fill("Ticket", "1", "Issue")
+        page.key_in("Container", "Enter", "Issue")
+        page.wait("document.activeElement.innerText === 'Give ticket 1 a seat and issue'")
+        page.key("Enter", repeat=True)
+        page.key("Enter")
+        page.see("Issued: Box 1, container")
+        page.wait("document.activeElement.name === 'ticket'")
+        self.checks.same("issued by keys alone", json.loads(self.asks.text("/desk/issued", True)), [{"container": int(box), "order": 1, "ticket": 1}])
+        self.checks.same("both fields are empty again", page.js("[...document.querySelector('form.command').querySelectorAll('input')].map((one) => one.value)"), ["", ""])
+        self.shot(page, "desk-counter-issued", full=False)
+        page.scan("2")
+        page.wait("document.activeElement.name === 'container'")
+        page.scan(box)
+        page.see("The container is not at the desk")
+        self.checks.same("the field that is wrong has the focus", page.focused(), "container")
+
+    def waits(self):
+        page = self.at("/orders")
+        page.see("2 orders wait.")
+        page.see("out with another reader")
+        page.see("Ben O'Neill, ticket 2")
+        self.checks.check("what waits is gathered from the cards", "at the desk, ready for this reader" in page.text())
+        self.shot(page, "desk-waiting")
+        page = self.at(f"/counter/{self.container('Box 1')}")
+        page.see("It is out with Ann <b>Smith</b>, ticket 1")
+        self.shot(page, "desk-container")
+
+    def out(self):
+        page = self.at("/out")
+        page.see("Box 1, container")
+        self.shot(page, "desk-out")
+        page = self.at("/")
+        page.see("1 container is out.")
+        page.fill("The new day", "2024-03-02")
+        self.opens(page, "2024-03-02")
+        page.see("A container is still out with a reader.")
+        self.checks.check("a new day is refused while something is out", True)
+        page = self.at("/counter")
+        page.fill("Ticket", "1", "A reader leaves")
+        page.press("Free the seat")
+        page.see("The reader still has containers.")
+        self.checks.check("a reader who has containers keeps the seat", True)
+
+    def takes_back(self):
+        """One after the other by scanning alone; nothing that is held down or scanned twice does harm."""
+        box = self.container("Box 1")
+        page = self.at("/counter")
+        page.js("[...document.querySelectorAll('.card')][1].querySelector('input').focus()")
+        page.scan(box)
+        page.see("Keep it at the desk for Ben O'Neill, ticket 2.", ".back")
+        page.wait("document.activeElement.name === 'container'")
+        page.scan("999")
+        page.see("There is no container with this number.")
+        page.scan(box)
+        page.see("The container is not out with a reader.")
+        self.checks.check("containers come back by scanning alone", True)
+        self.shot(page, "desk-counter-back", full=False)
+        page = self.at("/readers/2")
+        page.press("Cancel order 2")
+        page.see("Order 2 is cancelled.")
+        page = self.at("/out")
+        page.press("Reshelve")
+        page.see("Take these back to their shelves:")
+        page.see("Box 1, container", ".outcome")
+        self.shot(page, "desk-reshelve")
+        self.shot(page, "desk-reshelve-printed", printed=True)
+        self.checks.check("reshelving names what goes back", True)
+
+    # Units and permits
+
+    def unit(self, title):
+        line = next(line for line in self.asks.text("/public/fonds").splitlines() if line.endswith("Hull Dock Company") and "HUL" in line)
+        return int(line.split(" ", 1)[0]) + {"fonds": 0, "minutes": 1, "plans": 2, "letters": 3, "board": 4}[title]
+
+    def permits(self):
+        minutes, box = str(self.unit("minutes")), self.container("Box 1")
+        page = self.at(f"/units/{minutes}")
+        page.fill("Closed until", "2030-01-01", "Closure")
+        page.press("Set the closure", "Closure")
+        page.see("Closed until 2030-01-01.")
+        closed = self.asks.text(f"/public/units/{minutes}")
+        self.checks.same("what the public sees is shown anew, to the letter", page.js("document.querySelector('pre.page').textContent"), closed)
+        hall = self.visit.at(f"/unit/{minutes}")
+        hall.see("closed until 2030-01-01", "h1")
+        hall.see("A closed unit can be seen from the day on that is named here.")
+        self.shot(hall, "reader-closed")
+        page = self.at("/readers/1")
+        page.fill("Container", box, "Order a container")
+        page.press("Order", "Order a container")
+        page.see("The container is not open to this reader today")
+        page = self.at(f"/units/{minutes}")
+        page.fill("Ticket", "1", "Permits")
+        page.fill("Last day of the permit", "2024-06-30", "Permits")
+        page.press("Give a permit", "Permits")
+        page.see("Permit for Ann <b>Smith</b>, ticket 1 until 2024-06-30.")
+        page.press("Who has a permit for it?")
+        page.see("1 permit.")
+        self.shot(page, "desk-unit")
+        page = self.at("/readers/1")
+        page.fill("Container", box, "Order a container")
+        page.press("Order", "Order a container")
+        page.see("Order 5 for Box 1")
+        self.checks.check("a permit opens a closed unit to its reader", True)
+        self.shot(page, "desk-card")
+        page.press("Cancel order 5")
+        page.see("Order 5 is cancelled.")
+        page.press(f"Take away the permit for unit {minutes}")
+        page.see(f"The permit for unit {minutes} is taken away.")
+        page.fill("New last day", "2031-01-01", "Renew")
+        page.press("Renew", "Renew")
+        page.see("Good until 2031-01-01.")
+        self.checks.check("a ticket is renewed", "Ticket good until 2031-01-01." in page.text())
+
+    def units(self):
+        letters, minutes, fonds = (str(self.unit(name)) for name in ("letters", "minutes", "fonds"))
+        self.asks.done("/desk/closure", unit=int(minutes), until=None)
+        page = self.at(f"/units/{letters}")
+        page.see("Nothing: it is a draft")
+        page.choose("Published", "Status")
+        page.press("Set the status", "Status")
+        page.see("1 unit was set to published.")
+        page.fill("Below which unit", minutes, "Move")
+        page.press("Move", "Move")
+        page.see(f"It is now the last below unit {minutes}.")
+        self.checks.check("it stands there for the public", "Letters of the secretary" in self.asks.text(f"/public/units/{minutes}"))
+        page = self.at(f"/units/{fonds}")
+        page.fill("Below which unit", minutes, "Move")
+        page.press("Move", "Move")
+        page.see("A unit cannot be put below itself or below one of its own lower units.")
+
+    def removes(self):
+        minutes = str(self.unit("minutes"))
+        page = self.at(f"/units/{minutes}")
+        page.press("Remove …", "Remove")
+        page.see("GB 0999 HUL/1 [Series] Minutes", "dialog")
+        page.see("The public sees 2 units there:", "dialog")
+        self.checks.check("the removal says what goes", "Board, first volume" in page.text("dialog"))
+        self.checks.same("keeping is the default", page.focused(), "Keep it")
+        self.shot(page, "desk-remove", full=False)
+        page.key("Escape")
+        page.see("Nothing was removed.")
+        time.sleep(0.65)
+        page.press("Remove …", "Remove")
+        page.see("for good?", "dialog")
+        page.press(f"Remove unit {minutes}", "dialog")
+        page.see(f"Unit {minutes} is removed: 3 units in all.")
+        self.checks.same("it is gone", self.asks.get(f"/public/units/{minutes}")[0], 404)
+
+    def next_day(self):
+        page = self.at("/")
+        self.checks.check("the clock's date is suggested", page.js("/^\\d{4}-\\d\\d-\\d\\d$/.test(document.querySelector('input[type=date]').value)"))
+        page.fill("The new day", "2024-03-02")
+        page.press("Open the day")
+        page.see("A day that has been opened cannot be taken back", "dialog")
+        self.shot(page, "desk-day", full=False)
+        page.press("Open no day", "dialog")
+        page.see("No day was opened.")
+        time.sleep(0.65)
+        self.opens(page, "2024-03-02")
+        page.see("2024-03-02 is open.")
+        self.checks.same("no other day is offered then", page.js("document.querySelector('input[type=date]').value"), "")
+        page.see("The day opened last in this browser is 2024-03-02.")
+        self.shot(page, "desk-today")
+
+    def keyboard(self):
+        """From the top of the page by Tab, letters and Enter alone: a reader's card is opened, and its ticket renewed."""
+        page = self.at("/")
+        self.visit.tab_to(page, "Readers")
+        page.key("Enter")
+        page.wait("document.activeElement.name === 'who'")
+        page.type("zoe")
+        page.key("Enter")
+        page.see("1 reader with", ".told")
+        self.visit.tab_to(page, "Zo\u00eb")
+        page.key("Enter")
+        page.wait("location.hash === '#/readers/3' && document.activeElement.tagName === 'H1'")
+        for _ in range(40):
+            page.key("Tab")
+            if page.js("document.activeElement.name === 'until'"):
+                break
+        page.digits("12312032")
+        page.key("Enter")
+        page.see("Ticket good until 2032-12-31.")
+        self.checks.same("a ticket is renewed by keys alone", json.loads(self.asks.text("/desk/readers/3", True))["until"], "2032-12-31")
+
+    def opens(self, page, day):
+        page.press("Open the day")
+        page.see("A day that has been opened cannot be taken back", "dialog")
+        page.press(f"Open {day}", "dialog")
+
+    # When nobody knows whether it was done
+
+    def uncertain(self):
+        for status, body in ((503, b'{"error":"busy"}'), (502, b'{"error":"not answered"}'), (504, b"")):
+            self.held(status, body)
+        self.unsent()
+
+    def held(self, status, body):
+        """The form is shut until somebody has looked, also after another page and after loading it again."""
+        page = self.at("/readers")
+        page.answer_with("*/desk/register", status, body)
+        self.types_a_name("Cid")
+        page.see("The office did not say whether it was done. Look before you repeat it.")
+        page.answer_with(None, 0, b"")
+        self.checks.same(f"after {status} looking has the focus", page.focused(), "Look now")
+        for way in ("at once", "after another page", "after loading again"):
+            if way == "after another page":
+                page.go("#/orders")
+                page.see("Place an order")
+                page.go("#/readers")
+            if way == "after loading again":
+                page = self.at("/readers")
+            page.see("Look before you repeat it.")
+            time.sleep(0.65)
+            page.js("[...document.querySelectorAll('.card')].at(-1).querySelector('form').requestSubmit()")
+            self.checks.same(f"after {status} the form is shut {way}", self.asks.get("/desk/readers/5", True)[0], 404)
+        page.press("Look now")
+        page.see("The newest tickets:")
+        page.see("Ben O'Neill, ticket 2, good until")
+        self.shot(page, "desk-held") if status == 503 else None
+        page.press("It was done" if status == 504 else "It was not done: open the form")
+        self.checks.check(f"after {status} it opens when somebody has looked", "Look before you repeat it" not in page.text())
+        kept = page.js("[...document.querySelectorAll('.card')].at(-1).querySelector('input').value")
+        self.checks.same(f"after {status} what was typed", kept, "" if status == 504 else "Cid")
+
+    def types_a_name(self, name):
+        self.page.fill("Name", name, "Register a reader")
+        self.page.fill("Last day of the ticket", FAR, "Register a reader")
+        self.page.press("Register", "Register a reader")
+
+    def unsent(self):
+        page = self.at("/readers")
+        page.answer_with("*/desk/register", 503, b'{"error":"not reached"}')
+        self.types_a_name("Cid")
+        page.see("Your request was not passed on, and nothing was changed.")
+        page.answer_with(None, 0, b"")
+        time.sleep(0.65)
+        page.press("Register", "Register a reader")
+        page.see("Name typed: Cid", ".outcome")
+        self.checks.same("what was not passed on may be sent again, once", self.asks.get("/desk/readers/6", True)[0], 404)
+
+
+def catalogue_file(name):
+    from office import TOP
+    return TOP / "examples" / name

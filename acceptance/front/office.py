@@ -1,0 +1,224 @@
+"""Starts the program and the front before it in a folder of their own, on free ports of 127.0.0.1, and ends them.
+
+    with Office(folder, program) as office:
+        urllib.request.urlopen(office.public + "/public/fonds")
+
+The configuration is that of front/server, as it stands there: in the copy that is run, names, ports and folders are ours,
+and nothing else is changed. Each port that the files name gets a free one (`office.ports["8080"]`).
+"""
+
+import base64
+import contextlib
+import hashlib
+import os
+import pathlib
+import pwd
+import re
+import shutil
+import signal
+import socket
+import subprocess
+import sys
+import threading
+import time
+import urllib.error
+import urllib.request
+
+TOP = pathlib.Path(__file__).resolve().parents[2]
+FRONT = TOP / "front"
+PASSWORD = ("desk", "quiet-paper")
+SIGNED_IN = {"Authorization": "Basic " + base64.b64encode(":".join(PASSWORD).encode()).decode()}
+SETTINGS = ("--country", "GB", "--repo", "0999", "--seats", "12", "--daily", "8", "--hands", "2", "--run", "20",
+            "--day", "2024-03-01")
+DESK_NAME = "desk.example.org"
+
+# What stands around the configuration of ours in a system's nginx.
+NGINX = """daemon off; pid nginx.pid; error_log nginx.log warn; user {user}; worker_processes 1;
+events {{ worker_connections 1000; }}
+http {{ include {mime}; access_log off; client_body_temp_path tmp/body; proxy_temp_path tmp/proxy;
+fastcgi_temp_path tmp/fastcgi; uwsgi_temp_path tmp/uwsgi; scgi_temp_path tmp/scgi;
+include office.conf; }}
+"""
+
+
+def free_ports(many, first=20000, last=20999):
+    """So many ports of 127.0.0.1 that nobody listens on."""
+    found = []
+    for port in range(first, last + 1):
+        with socket.socket() as probe, contextlib.suppress(OSError):
+            probe.setsockopt(socket.SOL_SOCKET, socket.SO_REUSEADDR, 1)
+            probe.bind(("127.0.0.1", port))
+            found.append(port)
+            if len(found) == many:
+                return found
+    raise RuntimeError(f"no {many} ports are free from {first} to {last}")
+
+
+class Office:
+    """settings: the words of `init`; connections: after how many the program ends, and is begun again; first, last: where
+    ports are looked for; preload: a library that is loaded with the program; changes: pairs of texts that are replaced in
+    the configuration besides."""
+
+    def __init__(self, folder, program, settings=SETTINGS, connections=10000, first=20000, last=20999, preload=None, changes=()):
+        self.folder = pathlib.Path(folder).resolve()
+        self.program = pathlib.Path(program).resolve()
+        self.settings, self.connections, self.preload, self.changes = settings, connections, preload, changes
+        (self.folder / "tmp").mkdir(parents=True, exist_ok=True)
+        self.store = self.folder / "office.db"
+        self.sources = [path for path in sorted((FRONT / "server").iterdir()) if path.is_file()]
+        named = sorted(set(port for path in self.sources for port in ports_of(path.read_bytes().decode())))
+        self.ports = dict(zip(named, free_ports(len(named), first, last)))
+        self.running, self.starts, self.processes, self.serving = False, 0, [], None
+        self.waiting = threading.Event()
+        self.waiting.set()
+
+    @property
+    def public(self):
+        return f"http://127.0.0.1:{self.ports['8080']}"
+
+    @property
+    def staff(self):
+        return f"http://127.0.0.1:{self.ports['8081']}"
+
+    @property
+    def direct(self):
+        """The program itself, without its front. It has one connection at a time."""
+        return f"http://127.0.0.1:{self.ports['8090']}"
+
+    def init(self):
+        subprocess.run([self.program, "init", "--store", self.store, *self.settings], check=True)
+        return self
+
+    def take_in(self, source, path):
+        done = subprocess.run([self.program, "import", "--store", self.store, "--source", source, path], check=True,
+                              capture_output=True, text=True)
+        return done.stdout
+
+    def begin(self):
+        self.configure()
+        self.running = True
+        self.keeper = threading.Thread(target=self._keep, daemon=True)
+        self.keeper.start()
+        self._run("haproxy", "-f", "haproxy.cfg")
+        self._run("nginx", "-p", str(self.folder), "-c", str(self.folder / "main.conf"))
+        self.wait_for(self.public + "/public/fonds")
+        return self
+
+    def wait_for(self, url, seconds=90):
+        last = None
+        for _ in range(seconds * 10):
+            try:
+                return urllib.request.urlopen(url, timeout=seconds).read()
+            except (OSError, urllib.error.HTTPError) as lost:
+                last = lost
+            time.sleep(0.1)
+        raise RuntimeError(f"the front does not answer: {last}; see {self.folder}")
+
+    def end(self):
+        self.running = False
+        self.waiting.set()
+        for process in self.processes:
+            process.terminate()
+        if self.serving:
+            self.serving.kill()
+        for process in [*self.processes, *([self.serving] if self.serving else [])]:
+            process.wait(20)
+
+    def __enter__(self):
+        return self if self.running else self.begin()
+
+    def __exit__(self, *_):
+        self.end()
+
+    def kill_program(self):
+        """kill -9; the program is begun again at once."""
+        self.serving.kill()
+
+    @contextlib.contextmanager
+    def without_program(self):
+        """Within it the program is not there, and its port is closed."""
+        self.waiting.clear()
+        self.serving.kill()
+        self.serving.wait(20)
+        try:
+            yield
+        finally:
+            self.waiting.set()
+
+    def _run(self, *words):
+        log = open(self.folder / f"{words[0]}.told", "w")
+        path = os.environ["PATH"] + ":/usr/sbin:/usr/local/sbin"
+        self.processes.append(subprocess.Popen(words, cwd=self.folder, stdout=log, stderr=log, env={**os.environ, "PATH": path}))
+
+    def _keep(self):
+        """Begins the program again whenever it ends, as a service manager does."""
+        env = {**os.environ, **({"LD_PRELOAD": str(self.preload)} if self.preload else {})}
+        words = [self.program, "serve", "--store", self.store, "--port", str(self.ports["8090"]), "--connections", str(self.connections)]
+        while self.running:
+            self.waiting.wait()
+            if not self.running:
+                return
+            began = time.time()
+            with open(self.folder / "program.told", "a") as log:
+                self.serving = subprocess.Popen(words, env=env, stdout=log, stderr=log)
+            self.starts += 1
+            self.serving.wait()
+            time.sleep(0 if time.time() - began > 0.5 else 0.2)
+
+    def configure(self):
+        for path in self.sources:
+            name = "office.conf" if path.name == "nginx.conf" else path.name
+            (self.folder / name).write_bytes(self.ours(path.read_bytes().decode()).encode())
+        user = pwd.getpwuid(os.getuid()).pw_name
+        (self.folder / "main.conf").write_text(NGINX.format(user=user, mime=mime_types()))
+        name, password = PASSWORD
+        digest = base64.b64encode(hashlib.sha1(password.encode()).digest()).decode()
+        (self.folder / "staff").write_text(f"{name}:{{SHA}}{digest}\n")
+
+    def ours(self, text):
+        """A file of the configuration with our ports, names and folders."""
+        text = re.sub(PORT, lambda found: f"{found[1]}{self.ports[found[2]]}", text)
+        text = re.sub(LISTEN, lambda found: f"listen 127.0.0.1:{self.ports[found[1]]}", text)
+        text = text.replace(DESK_NAME, "127.0.0.1")
+        for theirs, our in (("/usr/share/record-office/front", FRONT), ("/etc/record-office", self.folder), ("/run/record-office", self.folder)):
+            text = text.replace(theirs, str(our))
+        for old, new in self.changes:
+            text = text.replace(old, new)
+        return text
+
+
+PORT = r"((?:127\.0\.0\.1|localhost|\[::1\]|\*|" + re.escape(DESK_NAME) + r"):)(\d{4,5})\b"
+
+LISTEN = r"\blisten (\d{4,5})\b"
+
+
+def ports_of(text):
+    return [found[1] for found in re.findall(PORT, text)] + re.findall(LISTEN, text)
+
+
+def mime_types():
+    for path in ("/etc/nginx/mime.types", "/usr/local/nginx/conf/mime.types"):
+        if os.path.exists(path):
+            return path
+    raise RuntimeError("nginx's mime.types is not there")
+
+
+def fresh(folder):
+    shutil.rmtree(folder, ignore_errors=True)
+    return folder
+
+
+def main(program, folder, *files):
+    """An office to look at, until Ctrl-C: office.py PROGRAM FOLDER [FILE..]"""
+    signal.signal(signal.SIGTERM, lambda *_: sys.exit(143))  # so that what was started is ended
+    office = Office(fresh(folder), program).init()
+    for path in files:
+        print(office.take_in("catalogue", path), end="")
+    with office, contextlib.suppress(KeyboardInterrupt):
+        print(f"readers {office.public}\nstaff   {office.staff}, name {PASSWORD[0]}, password {PASSWORD[1]}\nCtrl-C ends it", flush=True)
+        while True:
+            time.sleep(60)
+
+
+if __name__ == "__main__":
+    main(*sys.argv[1:])

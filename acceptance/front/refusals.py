@@ -1,0 +1,145 @@
+"""Every refusal of the program's own list has its words; all that can be reached are met through the pages.
+
+The office of this part has 2 seats, 3 orders a ticket and day, one container in hand, and runs of two."""
+
+import re
+
+import catalogue
+from office import TOP
+
+SETTINGS = ("--country", "GB", "--repo", "0999", "--seats", "2", "--daily", "3", "--hands", "1", "--run", "2", "--day", "2024-03-01")
+UNREACHED = {26}  # the program answers an unknown run with 404, which has words of its own
+
+
+def listed():
+    """The refusals of docs/RULES.md, by number."""
+    line = next(line for line in (TOP / "docs/RULES.md").read_text().splitlines() if line.startswith("**Refusals.**"))
+    return {int(number): name for number, name in re.findall(r"\b(\d+) ([A-Z][A-Za-z]+)", line.split(":", 1)[1])}
+
+
+class Refusals:
+    def __init__(self, checks, asks, page, folder):
+        self.checks, self.asks, self.page, self.folder = checks, asks, page, folder
+        self.site = asks.office.staff
+        self.met = set()
+
+    def play(self):
+        for part in (self.words, self.readers_words, self.settle, self.tickets, self.seats, self.orders, self.counter, self.catalogue, self.rest):
+            self.checks.part(f"refusals: {part.__name__}", part)
+        self.checks.same("refusals that were met through the pages", sorted(set(listed()) - self.met), sorted(UNREACHED))
+
+    def words(self):
+        """The module of texts has all of the program's list, no other, and two sentences for each."""
+        self.names = listed()
+        self.page.open(f"{self.site}/#/")
+        module = "import('/shared/refusals.js')"
+        table = self.page.js(module + ".then((told) => told.DESK)")
+        self.checks.same("the program's list has 28", sorted(self.names), list(range(1, 29)))
+        self.checks.same("each has its words", sorted(int(number) for number in table), sorted(self.names))
+        for number, (means, todo) in table.items():
+            whole = all(re.fullmatch(r"[A-Z“].*[.]", text, re.S) for text in (means, todo))
+            self.checks.check(f"{number} {self.names[int(number)]} says what it means and what to do", whole, (means, todo))
+        self.checks.same("no two say the same", len({means for means, _ in table.values()}), 28)
+        causes = self.page.js(module + ".then((told) => Object.keys(told.CAUSES))")
+        self.checks.same("each cause of a bad file has its words", [int(one) for one in causes], list(range(1, 13)))
+
+    def readers_words(self):
+        """A reader is never shown a number of the house, whatever the refusal is."""
+        told = self.page.js("import('/shared/refusals.js').then((told) => Array.from({length: 30}, (_, code) =>"
+                            " told.readerWords({ok: false, kind: 'refused', code, refused: 'X'}).join(' ')))")
+        self.checks.check("readers are told in words alone", all(re.fullmatch(r"[A-Z][^0-9{}]+\.", text) for text in told), told)
+
+    def meets(self, code, hash_, card, fields, button, more=""):
+        """Fills in a form, presses its button, and sees the words of the module for this number."""
+        self.page.open(f"{self.site}/#{hash_}")
+        for label, value in fields.items():
+            if value is True:
+                self.page.choose(label, card)
+            else:
+                self.page.fill(label, value, card)
+        self.page.press(button, card)
+        if button == "Open the day":
+            self.page.see("cannot be taken back", "dialog")
+            self.page.press(f"Open {fields['The new day']}", "dialog")
+        self.sees(code, more)
+
+    def sees(self, code, more=""):
+        self.page.wait("document.querySelector('.note.refused strong')")
+        means, todo = self.page.js(f"import('/shared/refusals.js').then((told) => told.DESK[{code}])")
+        seen = " ".join(self.page.text(".note.refused").split())
+        if more:
+            means, todo = more
+        if self.checks.check(f"{code} {self.names[code]} is told at the desk", means in seen and todo in seen, seen):
+            self.met.add(code)
+
+    def settle(self):
+        for name, rows in (("boxes", catalogue.many(105)), ("deep", catalogue.deep(64))):
+            (self.folder / f"{name}.csv").write_text("".join(rows))
+            status, body = self.asks.call("POST", f"/desk/import/{name}", (self.folder / f"{name}.csv").read_bytes(), True)
+            self.checks.check(f"{name} are taken in", status == 200, body)
+        for name, until in (("Ann", "2030-01-01"), ("Ben", "2030-01-01"), ("Cid", "2030-01-01"), ("Old", "2024-02-01")):
+            self.asks.done("/desk/register", name=name, until=until)
+
+    def tickets(self):
+        self.meets(2, "/counter", "A reader arrives", {"Ticket": "99"}, "Give a seat")
+        self.meets(4, "/counter", "A reader arrives", {"Ticket": "4"}, "Give a seat")
+        self.meets(27, "/readers", "Register a reader", {"Name": "   ", "Last day of the ticket": "2030-01-01"}, "Register")
+        self.page.open(f"{self.site}/#/runs/99")
+        self.page.see("There is nothing with this number.")
+
+    def seats(self):
+        for ticket in (1, 2):
+            self.asks.done("/desk/seat", ticket=ticket)
+        self.meets(9, "/readers/1", "Seat", {}, "Give a seat")
+        self.meets(8, "/readers/3", "Seat", {}, "Give a seat")
+        self.meets(10, "/readers/3", "Seat", {}, "Free the seat")
+
+    def orders(self):
+        self.meets(5, "/orders", "Place an order", {"Ticket": "1", "Container": "999"}, "Order")
+        first = self.asks.done("/public/orders", ticket=1, container=1)["order"]
+        self.meets(6, "/orders", "Place an order", {"Ticket": "1", "Container": "1"}, "Order")
+        for container in (2, 3):
+            self.asks.done("/public/orders", ticket=1, container=container)
+        self.meets(7, "/orders", "Place an order", {"Ticket": "1", "Container": "4"}, "Order")
+        self.meets(12, "/orders", "Cancel an order", {"Order": "999"}, "Cancel the order")
+        self.asks.done("/desk/cancel", order=first + 2)
+        self.meets(13, "/orders", "Cancel an order", {"Order": str(first + 2)}, "Cancel the order")
+        self.asks.done("/public/orders", ticket=2, container=1)
+
+    def counter(self):
+        self.meets(3, "/counter", "Take back", {"Container": "999"}, "Take back")
+        self.meets(14, "/counter", "Issue", {"Ticket": "1", "Container": "1"}, "Issue")
+        self.asks.done("/desk/run")
+        self.meets(15, "/counter", "Issue", {"Ticket": "2", "Container": "1"}, "Issue")
+        self.asks.done("/desk/issue", ticket=1, container=1)
+        self.meets(16, "/counter", "Issue", {"Ticket": "1", "Container": "2"}, "Issue")
+        self.meets(17, "/counter", "Take back", {"Container": "2"}, "Take back")
+        self.meets(11, "/counter", "A reader leaves", {"Ticket": "1"}, "Free the seat")
+        self.meets(19, "/", "Open a new day", {"The new day": "2024-03-05"}, "Open the day")
+        self.meets(21, "/units/1", "Closure", {"Closed until": "2030-01-01"}, "Set the closure",
+                   ("A reader has a container in hand that this would close to that reader. It is container 1.", "Take the container back first"))
+
+    def catalogue(self):
+        self.meets(1, "/units/9999", "Status", {"Published": True}, "Set the status")
+        self.meets(20, "/units/106", "Move", {"Below which unit": "107"}, "Move")
+        self.meets(25, "/units/1", "Move", {"Below which unit": "169"}, "Move")
+        self.page.open(f"{self.site}/#/import")
+        (self.folder / "bad.csv").write_text(catalogue.BAD_FILE)
+        self.page.file(self.folder / "bad.csv")
+        self.page.press("Take the file in")
+        self.sees(22, ("The file was not taken in, and nothing of it was used. Row 3:", "Correct the file at this place"))
+
+    def rest(self):
+        self.meets(18, "/", "Open a new day", {"The new day": "2024-03-01"}, "Open the day")
+        self.asks.done("/desk/return", container=1)
+        for unit in range(1, 101):
+            self.asks.done("/desk/permit", ticket=3, unit=unit, until="2030-01-01")
+        self.meets(23, "/readers/3", "Give a permit", {"Unit": "101", "Last day of the permit": "2030-01-01"}, "Give a permit",
+                   ("The reader has 100 permits", "Take a permit away on the reader’s card first."))
+        self.page.open(f"{self.site}/#/readers/3")
+        self.asks.done("/desk/revoke", ticket=3, unit=100)
+        self.page.press("Take away the permit for unit 100")
+        self.sees(28)
+        self.page.open(f"{self.site}/#/runs")
+        self.page.press("Begin a run")
+        self.sees(24, ("There is nothing to fetch", "There is nothing to do now."))

@@ -1,0 +1,131 @@
+"""The front's rules, asked by sockets: what readers reach, and what the desk's listener turns away."""
+
+import base64
+import json
+import socket
+import threading
+from http.server import BaseHTTPRequestHandler, ThreadingHTTPServer
+
+from office import PASSWORD, SIGNED_IN
+
+# Ways to write the path of a desk route that a careless server might pass on.
+ODD_PATHS = [form.format(way) for way in ("desk/issued", "desk/run", "desk/register") for form in (
+    "/{}", "//{}", "/./{}", "/public/../{}", "/public/..%2f{}", "/public/..%2F{}", "/public/%2e%2e/{}", "/public/%2e%2e%2f{}",
+    "/public/..;/{}", "/public/.%2e/{}", "/public/units/../../{}", "/public/units/..%2f..%2f{}", "/public/aid/1/../../../{}",
+    "/public\\..\\{}", "/public/%5c..%5c{}", "/%2f{}", "/shared/../{}", "http://x/{}")] + [
+    "/%64esk/issued", "/DESK/issued", "/desk%2fissued", "/desk/issued%00", "/desk/issued?x=/public/fonds", "/public/units/1/..%2f..%2f..%2fdesk/issued"]
+
+
+def raw(port, text, body=b""):
+    with socket.create_connection(("127.0.0.1", port), 20) as it:
+        it.sendall(text.encode("latin-1") + body)
+        got = b""
+        while piece := it.recv(65536):
+            got += piece
+    return got
+
+
+def status(answer):
+    return int(answer.split(b" ", 2)[1]) if answer.startswith(b"HTTP/") else 0
+
+
+class Rules:
+    def __init__(self, checks, asks, page):
+        self.checks, self.asks, self.page = checks, asks, page
+        self.public, self.staff = (asks.office.ports[name] for name in ("8080", "8081"))
+
+    def play(self):
+        for part in (self.odd_paths, self.readers_limits, self.password, self.other_sites, self.other_names, self.heads, *([self.foreign_page] if self.page else [])):
+            self.checks.part(f"rules: {part.__name__}", part)
+
+    def state(self):
+        """What a stray command would change: tickets and runs."""
+        tickets = next(n for n in range(1, 99) if self.asks.get(f"/desk/readers/{n}", True)[0] == 404)
+        runs = next(n for n in range(1, 99) if self.asks.get(f"/desk/runs/{n}", True)[0] == 404)
+        return tickets, runs
+
+    def odd_paths(self):
+        before = self.state()
+        body = json.dumps({"name": "Stray", "until": "2030-01-01"}).encode()
+        for path in ODD_PATHS:
+            for method in ("GET", "POST"):
+                sent = body if method == "POST" else b""
+                got = raw(self.public, f"{method} {path} HTTP/1.1\r\nHost: x\r\nConnection: close\r\nContent-Length: {len(sent)}\r\n\r\n", sent)
+                page = got.split(b"\r\n\r\n", 1)[-1]
+                safe = status(got) in (400, 403, 404, 405) and b'"ticket"' not in page and page.strip() != b"[]"
+                self.checks.check(f"a reader's {method} {path} does not come to the desk", safe, got[:200])
+        self.checks.same("no odd path did anything", self.state(), before)
+
+    def readers_limits(self):
+        for path, wanted in (("/public/units/1", 200), ("/public/units/01", 404), ("/public/units/1/", 404), ("/public/units/99999999999", 404),
+                             ("/public/fonds/", 404), ("/public/orders", 405), ("/public/", 404)):
+            self.checks.same(f"readers and {path}", self.asks.get(path)[0], wanted)
+        large = b"{" + b" " * 20000 + b"}"
+        self.checks.same("a large order is not taken", self.asks.call("POST", "/public/orders", large, False)[0], 413)
+
+    def password(self):
+        for path in ("/", "/main.js", "/desk/issued", "/public/fonds"):
+            got = raw(self.staff, f"GET {path} HTTP/1.1\r\nHost: 127.0.0.1:{self.staff}\r\nConnection: close\r\n\r\n")
+            self.checks.same(f"no password, no {path}", status(got), 401)
+        wrong = base64.b64encode(f"{PASSWORD[0]}:wrong".encode()).decode()
+        got = raw(self.staff, f"GET /desk/issued HTTP/1.1\r\nHost: 127.0.0.1:{self.staff}\r\nAuthorization: Basic {wrong}\r\nConnection: close\r\n\r\n")
+        self.checks.same("a wrong password", status(got), 401)
+        self.checks.same("the right password", self.asks.get("/desk/issued", True), (200, "[]"))
+
+    def other_sites(self):
+        own = f"http://127.0.0.1:{self.staff}"
+        before = self.state()
+        for fields, wanted in (([("Origin", own), ("Sec-Fetch-Site", "same-origin")], 200), ([("Origin", "http://evil.example")], 403),
+                               ([("Origin", "null")], 403), ([("Sec-Fetch-Site", "cross-site")], 403), ([("Sec-Fetch-Site", "same-site")], 403),
+                               ([("Origin", f"http://127.0.0.1:{self.public}")], 403)):
+            got, _ = self.asks.call("POST", "/desk/cancel", b'{"order":1000}', True, fields)
+            self.checks.same(f"a command with {dict(fields)}", got, 409 if wanted == 200 else wanted)
+        self.checks.same("nothing was changed", self.state(), before)
+
+    def other_names(self):
+        password = SIGNED_IN["Authorization"]
+        got = raw(self.staff, f"GET /desk/issued HTTP/1.1\r\nHost: evil.example\r\nAuthorization: {password}\r\nConnection: close\r\n\r\n")
+        self.checks.same("another name for the desk", status(got), 421)
+
+    def heads(self):
+        """What each answer tells a browser: scripts from here alone, and none made from texts."""
+        for port, path in ((self.public, "/"), (self.public, "/public/fonds"), (self.public, "/no"), (self.staff, "/desk/issued")):
+            got = raw(port, f"GET {path} HTTP/1.1\r\nHost: 127.0.0.1:{port}\r\nAuthorization: {SIGNED_IN['Authorization']}\r\nConnection: close\r\n\r\n")
+            head = got.split(b"\r\n\r\n", 1)[0].decode().lower()
+            policy = next((line for line in head.splitlines() if line.startswith("content-security-policy:")), "")
+            strict = "default-src 'none'" in policy and "script-src 'self'" in policy and "require-trusted-types-for 'script'" in policy
+            self.checks.check(f"a strict policy at {path}", strict and "unsafe" not in policy and "x-content-type-options: nosniff" in head, head)
+
+    def foreign_page(self):
+        """A page of another site, open in the browser of a member of staff who is signed in."""
+        before = self.state()
+        site = self.asks.office.staff
+        html = ("<!doctype html><title>x</title><form method=post action='%s/desk/register' enctype=text/plain>"
+                "<input name='{\"name\":\"Stray\",\"until\":\"2030-01-01\",\"x\":\"' value='\"}'></form><script>"
+                "const send = (path) => fetch('%s' + path, {method: 'POST', body: '{\"name\":\"Stray\",\"until\":\"2030-01-01\"}',"
+                "mode: 'no-cors', credentials: 'include'}).catch(() => 0);"
+                "Promise.all([send('/desk/register'), send('/desk/run'), send('/desk/reshelve')]).finally(() => document.forms[0].submit())"
+                "</script>" % (site, site)).encode()
+        other = serve(html)
+        self.page.call("Page.navigate", url=f"http://127.0.0.1:{other.server_port}/")
+        self.page.wait(f"location.href.startsWith('{site}')")
+        self.checks.check("what another site's page sends is turned away", "another site" in self.page.text("body") or "403" in self.page.text("body"),
+                          self.page.text("body"))
+        self.checks.same("and nothing was done", self.state(), before)
+        other.shutdown()
+
+
+def serve(html):
+    class Handler(BaseHTTPRequestHandler):
+        def do_GET(self):
+            self.send_response(200)
+            self.send_header("Content-Type", "text/html")
+            self.end_headers()
+            self.wfile.write(html)
+
+        def log_message(self, *_):
+            pass
+
+    server = ThreadingHTTPServer(("127.0.0.1", 0), Handler)  # a browser keeps connections open that it does not use
+    threading.Thread(target=server.serve_forever, daemon=True).start()
+    return server

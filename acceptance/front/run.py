@@ -1,0 +1,88 @@
+"""Plays all parts in a real browser: run.py PROGRAM FOLDER SHOTS [PART..]
+
+FOLDER is made anew and kept; SHOTS gets pictures of the pages. PART is one of pages, refusals, rules, restarts.
+The last line is `N passed, M failed`; the exit status is 0 where none failed."""
+
+import pathlib
+import shutil
+import signal
+import sys
+
+sys.dont_write_bytecode = True
+import refusals  # noqa: E402
+import restarts  # noqa: E402
+import shapes  # noqa: E402
+from asks import Asks  # noqa: E402
+from browser import Browser  # noqa: E402
+from checks import Checks  # noqa: E402
+from day import Day  # noqa: E402
+from office import SIGNED_IN, Office, fresh  # noqa: E402
+from rules import Rules  # noqa: E402
+from visit import Visit  # noqa: E402
+
+
+def pictures(folder):
+    """shot(page, name): the whole page, what the window shows (full=False), or what would be printed."""
+    def shot(page, name, full=True, printed=False):
+        if printed:
+            page.pdf(folder / f"{name}.pdf")
+        else:
+            page.shot(folder / f"{name}.png", full)
+    return shot
+
+
+def pages(checks, office, browser, folder, shot):
+    asks = Asks(office)
+    hall, desk = browser.page(), browser.page(SIGNED_IN)
+    visit = Visit(checks, asks, hall, shot)
+    day = Day(checks, asks, desk, visit, shot, folder)
+    checks.part("day: imports", day.imports)
+    visit.play()
+    day.play()
+    shapes.play(checks, visit, day, shot)
+    complaints(checks, (hall, desk))
+
+
+def complaints(checks, seen):
+    checks.same("the browser complains of nothing", [said for page in seen for said in page.complaints()], [])
+
+
+def two_offices(checks, program, folder, shots, parts):
+    browser = Browser(folder / "profile") if shutil.which("chromium") else None
+    try:
+        with Office(folder / "first", program).init() as office:
+            if browser and "pages" in parts:
+                pages(checks, office, browser, folder, pictures(shots))
+            else:
+                office_without_pages(office, folder)
+            if "rules" in parts:
+                Rules(checks, Asks(office), browser and browser.page(SIGNED_IN)).play()
+            if "restarts" in parts:
+                restarts.play(checks, Asks(office))
+        if browser and "refusals" in parts:
+            with Office(folder / "second", program, refusals.SETTINGS).init() as office:
+                page = browser.page(SIGNED_IN)
+                refusals.Refusals(checks, Asks(office), page, folder).play()
+                complaints(checks, [page])
+    finally:
+        if browser:
+            browser.end()
+
+
+def office_without_pages(office, folder):
+    asks = Asks(office)
+    asks.call("POST", "/desk/import/archives", (refusals.TOP / "examples/archives.csv").read_bytes(), True)
+
+
+def main(program, folder, shots, *parts):
+    signal.signal(signal.SIGTERM, lambda *_: sys.exit(143))  # so that what was started is ended
+    checks = Checks()
+    folder, shots = pathlib.Path(fresh(folder)).resolve(), pathlib.Path(fresh(shots)).resolve()
+    folder.mkdir(parents=True)
+    shots.mkdir(parents=True)
+    checks.part("offices", two_offices, checks, program, folder, shots, parts or ("pages", "rules", "restarts", "refusals"))
+    return checks.end()
+
+
+if __name__ == "__main__":
+    sys.exit(main(*sys.argv[1:]))

@@ -1,0 +1,222 @@
+#!/usr/bin/env python3
+"""Runs the lines of docs/OPERATING.md again and compares their answers, so that the document cannot go stale:
+
+    acceptance/operating.py [PROGRAM] [--place PLACE] [--shell COMMAND]
+
+In a block of the document a line that begins with `$ ` (or `# `, for root) is a command, as long as its quotes are open it
+goes on, and what follows up to the next one is what it answers, standard error included. `...` stands for any lines. A
+comment right before a block says what the block is:
+
+    <!-- file NAME -->      it is a file, which is written in every place
+    <!-- package -->        an office of the installed package: run by packaging/try.sh, as root of a machine of its own
+    <!-- hand -->           an office that is set up by hand: the same
+    <!-- elsewhere: .. -->  run by nobody here, for the reason that is told
+
+All other blocks are of the place `here`: a new folder of this machine, with PROGRAM as `record_office` and a free port for each that
+the document names. `--shell` is the command that begins the shell of another place. A `record_office serve` runs on until it is
+ended by a line `kill $!`. Says each line that answers otherwise, which lines it left out, and last `N passed, M failed`.
+"""
+
+import argparse
+import os
+import pathlib
+import re
+import shlex
+import shutil
+import signal
+import socket
+import subprocess
+import sys
+import tempfile
+import time
+
+TOP = pathlib.Path(__file__).resolve().parent.parent
+DOCUMENT = TOP / "docs" / "OPERATING.md"
+BUILT = TOP / "crates" / "record_office" / "out" / "record_office"
+PORTS = range(8080, 8100)
+PLACES = ("here", "package", "hand")
+LONGEST = 60
+
+
+class Block:
+    """Some lines of the document that are indented, the comment before them, and where they begin."""
+
+    def __init__(self, mark, start, lines):
+        self.mark, self.start, self.lines = mark, start, lines
+
+    def commands(self):
+        """Each command with the number of its line and the lines of its answer."""
+        found = []
+        for number, line in enumerate(self.lines, self.start):
+            if found and is_open(found[-1][1]):
+                found[-1][1] += "\n" + line
+            elif line.startswith(("$ ", "# ")):
+                found.append([number, line[2:], []])
+            elif found:
+                found[-1][2].append(line)
+        return found
+
+
+def is_open(command):
+    try:
+        shlex.split(command, comments=True)
+        return False
+    except ValueError:
+        return True
+
+
+def blocks(text):
+    """The indented blocks, each between blank lines."""
+    mark, found, lines, start = "", [], [], 0
+    for number, line in enumerate([*text.splitlines(), ""], 1):
+        comment = re.fullmatch(r"\s*<!-- (.*) -->", line)
+        if comment:
+            mark = comment.group(1)
+        elif line.startswith("    ") and not re.match(r"\s+(- |\d+\. )", line):
+            start = start or number
+            lines.append(line)
+        elif lines:
+            margin = min(len(line) - len(line.lstrip()) for line in lines if line.strip())
+            found.append(Block(mark, start, [line[margin:] for line in lines]))
+            mark, lines, start = "", [], 0
+        elif line.strip():
+            mark = ""
+    return found
+
+
+class Shell:
+    """A bash that is given one command after the other; what a command left running goes on."""
+
+    def __init__(self, words, folder=None, environment=None):
+        self.process = subprocess.Popen(
+            words, cwd=folder, env=environment, stdin=subprocess.PIPE, stdout=subprocess.PIPE, stderr=subprocess.STDOUT, start_new_session=True
+        )
+        self.run("exec 2>&1")
+
+    def run(self, command):
+        """What the command printed, without the end of its last line."""
+        if command.startswith("record_office serve") or command.startswith("runuser") and " serve " in command:
+            return self.serve(command)
+        return self.until_end(f"{command}\n")
+
+    def serve(self, command):
+        """Begins a server in the background; its answer is what it says within ten seconds, which is its first line."""
+        return self.until_end(
+            f"{command} >served.txt 2>&1 </dev/null &\nfor i in $(seq 100); do grep -q . served.txt && break; sleep 0.1; done; cat served.txt\n"
+        )
+
+    def until_end(self, text):
+        end = f"end-{time.monotonic_ns()}"
+        self.process.stdin.write(f"{text}printf '\\n%s\\n' {end}\n".encode())
+        self.process.stdin.flush()
+        said = b""
+        signal.alarm(LONGEST)
+        while not said.endswith(f"\n{end}\n".encode()):
+            piece = self.process.stdout.read1(65536)
+            if not piece:
+                raise RuntimeError(f"the shell ended at: {text}")
+            said += piece
+        signal.alarm(0)
+        return said.decode(errors="replace").removesuffix(f"\n{end}\n").removesuffix("\n")
+
+    def end(self):
+        os.killpg(self.process.pid, signal.SIGKILL)
+        self.process.wait()
+
+
+def agrees(said, expected):
+    """Whether the lines are these, where a line `...` stands for any."""
+    pattern = "\n".join("(?:.*(?:\n.*)*)" if line.strip() == "..." else re.escape(line) for line in expected)
+    return re.fullmatch(pattern, "\n".join(line.rstrip() for line in said.splitlines())) is not None
+
+
+def free_port():
+    with socket.socket() as it:
+        it.bind(("127.0.0.1", 0))
+        return it.getsockname()[1]
+
+
+def here(program, folder):
+    """The shell of this machine, and what is written otherwise than in the document."""
+    (folder / "bin").mkdir()
+    (folder / "bin" / "record_office").symlink_to(program)
+    (folder / "office").mkdir()
+    environment = {**os.environ, "PATH": f"{folder}/bin:{os.environ['PATH']}", "LC_ALL": "C.UTF-8"}
+    shell = Shell(["bash", "--norc", "--noprofile"], folder / "office", environment)
+    ports = {str(port): str(free_port()) for port in PORTS}
+    return shell, lambda text: re.sub(r"\b80[89]\d\b", lambda port: ports[port.group()], text)
+
+
+def place_of(block):
+    return block.mark if block.mark in PLACES else "here"
+
+
+def run_block(block, shell, ours):
+    """How many lines of it answered as they should, and otherwise."""
+    passed = failed = 0
+    for number, command, expected in block.commands():
+        said = shell.run(ours(command))
+        if agrees(said, [ours(line) for line in expected]):
+            passed += 1
+        else:
+            failed += 1
+            print(f"line {number}: {command}\n--- answered\n{said}\n--- should be\n" + "\n".join(expected), flush=True)
+    return passed, failed
+
+
+def write_file(block, shell):
+    shell.run(f"cat >{shlex.quote(block.mark.removeprefix('file '))} <<'END-OF-FILE'\n" + "\n".join(block.lines) + "\nEND-OF-FILE")
+
+
+def run(all_blocks, place, shell, ours):
+    passed = failed = 0
+    for block in all_blocks:
+        if block.mark.startswith("file "):
+            write_file(block, shell)
+        elif place_of(block) == place and not block.mark.startswith("elsewhere"):
+            more, wrong = run_block(block, shell, ours)
+            passed, failed = passed + more, failed + wrong
+    return passed, failed
+
+
+def say_left_out(all_blocks, place):
+    for other in PLACES:
+        many = sum(len(block.commands()) for block in all_blocks if place_of(block) == other and not block.mark.startswith("elsewhere"))
+        if other != place and many:
+            print(f"left out: {many} lines of the place '{other}'")
+    for block in all_blocks:
+        if block.mark.startswith("elsewhere"):
+            print(f"left out: {len(block.commands())} lines from line {block.start} on, {block.mark}")
+
+
+def too_long(*_):
+    raise TimeoutError(f"a line did not end within {LONGEST} s")
+
+
+def main():
+    signal.signal(signal.SIGALRM, too_long)
+    words = argparse.ArgumentParser()
+    words.add_argument("program", nargs="?", default=BUILT, type=pathlib.Path)
+    words.add_argument("--place", choices=PLACES, default="here")
+    words.add_argument("--shell")
+    words = words.parse_args()
+    lacking = [tool for tool in ("curl", "sqlite3") if words.place == "here" and not shutil.which(tool)]
+    if lacking:
+        sys.exit(f"needs {' and '.join(lacking)}\n0 passed, 1 failed")
+    all_blocks = blocks(DOCUMENT.read_text(encoding="utf-8"))
+    with tempfile.TemporaryDirectory() as folder:
+        if words.place == "here":
+            shell, ours = here(words.program.resolve(), pathlib.Path(folder))
+        else:
+            shell, ours = Shell(shlex.split(words.shell)), lambda text: text
+        try:
+            passed, failed = run(all_blocks, words.place, shell, ours)
+        finally:
+            shell.end()
+    say_left_out(all_blocks, words.place)
+    print(f"{passed} passed, {failed} failed")
+    sys.exit(1 if failed or not passed else 0)
+
+
+if __name__ == "__main__":
+    main()

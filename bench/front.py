@@ -1,0 +1,217 @@
+#!/usr/bin/env python3
+"""Measures the built program behind the front of front/server, and prints rows of markdown:
+
+    bench/front.py [--program PROGRAM] [--room DIRECTORY] [--port FIRST] [--store STORE] [UNITS]
+
+UNITS is 2000, 20000 (without a word) or 200000. STORE is a store of so many units that is there already: it is copied. Eight clients
+with kept connections ask for pages of units one after the other: without a stop, while the program ends after every 10,000
+answers of its only connection, and while it is killed; with limits by address taken out, since all clients have one. An answer other than 200 is
+lost. Then readers are registered at the desk beside eight such clients and a kill: all tickets have to be there, each once.
+The program has to be idle otherwise; needs nginx and HAProxy. Where anything is lost this ends with 1.
+"""
+
+import argparse
+import base64
+import http.client
+import json
+import os
+import pathlib
+import shutil
+import socket
+import subprocess
+import sys
+import tempfile
+import threading
+import time
+
+sys.dont_write_bytecode = True
+from front_servers import PASSWORD, TOP, Office  # noqa: E402
+from measure import SETTINGS, Archive  # noqa: E402
+
+CLIENTS = 8
+AUTH = {"Authorization": "Basic " + base64.b64encode(":".join(PASSWORD).encode()).decode()}
+NO_LIMITS = [("limit_req zone=record_office_readers burst=200 nodelay;", ""), ("limit_conn record_office_visits 100;", "")]
+LOST = []
+
+
+class Client(threading.Thread):
+    """Asks for these paths, one after the other, over a connection that it keeps."""
+
+    def __init__(self, port, paths, headers=None):
+        super().__init__(daemon=True)
+        self.port, self.paths, self.headers = port, paths, headers or {}
+        self.times, self.lost = [], []
+
+    def run(self):
+        connection = http.client.HTTPConnection("127.0.0.1", self.port, timeout=200)
+        for path in self.paths:
+            began = time.perf_counter()
+            try:
+                connection.request("GET", path, headers=self.headers)
+                answer = connection.getresponse()
+                answer.read()
+                if answer.status != 200:
+                    self.lost.append(answer.status)
+            except (OSError, http.client.HTTPException) as fault:
+                self.lost.append(type(fault).__name__)
+                connection.close()
+            self.times.append(time.perf_counter() - began)
+
+
+def pages(units, client, many):
+    return [f"/public/units/{1 + (i * 37 + client * 2503) % units}" for i in range(many)]
+
+
+def crowd(office, units, many, beside=None):
+    """Eight clients, and what is done beside them; gives what they took."""
+    clients = [Client(office.ports["readers"], pages(units, n, many)) for n in range(CLIENTS)]
+    began = time.perf_counter()
+    for client in clients:
+        client.start()
+    if beside:
+        beside()
+    for client in clients:
+        client.join()
+    return clients, time.perf_counter() - began
+
+
+def say(what, clients, took, more=""):
+    times = sorted(t for client in clients for t in client.times)
+    lost = [kind for client in clients for kind in client.lost]
+    LOST.extend(lost)
+    kinds = ", ".join(f"{kind} {lost.count(kind)} times" for kind in sorted(set(lost), key=str))
+    print(
+        f"| {what} | {len(times)} | {len(times) / took:.0f} | {times[len(times) // 2] * 1e3:.1f} ms | "
+        f"{times[int(len(times) * 0.99)] * 1e3:.1f} ms | {times[-1]:.2f} s | {len(lost)}{kinds and ' (' + kinds + ')'}{more} |",
+        flush=True,
+    )
+
+
+def steady(office, units, many):
+    say("no restart", *crowd(office, units, many))
+
+
+def ends(office, units, many):
+    """A server of one connection ends after its 10,000th answer."""
+    starts = office.starts
+    clients, took = crowd(office, units, many)
+    say("restarts at the end of `--connections`", clients, took, f"; {office.starts - starts} restarts")
+
+
+def kills(office, units, many):
+    """Kills the program three times, each time some seconds after it has answered again."""
+    starts = office.starts
+
+    def kill():
+        for _ in range(3):
+            time.sleep(2.5)
+            office.serving.kill()
+            time.sleep(0.5)
+            Client(office.ports["readers"], ["/public/fonds"]).run()
+
+    clients, took = crowd(office, units, many, kill)
+    say("killed three times", clients, took, f"; {office.starts - starts} restarts")
+
+
+class Desk:
+    """Registers readers at the desk, one after the other. What is uncertain is looked up, as OPERATING says, not given again."""
+
+    def __init__(self, office, many):
+        self.office, self.many = office, many
+        self.connection = http.client.HTTPConnection("127.0.0.1", office.ports["desk"], timeout=200)
+        self.tickets, self.times, self.uncertain = [], [], 0
+
+    def ask(self, method, path, body=None):
+        self.connection.request(method, path, body, AUTH)
+        answer = self.connection.getresponse()
+        text = answer.read()
+        return answer.status, json.loads(text) if text.startswith((b"{", b"[")) else {}
+
+    def register(self, number):
+        began = time.perf_counter()
+        status, told = self.ask("POST", "/desk/register", json.dumps({"name": f"Reader {number}", "until": "2030-01-01"}))
+        self.times.append(time.perf_counter() - began)
+        if status == 200:
+            self.tickets.append(told["ticket"])
+            return
+        self.uncertain += 1
+        next_ticket = self.tickets[-1] + 1 if self.tickets else 1
+        status, told = self.ask("GET", f"/desk/readers/{next_ticket}")
+        if status == 200 and told["name"] == f"Reader {number}":
+            self.tickets.append(next_ticket)
+        else:
+            self.register(number)
+
+    def run(self):
+        for number in range(self.many):
+            if number == self.many // 2:
+                threading.Timer(0.003, self.office.serving.kill).start()
+            self.register(number)
+
+    def say(self):
+        times = sorted(self.times)
+        wrong = self.tickets != list(range(1, self.many + 1))
+        LOST.extend(["a ticket"] * wrong)
+        print(
+            f"| {self.many} registrations at the desk beside eight readers, one kill | {len(times)} | | {times[len(times) // 2] * 1e3:.1f} ms | "
+            f"{times[int(len(times) * 0.99)] * 1e3:.1f} ms | {times[-1]:.2f} s | {'tickets are not 1, 2, ..' if wrong else '0'}; {self.uncertain} told as uncertain |",
+            flush=True,
+        )
+
+
+def slow(office, units):
+    """What a page takes beside a client that sends a part of a file to the desk, and then nothing."""
+    with socket.create_connection(("127.0.0.1", office.ports["desk"])) as held:
+        lines = "".join(f"{name}: {value}\r\n" for name, value in AUTH.items())
+        held.sendall(f"POST /desk/import/a HTTP/1.1\r\nHost: 127.0.0.1\r\n{lines}Content-Length: 1048576\r\n\r\nx".encode())
+        time.sleep(0.5)
+        client = Client(office.ports["readers"], pages(units, 0, 20))
+        began = time.perf_counter()
+        client.run()
+        say("beside a slow sender of a file, one client", [client], time.perf_counter() - began)
+
+
+def fill(program, store, units):
+    archive = Archive(units)
+    subprocess.run([program, "init", "--store", store, *SETTINGS], check=True)
+    for file in range(archive.files):
+        archive.write(file + 1, f"{store}.csv")
+        subprocess.run([program, "import", "--store", store, "--source", f"a{file + 1}", f"{store}.csv"], check=True, stdout=subprocess.DEVNULL)
+
+
+def measure(words, room):
+    store = f"{room}/office.db"
+    if words.store:
+        shutil.copy(words.store, store)
+    else:
+        fill(words.program, store, words.units)
+    many = 600 if words.units > 2000 else 60
+    print("| | requests | a second | p50 | p99 | longest | lost |\n|---|---|---|---|---|---|---|", flush=True)
+    with Office(words.program, store, f"{room}/long", words.port, 10000, NO_LIMITS) as office:
+        steady(office, words.units, many)
+        kills(office, words.units, many * 2)
+        slow(office, words.units)
+        desk = Desk(office, 350 if words.units > 2000 else 40)
+        clients, took = crowd(office, words.units, many, desk.run)
+        desk.say()
+        say("the eight readers beside the desk", clients, took)
+    with Office(words.program, store, f"{room}/short", words.port + 10, 1, NO_LIMITS) as office:
+        ends(office, words.units, 2600 if words.units > 2000 else 1300)
+
+
+def main():
+    words = argparse.ArgumentParser()
+    words.add_argument("--program", default=TOP / "crates/record_office/out/record_office", type=pathlib.Path)
+    words.add_argument("--room")
+    words.add_argument("--port", type=int, default=21100)
+    words.add_argument("--store")
+    words.add_argument("units", nargs="?", type=int, default=20000)
+    words = words.parse_args()
+    os.environ["PATH"] += ":/usr/sbin"
+    with tempfile.TemporaryDirectory(dir=words.room) as room:
+        measure(words, room)
+    sys.exit(1 if LOST else 0)
+
+
+if __name__ == "__main__":
+    main()

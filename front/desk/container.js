@@ -1,0 +1,87 @@
+// A container: where it is, who waits for it, and what can be done with it next.
+
+import { el, link, table, words } from '../shared/dom.js';
+import { numberField } from '../shared/fields.js';
+import { commandForm } from '../shared/form.js';
+import { numberOf } from '../shared/numbers.js';
+import { deskWords } from '../shared/refusals.js';
+import { giveBack, issue, issued, order, queue } from '../shared/routes.js';
+import { lookAtContainer, lookAtReader } from './looks.js';
+import { readerLink } from './names.js';
+import { card, problem, said } from './parts.js';
+
+export async function containerPage(number) {
+  const view = { number, told: el('div', { role: 'status' }), panel: el('div', { class: 'panel' }) };
+  await show(view);
+  return { title: `Container ${number}`, content: [
+    el('h1', {}, `Container ${number}`),
+    el('p', { class: 'no-print' }, link('#/counter', 'Back to the counter')),
+    view.told, view.panel,
+    card('Order it for a reader', orderForm(view)),
+  ] };
+}
+
+async function show(view) {
+  const answer = await queue(view.number);
+  const holder = answer.ok && answer.value.place === 'out' ? await holderOf(view.number) : null;
+  view.panel.replaceChildren(...(answer.ok ? panel(view, answer.value, holder) : [problem(answer)]));
+}
+
+async function holderOf(number) {
+  const answer = await issued();
+  return answer.ok ? answer.value.find((row) => row.container === Number(number))?.ticket : null;
+}
+
+function panel(view, box, holder) {
+  return [
+    words(box.name, 'p', { class: 'big-name' }),
+    el('p', { class: 'place' }, place(box, holder)),
+    next(view, box),
+    box.waiting.length > 0 && table('Who waits, first to last', ['Order', 'Reader'], box.waiting.map((one) => [String(one.order), readerLink(one.ticket)])),
+  ].filter(Boolean);
+}
+
+function place(box, holder) {
+  if (box.place === 'shelf') return 'It is on its shelf.';
+  if (box.place === 'desk') return 'It is at the desk.';
+  return ['It is out', ...(holder ? [' with ', readerLink(holder)] : []), `, order ${box.out}.`];
+}
+
+function next(view, box) {
+  if (box.place === 'out') return returnForm(view);
+  if (box.waiting.length === 0) return el('p', { class: 'quiet' }, 'Nobody is waiting for it.');
+  if (box.place === 'desk') return issueForm(view, box.waiting[0].ticket);
+  return el('p', {}, 'A ', link('#/runs', 'run'), ' fetches it.');
+}
+
+function after(view, sentence) {
+  return async (value) => { await show(view); view.told.replaceChildren(el('div', { class: 'note done' }, said(sentence(value)))); };
+}
+
+function issueForm(view, ticket) {
+  return commandForm({
+    key: `issue ${view.number}`, button: `Issue to ticket ${ticket}, the first who waits`,
+    send: () => issue(view.number, ticket),
+    done: after(view, (value) => `Issued to ticket ${ticket}, order ${value.order}.`),
+    explain: deskWords, look: () => lookAtContainer(view.number),
+    help: () => el('p', {}, 'The card: ', readerLink(ticket), '.'),
+  });
+}
+
+function returnForm(view) {
+  return commandForm({
+    key: `return ${view.number}`, button: 'Take back',
+    send: () => giveBack(view.number),
+    done: after(view, (value) => `Taken back. Order ${value.order} is done.`),
+    explain: deskWords, look: () => lookAtContainer(view.number),
+  });
+}
+
+function orderForm(view) {
+  return commandForm({
+    key: `order of container ${view.number}`, fields: [numberField('ticket', 'Ticket')], button: 'Order', kind: 'plain',
+    send: ({ ticket }) => order(numberOf(ticket), view.number),
+    done: async (value, { ticket }) => { await show(view); return said(`Order ${value.order} for `, readerLink(numberOf(ticket)), '.'); },
+    explain: deskWords, look: ({ ticket }) => lookAtReader(numberOf(ticket)),
+  });
+}

@@ -1,0 +1,145 @@
+// The counter: issuing, taking back, seats, and where a container is. Each form takes numbers alone, so that a keyboard
+// or a barcode reader that sends Enter serves for all of it.
+
+import { el } from '../shared/dom.js';
+import { numberField } from '../shared/fields.js';
+import { commandForm } from '../shared/form.js';
+import { numberOf } from '../shared/numbers.js';
+import { deskWords } from '../shared/refusals.js';
+import { go } from '../shared/router.js';
+import { giveBack, issue, leaveSeat, queue, takeSeat } from '../shared/routes.js';
+import { lookAtContainer, lookAtReader } from './looks.js';
+import { boxLink, readerLink } from './names.js';
+import { card, heldContainer, lookUp, problem, said } from './parts.js';
+import { showReader } from './reader_at_counter.js';
+
+const KEPT = 12; // so many containers that came back are listed
+
+export function counterPage() {
+  const ticket = numberField('ticket', 'Ticket', { hint: 'Scan or type, then Enter.' });
+  const counter = el('div', { class: 'cards counter' },
+    card('Issue', issueForm(ticket)),
+    card('Take back', returnForm()),
+    card('A reader arrives', seatForm()),
+    card('A reader leaves', leaveForm()),
+    card('Where is a container?', lookUp(numberField('container', 'Container'), 'Look it up', (number) => go(`#/counter/${number}`))));
+  const input = ticket.querySelector('input');
+  counter.addEventListener('keydown', (event) => digitsGoTo(event));
+  return { title: 'Counter', focus: input, content: [el('h1', {}, 'Counter'), counter] };
+}
+
+/** What a barcode reader sends while a button has the focus goes to the first field of that form, not to the button. */
+function digitsGoTo(event) {
+  const isButton = event.target.closest('button') !== null;
+  if (!isButton || !/^[0-9]$/.test(event.key) || event.ctrlKey || event.altKey || event.metaKey) return;
+  const input = event.target.closest('form')?.querySelector('input');
+  input?.focus();
+  input?.select();
+}
+
+function issueForm(ticketRow) {
+  const containerRow = numberField('container', 'Container', { hint: 'Scan or type, then Enter to issue.' });
+  const about = el('div', { class: 'about', role: 'status' });
+  const form = commandForm({
+    key: 'issue', fields: [ticketRow, about, containerRow], button: 'Issue',
+    send: ({ ticket, container }) => issue(numberOf(container), numberOf(ticket)),
+    done: (value, { ticket, container }) => { showReader(about, null); return issued(value, numberOf(ticket), numberOf(container)); },
+    explain: deskWords,
+    help: (answer, { ticket }, again) => (answer.code === 10 ? seatButton(numberOf(ticket), again) : readerOf(answer, numberOf(ticket))),
+    look: ({ container }) => lookAtContainer(numberOf(container)),
+    focus: focusOfIssue,
+  });
+  moveOn(ticketRow.querySelector('input'), containerRow.querySelector('input'), (number) => showReader(about, number));
+  return form;
+}
+
+/** Enter in the ticket's field goes on to the container's and sends nothing. */
+function moveOn(input, next, then) {
+  input.addEventListener('keydown', (event) => {
+    if (event.key !== 'Enter' || numberOf(input.value) === null) return;
+    event.preventDefault();
+    if (event.repeat || input.readOnly) return;
+    next.focus();
+    next.select();
+  });
+  input.addEventListener('change', () => then(numberOf(input.value)));
+}
+
+/** After a refusal the focus is on what has to be typed otherwise. */
+function focusOfIssue(form, answer) {
+  const { ticket, container } = form.elements;
+  const button = answer?.code === 10 ? form.querySelector('.note button') : null;
+  const input = [3, 5, 14, 15].includes(answer?.code) ? container : ticket;
+  if (button) return button.focus();
+  input.focus();
+  return input.select();
+}
+
+function issued(value, ticket, container) {
+  return said('Issued: ', boxLink(container), ' to ', readerLink(ticket), `. Order ${value.order}.`);
+}
+
+function readerOf(answer, ticket) {
+  return [4, 16].includes(answer.code) ? el('p', {}, 'The card: ', readerLink(ticket), '.') : null;
+}
+
+function seatButton(ticket, again) {
+  const place = el('p', {});
+  const give = el('button', { type: 'button', class: 'plain', click: () => seat(ticket, give, place, again) }, `Give ticket ${ticket} a seat and issue`);
+  place.append(give);
+  return place;
+}
+
+async function seat(ticket, give, place, again) {
+  if (give.getAttribute('aria-disabled') === 'true') return;
+  give.setAttribute('aria-disabled', 'true');
+  const answer = await takeSeat(ticket);
+  if (answer.ok || answer.code === 9) again();
+  else place.replaceChildren(problem(answer));
+}
+
+function returnForm() {
+  const list = el('ul', { class: 'back', 'aria-label': 'Taken back just now' });
+  const form = commandForm({
+    key: 'return', fields: [numberField('container', 'Container', { hint: 'Scan or type, then Enter. One after the other.' })], button: 'Take back',
+    send: ({ container }) => giveBack(numberOf(container)),
+    done: (value, { container }) => cameBack(list, numberOf(container), value.order),
+    explain: deskWords,
+    look: ({ container }) => lookAtContainer(numberOf(container)),
+    focus: (shown) => { shown.elements.container.focus(); shown.elements.container.select(); },
+  });
+  return [form, list];
+}
+
+async function cameBack(list, container, order) {
+  const answer = await queue(container);
+  const line = () => ['Back: ', boxLink(container), `. Order ${order} is done. `, el('span', {}, whereNext(answer))];
+  list.prepend(el('li', {}, line()));
+  while (list.children.length > KEPT) list.lastChild.remove();
+  return said(line());
+}
+
+function whereNext(answer) {
+  if (!answer.ok) return '';
+  const [first] = answer.value.waiting;
+  return first ? ['Keep it at the desk for ', readerLink(first.ticket), '.'] : 'Nobody is waiting for it.';
+}
+
+function seatForm() {
+  return commandForm({
+    key: 'seat', fields: [numberField('ticket', 'Ticket')], button: 'Give a seat', kind: 'plain',
+    send: ({ ticket }) => takeSeat(numberOf(ticket)),
+    done: ({ seat: number }, { ticket }) => said(`Seat ${number} for `, readerLink(numberOf(ticket)), '.'),
+    explain: deskWords, look: ({ ticket }) => lookAtReader(numberOf(ticket)),
+  });
+}
+
+function leaveForm() {
+  return commandForm({
+    key: 'leave', fields: [numberField('ticket', 'Ticket')], button: 'Free the seat', kind: 'plain',
+    send: ({ ticket }) => leaveSeat(numberOf(ticket)),
+    done: ({ seat: number }, { ticket }) => said(`Seat ${number} is free. `, readerLink(numberOf(ticket)), ' has left.'),
+    explain: deskWords, help: (answer, { ticket }) => (answer.code === 11 ? el('p', {}, 'What is out: ', readerLink(numberOf(ticket)), '.') : heldContainer(answer)),
+    look: ({ ticket }) => lookAtReader(numberOf(ticket)),
+  });
+}

@@ -1,0 +1,31 @@
+// The desk's pages, by the address after the #.
+
+import { start } from '../shared/router.js';
+import { todayPage } from './today.js';
+import { counterPage } from './counter.js';
+import { containerPage } from './container.js';
+import { readersPage } from './readers.js';
+import { cardPage } from './card.js';
+import { ordersPage } from './orders.js';
+import { runsPage } from './runs.js';
+import { slipPage } from './slip.js';
+import { outPage } from './out.js';
+import { unitsPage } from './units.js';
+import { importPage } from './import.js';
+
+const NUMBER = '([1-9][0-9]{0,9})';
+const at = (path) => new RegExp(`^#/${path}$`);
+
+start([
+  [/^#?\/?$/, todayPage],
+  [at('counter'), counterPage],
+  [at(`counter/${NUMBER}`), containerPage],
+  [at('readers'), readersPage],
+  [at(`readers/${NUMBER}`), cardPage],
+  [at('orders'), ordersPage],
+  [at('runs'), runsPage],
+  [at(`runs/${NUMBER}`), slipPage],
+  [at('out'), outPage],
+  [at(`units(?:/${NUMBER})?`), unitsPage],
+  [at('import'), importPage],
+], 'The desk');

@@ -1,0 +1,42 @@
+// What is out, and what goes back to its shelf.
+
+import { el, printButton, table } from '../shared/dom.js';
+import { commandForm } from '../shared/form.js';
+import { deskWords } from '../shared/refusals.js';
+import { issued, reshelve } from '../shared/routes.js';
+import { onceMore } from './looks.js';
+import { boxLink, readerLink } from './names.js';
+import { card, problem } from './parts.js';
+
+export async function outPage() {
+  const answer = await issued();
+  return { title: 'Out now', content: [
+    el('h1', {}, 'Out now'),
+    answer.ok ? outTable(answer.value) : problem(answer),
+    card('Reshelve', el('p', {}, 'Every container at the desk that nobody is waiting for goes back to its shelf. You get the list of them.'), reshelveForm()),
+  ] };
+}
+
+function outTable(rows) {
+  if (rows.length === 0) return el('p', {}, 'Nothing is out.');
+  return table('With readers', ['Container', 'Order', 'Reader'], rows.map(({ container, order, ticket }) =>
+    [boxLink(container), String(order), readerLink(ticket)]));
+}
+
+function reshelveForm() {
+  return commandForm({
+    key: 'reshelve', button: 'Reshelve',
+    send: reshelve,
+    done: ({ containers }) => shelfList(containers),
+    explain: (answer) => deskWords(answer, 'reshelve'),
+    look: onceMore('“nothing to take back” means that it was done. Its list is lost then, so carry back everything that stands at the desk with nobody waiting: the counter tells for each container who waits.'),
+  });
+}
+
+function shelfList(containers) {
+  return [
+    el('p', {}, el('strong', {}, 'Take these back to their shelves:')),
+    el('ul', {}, containers.map((container) => el('li', {}, boxLink(container)))),
+    el('p', { class: 'buttons' }, printButton('Print this list')),
+  ];
+}

@@ -1,0 +1,42 @@
+// What several pages of the desk use.
+
+import { el, link } from '../shared/dom.js';
+import { note } from '../shared/form.js';
+import { numberOf } from '../shared/numbers.js';
+import { deskWords } from '../shared/refusals.js';
+
+export const ticketLink = (ticket) => link(`#/readers/${ticket}`, `ticket ${ticket}`);
+export const containerLink = (container) => link(`#/counter/${container}`, `container ${container}`);
+export const runLink = (run) => link(`#/runs/${run}`, `run ${run}`);
+export const unitLink = (unit) => link(`#/units/${unit}`, `unit ${unit}`);
+
+export const said = (...children) => el('p', {}, el('strong', {}, ...children));
+
+let last = 0;
+
+/** A part of a page with its heading, by which a screen reader finds it. */
+export function card(title, ...children) {
+  const id = `card-${++last}`;
+  return el('section', { class: 'card', 'aria-labelledby': id }, el('h2', { id }, title), children);
+}
+
+/** In place of what could not be shown. */
+export function problem(answer) {
+  const [means, todo] = deskWords(answer);
+  return note('refused', el('p', {}, el('strong', {}, means), ' ', todo));
+}
+
+/** Below a refusal that names a container: the way to it. */
+export function heldContainer(answer) {
+  return answer.code === 21 ? el('p', {}, 'Its page at the counter: ', containerLink(answer.container), '.') : null;
+}
+
+/** A form that looks something up by its number: it changes nothing, so it may be sent as often as one likes. */
+export function lookUp(field, button, then) {
+  const form = el('form', { class: 'look' }, field, el('p', { class: 'buttons' }, el('button', { type: 'submit', class: 'plain' }, button)));
+  form.addEventListener('submit', (event) => {
+    event.preventDefault();
+    then(numberOf(form.querySelector('input').value));
+  });
+  return form;
+}

@@ -1,0 +1,53 @@
+// Permits for a unit: giving one, and who has one.
+
+import { askEach } from '../shared/asking.js';
+import { count, el, table } from '../shared/dom.js';
+import { dayField, numberField } from '../shared/fields.js';
+import { commandForm } from '../shared/form.js';
+import { numberOf } from '../shared/numbers.js';
+import { deskWords } from '../shared/refusals.js';
+import { permit, permits } from '../shared/routes.js';
+import { lookAtPermits } from './looks.js';
+import { newestTicket, readerLink } from './names.js';
+import { said } from './parts.js';
+
+export function permitForm(unit) {
+  return commandForm({
+    key: `permit for ${unit}`,
+    fields: [numberField('ticket', 'Ticket'), dayField('until', 'Last day of the permit', { hint: 'It opens what is closed here to that reader, and no draft.' })],
+    button: 'Give a permit', kind: 'plain',
+    send: ({ ticket, until }) => permit(numberOf(ticket), unit, until),
+    done: (value) => said('Permit for ', readerLink(value.ticket), ` until ${value.until}.`),
+    explain: (answer) => deskWords(answer, 'permit'),
+    look: ({ ticket }) => lookAtPermits(numberOf(ticket)),
+  });
+}
+
+/** Who has a permit for this very unit. A permit is on a reader's card, so each card is asked. */
+export function permitList(unit) {
+  const told = el('p', { class: 'told', role: 'status' });
+  const list = el('div', {});
+  const ask = el('button', { type: 'button', class: 'plain', click: () => gather(Number(unit), told, list) }, 'Who has a permit for it?');
+  return [el('p', { class: 'buttons' }, ask), told, list];
+}
+
+async function gather(unit, told, list) {
+  told.textContent = 'Asking the office for the readers’ cards …';
+  const found = await holdersOf(unit);
+  if (found === null) { told.textContent = 'The office did not answer for all cards. Try again in a minute.'; return; }
+  told.textContent = found.length === 0 ? 'Nobody has a permit for this very unit.' : `${count(found.length, 'permit', 'permits')}.`;
+  list.replaceChildren(...(found.length === 0 ? [] : [table('Permits for this unit', ['Reader', 'Good until'], found.map((one) => [readerLink(one.ticket), el('span', { class: 'whole' }, one.until)]))]));
+}
+
+export async function holdersOf(unit) {
+  const newest = await newestTicket();
+  if (newest === null) return null;
+  const found = [];
+  const tickets = Array.from({ length: newest }, (_, place) => place + 1);
+  const whole = await askEach(tickets, permits, (ticket, answer) => {
+    if (!answer.ok) return false;
+    for (const one of answer.value) if (one.unit === unit) found.push({ ticket, until: one.until });
+    return true;
+  });
+  return whole ? found.sort((a, b) => a.ticket - b.ticket) : null;
+}

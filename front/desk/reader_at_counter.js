@@ -1,0 +1,39 @@
+// Who stands at the counter: the name, the seat, what is in hand, and what lies ready at the desk.
+
+import { el, words } from '../shared/dom.js';
+import { queue, reader } from '../shared/routes.js';
+import { boxLink } from './names.js';
+import { problem } from './parts.js';
+
+let turn = 0;
+
+export async function showReader(place, ticket) {
+  const mine = ++turn;
+  place.replaceChildren();
+  if (ticket === null) return;
+  const answer = await reader(ticket);
+  const shown = answer.ok ? await summary(answer.value) : [answer.kind === 'missing' ? el('p', {}, 'There is no ticket with this number.') : problem(answer)];
+  if (mine === turn) place.replaceChildren(...shown);
+}
+
+async function summary({ name, seat, until, orders }) {
+  const ready = await readyFor(orders);
+  const inHand = orders.filter((order) => order.state === 'out');
+  return [
+    el('p', {}, words(name, 'strong'), seat === null ? ', no seat yet' : `, seat ${seat}`, `, ticket good until ${until}.`),
+    inHand.length > 0 && el('p', {}, 'Has now: ', listed(inHand), '.'),
+    el('p', {}, ready.length > 0 ? ['Ready at the desk: ', listed(ready), '.'] : 'Nothing is ready at the desk for this reader.'),
+  ].filter(Boolean);
+}
+
+const listed = (orders) => orders.flatMap(({ container }, place) => [place > 0 ? '; ' : '', boxLink(container)]);
+
+/** The orders whose container lies at the desk and whose reader is the first who waits. */
+async function readyFor(orders) {
+  const waiting = orders.filter((order) => order.state === 'waiting');
+  const boxes = await Promise.all(waiting.map(({ container }) => queue(container)));
+  return waiting.filter(({ order }, place) => {
+    const box = boxes[place];
+    return box.ok && box.value.place === 'desk' && box.value.waiting[0]?.order === order;
+  });
+}

@@ -1,0 +1,87 @@
+// Readers: found by name or number, and registered.
+
+import { count, el, table, words, link } from '../shared/dom.js';
+import { dayField, textField } from '../shared/fields.js';
+import { commandForm } from '../shared/form.js';
+import { numberOf } from '../shared/numbers.js';
+import { deskWords } from '../shared/refusals.js';
+import { go } from '../shared/router.js';
+import { register } from '../shared/routes.js';
+import { lookAtNewestTicket } from './looks.js';
+import { knownReaders, newestTicket, readCards, readerLink } from './names.js';
+import { card } from './parts.js';
+
+const SHOWN = 50; // so many readers are listed
+const MOST = 20000; // so many cards are asked for without being asked to go on
+
+export function readersPage() {
+  const field = textField('who', 'Name or ticket number', { maxlength: 100, hint: 'Any part of the name will do.' });
+  return { title: 'Readers', focus: field.querySelector('input'), content: [
+    el('h1', {}, 'Readers'),
+    el('div', { class: 'cards' }, card('Find a reader', findForm(field)), card('Register a reader', registerForm())),
+  ] };
+}
+
+function findForm(field) {
+  const told = el('p', { class: 'told', role: 'status' });
+  const found = el('div', {});
+  const form = el('form', { class: 'find' }, field, el('p', { class: 'buttons' }, el('button', { type: 'submit', class: 'plain' }, 'Find')), told, found);
+  form.addEventListener('submit', (event) => {
+    event.preventDefault();
+    const who = form.elements.who.value;
+    const ticket = numberOf(who);
+    if (ticket !== null) go(`#/readers/${ticket}`);
+    else findByName(form, who, told, found);
+  });
+  return form;
+}
+
+let turn = 0;
+
+/** Names that are known are shown at once, and the others as their cards come. */
+async function findByName(form, who, told, found) {
+  const mine = ++turn;
+  const goesOn = () => mine === turn && form.isConnected;
+  const show = (end) => showFound(who, told, found, end);
+  show('Asking the office for the readers’ cards …');
+  const newest = await newestTicket();
+  if (newest === null) return goesOn() && show('The office did not answer. Try again in a minute.');
+  let last = 0;
+  const whole = await readCards(newest, (done, all) => {
+    if (performance.now() - last > 500) { last = performance.now(); goesOn() && show(`${done.toLocaleString('en-GB')} of ${all.toLocaleString('en-GB')} cards read …`); }
+    return goesOn() && done < MOST;
+  });
+  if (goesOn()) show(whole ? '' : `The newest ${knownReaders().size.toLocaleString('en-GB')} cards were searched. Choose Find again to search older ones.`);
+}
+
+function showFound(who, told, found, end) {
+  const tickets = matching(who);
+  told.textContent = `${count(tickets.length, 'reader', 'readers')} with “${who.trim()}”. ${end}`;
+  found.replaceChildren(...(tickets.length === 0 ? [] : [
+    table('Readers found', ['Name', 'Ticket'], tickets.slice(0, SHOWN).map(([ticket, name]) => [link(`#/readers/${ticket}`, words(name)), String(ticket)])),
+    tickets.length > SHOWN ? el('p', {}, `And ${tickets.length - SHOWN} more: type more of the name.`) : '']));
+}
+
+/** Every word that was typed stands in the name, whatever its case and its accents. */
+function matching(who) {
+  const parts = folded(who).split(/\s+/).filter(Boolean);
+  return [...knownReaders()].filter(([, name]) => parts.every((part) => folded(name).includes(part)))
+    .sort((a, b) => a[1].localeCompare(b[1]) || a[0] - b[0]);
+}
+
+const folded = (text) => text.normalize('NFD').replace(/\p{M}/gu, '').toLowerCase();
+
+function registerForm() {
+  return commandForm({
+    key: 'register',
+    fields: [
+      textField('name', 'Name', { maxlength: 100 }),
+      dayField('until', 'Last day of the ticket', { hint: 'The ticket is good on that day too.' }),
+    ],
+    button: 'Register',
+    send: ({ name, until }) => register(name, until),
+    done: ({ ticket }, { name, until }) => el('p', {}, el('strong', {}, readerLink(ticket), ' is registered'), `, good until ${until}. Name typed: `, words(name), '.'),
+    explain: deskWords,
+    look: lookAtNewestTicket,
+  });
+}

@@ -1,0 +1,40 @@
+// Runs: fetching what readers wait for, and the way to the slips.
+
+import { el } from '../shared/dom.js';
+import { lastNumber } from '../shared/asking.js';
+import { numberField } from '../shared/fields.js';
+import { commandForm } from '../shared/form.js';
+import { deskWords } from '../shared/refusals.js';
+import { go } from '../shared/router.js';
+import { fetchRun, slip } from '../shared/routes.js';
+import { lookAtNewestRun } from './looks.js';
+import { card, lookUp, runLink } from './parts.js';
+
+const LATEST = 8; // so many runs are listed
+
+export async function runsPage() {
+  const newest = await lastNumber(slip);
+  return { title: 'Runs', content: [
+    el('h1', {}, 'Runs'),
+    el('div', { class: 'cards' },
+      card('Fetch from the shelves', el('p', {}, 'A run fetches the containers that have been waited for longest, as many as one run carries. Its slip says where they are.'), runForm()),
+      card('Slips', latest(newest), lookUp(numberField('run', 'Run'), 'Show the slip', (number) => go(`#/runs/${number}`)))),
+  ] };
+}
+
+function latest(newest) {
+  if (newest === null) return el('p', {}, 'The office did not answer.');
+  if (newest === 0) return el('p', { class: 'quiet' }, 'There has been no run yet.');
+  const runs = Array.from({ length: Math.min(newest, LATEST) }, (_, place) => newest - place);
+  return el('ul', { class: 'latest', 'aria-label': 'The latest runs' }, runs.map((run) => el('li', {}, runLink(run))));
+}
+
+function runForm() {
+  return commandForm({
+    key: 'run', button: 'Begin a run',
+    send: fetchRun,
+    done: ({ run, taken }) => { go(`#/runs/${run}`); return el('p', {}, runLink(run), ` fetches ${taken}.`); },
+    explain: (answer) => deskWords(answer, 'run'),
+    look: lookAtNewestRun,
+  });
+}

@@ -1,0 +1,89 @@
+// Units: what the public sees of one, its status, closure and place, permits for it, and its removal.
+
+import { count, el, link } from '../shared/dom.js';
+import { checkField, choiceField, dayField, numberField } from '../shared/fields.js';
+import { commandForm } from '../shared/form.js';
+import { numberOf } from '../shared/numbers.js';
+import { deskWords } from '../shared/refusals.js';
+import { go } from '../shared/router.js';
+import { headLine } from '../shared/heads.js';
+import { fonds, move, setClosure, setStatus, unit as askUnit } from '../shared/routes.js';
+import { readFonds, readPage } from '../shared/texts.js';
+import { lookAtUnit } from './looks.js';
+import { card, heldContainer, lookUp, problem, said, unitLink } from './parts.js';
+import { permitForm, permitList } from './permits.js';
+import { removeForm } from './removal.js';
+
+export async function unitsPage(number) {
+  const field = numberField('unit', 'Unit', { hint: 'The number at the end of the address of its public page. A draft is found by its number alone.' });
+  const look = lookUp(field, 'Open the unit', (typed) => go(`#/units/${typed}`));
+  if (!number) return { title: 'Units', focus: field.querySelector('input'), content: [el('h1', {}, 'Units'), look, await tops()] };
+  const view = { number, page: el('div', { role: 'region', 'aria-label': 'What the public sees', tabindex: 0 }) };
+  await show(view);
+  return { title: `Unit ${number}`, content: [
+    el('h1', {}, `Unit ${number}`),
+    el('h2', {}, 'What the public sees'), view.page,
+    el('div', { class: 'cards' },
+      card('Status', statusForm(view)), card('Closure', closureForm(view)), card('Move', moveForm(view)),
+      card('Permits', permitForm(number), permitList(number)),
+      card('Remove', removeForm(number, () => show(view))),
+      card('Another unit', look)),
+  ] };
+}
+
+async function show(view) {
+  const answer = await askUnit(view.number);
+  view.page.replaceChildren(...(answer.ok
+    ? [el('pre', { class: 'page' }, answer.value), unitList(readPage(answer.value).units)] : [nothing(answer)]).filter(Boolean));
+}
+
+/** Units that the public sees, as links to their pages here. */
+function unitList(units) {
+  const shown = units.filter(({ number }) => number !== null);
+  return shown.length > 0 && el('ul', { class: 'lower' }, shown.map(({ number, rest }) =>
+    el('li', {}, link(`#/units/${number}`, headLine(rest)), ` (unit ${number})`)));
+}
+
+async function tops() {
+  const answer = await fonds();
+  return answer.ok ? [el('h2', {}, 'Top units that the public sees'), unitList(readFonds(answer.value)) || el('p', {}, 'None yet.')] : problem(answer);
+}
+
+function nothing(answer) {
+  if (answer.kind !== 'missing') return problem(answer);
+  return el('p', { class: 'quiet' }, 'Nothing: it is a draft, lies below a draft or a closed unit, or there is no unit with this number.');
+}
+
+function change(view, parts) {
+  return commandForm({
+    ...parts, key: `${parts.button} ${view.number}`, explain: deskWords, help: heldContainer, look: () => lookAtUnit(view.number),
+    done: async (value, values) => { await show(view); return said(...parts.done(value, values)); },
+  });
+}
+
+function statusForm(view) {
+  return change(view, {
+    fields: [choiceField('status', 'Set it to', [['published', 'Published'], ['draft', 'Draft']]), checkField('branch', 'With everything below it')],
+    button: 'Set the status',
+    send: ({ status, branch }) => setStatus(view.number, status, branch !== undefined),
+    done: ({ units }, { status }) => [`${count(units, 'unit was', 'units were')} set to ${status}.`],
+  });
+}
+
+function closureForm(view) {
+  return change(view, {
+    fields: [dayField('until', 'Closed until', { required: false, hint: 'It opens on that day. Leave the day out to end a closure.' })],
+    button: 'Set the closure',
+    send: ({ until }) => setClosure(view.number, until || null),
+    done: (value, { until }) => [until ? `Closed until ${until}.` : 'No longer closed.'],
+  });
+}
+
+function moveForm(view) {
+  return change(view, {
+    fields: [numberField('parent', 'Below which unit', { required: false, hint: 'It becomes the last one there, with everything below it. Leave the number out to make it a top unit.' })],
+    button: 'Move',
+    send: ({ parent }) => move(view.number, numberOf(parent)),
+    done: (value, { parent }) => (numberOf(parent) ? ['It is now the last below ', unitLink(numberOf(parent)), '.'] : ['It is now the last of the top units.']),
+  });
+}

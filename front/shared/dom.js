@@ -1,0 +1,39 @@
+// Builds elements. What comes from the office is only ever set as text, so no value of it can become markup.
+
+export function el(tag, attributes = {}, ...children) {
+  const node = document.createElement(tag);
+  for (const [name, value] of Object.entries(attributes)) put(node, name, value);
+  node.append(...children.flat(3).filter((child) => child !== null && child !== undefined && child !== false));
+  return node;
+}
+
+function put(node, name, value) {
+  if (value === false || value === null || value === undefined) return;
+  if (typeof value === 'function') node.addEventListener(name, value);
+  else node.setAttribute(name, value === true ? '' : String(value));
+}
+
+/** A text of the office's: its own direction of writing, its own spaces, never cut. */
+export function words(text, tag = 'span', attributes = {}) {
+  return el(tag, { dir: 'auto', ...attributes, class: `words ${attributes.class ?? ''}`.trim() }, text);
+}
+
+export function link(hash, ...children) {
+  return el('a', { href: hash }, ...children);
+}
+
+/** A table that scrolls by itself where a screen is too narrow for it. */
+export function table(caption, heads, rows) {
+  return el('div', { class: 'wide', role: 'group', tabindex: 0, 'aria-label': caption }, el('table', {},
+    el('caption', {}, caption),
+    el('thead', {}, el('tr', {}, heads.map((head) => el('th', { scope: 'col' }, head)))),
+    el('tbody', {}, rows.map((row) => el('tr', {}, row.map((cell) => el('td', {}, cell)))))));
+}
+
+export function count(number, one, many) {
+  return number === 1 ? `1 ${one}` : `${number.toLocaleString('en-GB')} ${many}`;
+}
+
+export function printButton(text) {
+  return el('button', { type: 'button', class: 'plain no-print', click: () => window.print() }, text);
+}

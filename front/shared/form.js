@@ -1,0 +1,165 @@
+// A form that gives one command. It is never sent twice: not while its answer is awaited, not by a key that is held
+// down or a second click, and not after an answer that leaves open whether the command was done, until somebody has
+// looked.
+
+import { el } from './dom.js';
+import { heldValues, keepHeld, releaseHeld } from './held.js';
+
+const PAUSE = 600; // milliseconds after an answer in which the same once more is taken for a slip of the hand
+
+/**
+ * key: a name of the form's own; fields: rows of fields.js; button: its words; kind: its class;
+ * send(values): promises an answer of routes.js; done(value, values): promises what to show where it was done;
+ * explain(answer): two sentences where it was not; help(answer, values): more to show then;
+ * look(values): promises what tells whether it was done, or null where that cannot be had now;
+ * focus(form, answer): what gets the focus after an answer (null after success);
+ * harmless: giving the command twice does no harm, so the form is never held.
+ */
+export function commandForm(parts) {
+  const press = el('button', { type: 'submit', class: parts.kind ?? '' }, parts.button);
+  const outcome = el('div', { class: 'outcome', role: 'status' });
+  const form = el('form', { class: 'command' }, parts.fields ?? [], el('p', { class: 'buttons' }, press), outcome);
+  const state = { parts, form, press, outcome, busy: false, free: 0, last: '' };
+  form.addEventListener('keydown', (event) => { stopHeldKey(event); noteMissed(event, state); });
+  press.addEventListener('click', (event) => stopSecondClick(event, state));
+  form.addEventListener('submit', (event) => submit(event, state));
+  resume(state);
+  return form;
+}
+
+function stopHeldKey(event) {
+  if (event.key === 'Enter' && event.repeat) event.preventDefault();
+}
+
+function stopSecondClick(event, state) {
+  if (event.detail > 0 && performance.now() < state.free) event.preventDefault();
+}
+
+/** A barcode that is read while the form waits goes nowhere, and whoever read it has to know. */
+function noteMissed(event, state) {
+  if (state.busy && /^[0-9]$/.test(event.key)) state.missed = true;
+}
+
+async function submit(event, state) {
+  event.preventDefault();
+  const values = Object.fromEntries(new FormData(state.form));
+  if (state.busy || isRepeat(state, values)) return;
+  begin(state);
+  const answer = await state.parts.send(values);
+  end(state);
+  if (answer.ok) await succeed(state, answer.value, values);
+  else if (answer.kind === 'uncertain' && !state.parts.harmless) hold(state, answer, values);
+  else fail(state, answer, values);
+}
+
+function isRepeat(state, values) {
+  const now = JSON.stringify(values);
+  if (performance.now() < state.free && now === state.last) return true;
+  state.last = now;
+  return false;
+}
+
+function begin(state) {
+  state.missed = false;
+  shut(state, true);
+  state.outcome.replaceChildren();
+  state.slow = setTimeout(() => state.outcome.replaceChildren(el('p', { class: 'waiting' }, 'Waiting for the office …')), 400);
+}
+
+function end(state) {
+  clearTimeout(state.slow);
+  state.free = performance.now() + PAUSE;
+  shut(state, false);
+}
+
+/** While a form is shut its fields take nothing: what a barcode reader types would join what stands there. */
+function shut(state, isShut) {
+  state.busy = isShut;
+  state.press.toggleAttribute('aria-disabled', false);
+  if (isShut) state.press.setAttribute('aria-disabled', 'true');
+  for (const input of state.form.querySelectorAll('input')) input.readOnly = isShut;
+}
+
+async function succeed(state, value, values) {
+  state.form.reset();
+  state.parts.focus?.(state.form, null);
+  const shown = await state.parts.done(value, values);
+  if (shown) state.outcome.replaceChildren(note('done', [shown, missed(state)]));
+}
+
+const missed = (state) => state.missed && el('p', {}, 'A number was typed or scanned while the office was busy. It was not taken: please do it again.');
+
+function fail(state, answer, values) {
+  state.outcome.replaceChildren(note('refused', [
+    refusal(state.parts, answer), state.parts.help?.(answer, values, () => sendAgain(state)), missed(state)]));
+  if (state.parts.focus) state.parts.focus(state.form, answer);
+  else selectFirst(state.form);
+}
+
+/** For whoever has seen to what was refused: the same values are no slip of the hand then. */
+function sendAgain(state) {
+  state.last = '';
+  state.form.requestSubmit();
+}
+
+function selectFirst(form) {
+  const input = form.querySelector('input') ?? form.querySelector('button[type=submit]');
+  input?.focus();
+  if (input?.type === 'text') input.select();
+}
+
+/** A form that was held when its page was left is held when it is shown again. */
+function resume(state) {
+  const values = state.parts.key && heldValues(state.parts.key);
+  if (!values) return;
+  for (const [name, value] of Object.entries(values)) putBack(state.form.elements[name], value);
+  hold(state, { ok: false, kind: 'uncertain' }, values);
+}
+
+/** A list of choices takes its value as one field does; a file cannot be put back. */
+function putBack(field, value) {
+  if (!field || field.type === 'file') return;
+  if (field.type === 'checkbox') field.checked = true;
+  else field.value = value;
+}
+
+/** Nobody can tell whether it was done: the form stays shut until somebody has looked. */
+function hold(state, answer, values) {
+  shut(state, true);
+  if (state.parts.key) keepHeld(state.parts.key, values);
+  const seen = el('div', {});
+  const look = el('button', { type: 'button', click: () => showWhatIs(state, values, seen) }, 'Look now');
+  state.outcome.replaceChildren(note('refused', [refusal(state.parts, answer), el('p', { class: 'buttons' }, look), seen]));
+  look.focus();
+}
+
+async function showWhatIs(state, values, seen) {
+  seen.replaceChildren(el('p', { class: 'waiting' }, 'Looking …'));
+  const what = await (state.parts.look?.(values) ?? null);
+  if (what === null) {
+    seen.replaceChildren(el('p', {}, 'This cannot be seen now, so the form stays shut. Try again in a minute.'));
+    return;
+  }
+  const done = el('button', { type: 'button', class: 'plain', click: () => release(state, true) }, 'It was done');
+  const undone = el('button', { type: 'button', class: 'plain', click: () => release(state, false) }, 'It was not done: open the form');
+  seen.replaceChildren(el('div', { class: 'seen' }, what), el('p', { class: 'buttons' }, done, undone));
+}
+
+function release(state, wasDone) {
+  releaseHeld(state.parts.key);
+  end(state);
+  state.last = '';
+  if (wasDone) state.form.reset();
+  state.outcome.replaceChildren();
+  selectFirst(state.form);
+}
+
+function refusal(parts, answer) {
+  const [means, todo] = parts.explain(answer);
+  return el('p', {}, el('strong', {}, means), ' ', todo);
+}
+
+/** A note below a form: `done` or `refused`. */
+export function note(kind, content) {
+  return el('div', { class: `note ${kind}` }, content);
+}

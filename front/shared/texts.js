@@ -1,0 +1,150 @@
+// Reads the program's texts line by line, and never guesses. A line feed ends a line and stands nowhere else; a
+// value may hold anything besides. So a line is known by how it begins, and the rest of it is shown as it is.
+
+/** The areas of ISAD(G), second edition, and its elements that a line may have. */
+export const AREAS = {
+  '3.1': 'Identity statement', '3.2': 'Context', '3.3': 'Content and structure',
+  '3.4': 'Conditions of access and use', '3.5': 'Allied materials', '3.6': 'Notes', '3.7': 'Description control',
+};
+
+const ELEMENTS = [
+  ['3.1.3', 'Date(s)'],
+  ['3.1.5', 'Extent and medium of the unit of description'],
+  ['3.2.1', 'Name of creator(s)', 'above'],
+  ['3.2.2', 'Administrative / Biographical history', 'above'],
+  ['3.2.3', 'Archival history', 'above'],
+  ['3.2.4', 'Immediate source of acquisition or transfer', 'above'],
+  ['3.3.1', 'Scope and content'],
+  ['3.3.2', 'Appraisal, destruction and scheduling information'],
+  ['3.3.3', 'Accruals'],
+  ['3.3.4', 'System of arrangement'],
+  ['3.4.1', 'Conditions governing access', 'above'],
+  ['3.4.2', 'Conditions governing reproduction', 'above'],
+  ['3.4.3', 'Language/scripts of material', 'above'],
+  ['3.4.4', 'Physical characteristics and technical requirements'],
+  ['3.4.5', 'Finding aids'],
+  ['3.5.1', 'Existence and location of originals'],
+  ['3.5.2', 'Existence and location of copies'],
+  ['3.5.3', 'Related units of description'],
+  ['3.5.4', 'Publication note'],
+  ['3.6.1', 'Note'],
+  ['3.7.1', 'Archivist\'s Note'],
+  ['3.7.2', 'Rules or Conventions', 'above'],
+  ['3.7.3', 'Date(s) of descriptions'],
+].map(([number, name, above]) => ({ number, name, above: above === 'above' }));
+
+/** The lines of a text. */
+export function linesOf(text) {
+  const lines = text.split('\n');
+  if (lines.at(-1) === '') lines.pop();
+  return lines;
+}
+
+/** The list of fonds: each line is a unit's number, a space, its head line. */
+export function readFonds(text) {
+  return linesOf(text).map((line) => numbered(line, '', ' ') ?? { number: null, rest: line });
+}
+
+/**
+ * A head line in its parts: `CODE [LEVEL] TITLE`. Code, level and title may hold brackets themselves. So it is cut only
+ * where one cut is possible: where ` [` stands in it once and `] ` once, the one before the other.
+ */
+export function readHead(head) {
+  const open = placesOf(' [', head);
+  const close = placesOf('] ', head);
+  if (open.length !== 1 || close.length !== 1 || close[0] < open[0]) return null;
+  return { code: head.slice(0, open[0]), level: head.slice(open[0] + 2, close[0]), title: head.slice(close[0] + 2) };
+}
+
+/** A unit's page: its head line, and what follows by kind. A line of no known kind is kept whole, in `others`. */
+export function readPage(text) {
+  const [head, ...lines] = linesOf(text);
+  const page = { head, elements: [], containers: [], units: [], others: [] };
+  for (const line of lines) readLine(page, line.slice(2));
+  return page;
+}
+
+/** A finding aid: each line with its depth, and whether it is a unit's head line. */
+export function readAid(text) {
+  return linesOf(text).map((line) => {
+    const own = line.trimStart();
+    return { text: own, depth: (line.length - own.length) / 2, isHead: isHeadLine(own) };
+  });
+}
+
+/** Only head lines begin with a country's two capitals: other lines begin with a digit or with `Container`. */
+const isHeadLine = (line) => /^[A-Z]{2} /.test(line);
+
+/** The head lines of a finding aid. */
+export function headsOfAid(text) {
+  return readAid(text).filter((line) => line.isHead).map((line) => line.text);
+}
+
+/** Which units of a finding aid name a container: the head lines, by the container's number. */
+export function containersOfAid(text) {
+  const found = new Map();
+  let head = null;
+  for (const line of readAid(text)) {
+    if (line.isHead) head = line.text;
+    const container = line.isHead ? null : numbered(line.text, 'Container ', ': ');
+    if (container && head) found.set(container.number, [...(found.get(container.number) ?? []), head]);
+  }
+  return found;
+}
+
+/** Whether a head line ends as a closed unit's does. A title may read so too: tell nothing of the unit by it. */
+export function endsAsClosed(head) {
+  return /\] closed until \d{4}-\d\d-\d\d$/.test(head);
+}
+
+/** The lines of a slip: the last three of each are numbers, whatever stands before them. */
+export function readSlip(text) {
+  return linesOf(text).slice(1).flatMap((line) => {
+    const found = / +([0-9]+) +([0-9]+) +([0-9]+)$/.exec(line);
+    return found ? [{ container: found[1], order: found[2], ticket: found[3] }] : [];
+  });
+}
+
+function readLine(page, line) {
+  const container = numbered(line, 'Container ', ': ');
+  const unit = numbered(line, 'Unit ', ': ');
+  const element = ELEMENTS.find(({ number, name }) => line.startsWith(`${number} ${name}: `));
+  if (element) page.elements.push(elementOf(element, line, page.head));
+  else if (container) page.containers.push({ number: container.number, ...splitMark(container.rest, page.head) });
+  else if (unit) page.units.push(unit);
+  else page.others.push(line);
+}
+
+function elementOf({ number, name, above }, line, head) {
+  const text = line.slice(`${number} ${name}: `.length);
+  return { number, name, ...(above ? splitMark(text, head) : { text, mark: '' }) };
+}
+
+function numbered(line, before, after) {
+  if (!line.startsWith(before)) return null;
+  const end = line.indexOf(after, before.length);
+  const number = line.slice(before.length, end);
+  return end > 0 && /^[1-9][0-9]{0,9}$/.test(number) ? { number, rest: line.slice(end + after.length) } : null;
+}
+
+/**
+ * Cuts ` (from CODE)` off the end, where CODE begins the head line as the code of a unit above does, and where only
+ * one such cut is possible. A value may still end so by itself. So the mark is kept to the letter, to be shown in its
+ * place and only more quietly.
+ */
+function splitMark(text, head) {
+  const cuts = placesOf(' (from ', text).filter((at) => isCodeAbove(text.slice(at + 7, -1), head));
+  if (!text.endsWith(')') || cuts.length !== 1) return { text, mark: '' };
+  return { text: text.slice(0, cuts[0]), mark: text.slice(cuts[0]) };
+}
+
+function placesOf(part, text) {
+  const places = [];
+  for (let at = text.indexOf(part); at >= 0; at = text.indexOf(part, at + 1)) places.push(at);
+  return places;
+}
+
+/** Whether a unit above the one with this head line may have this code. */
+export function isCodeAbove(code, head) {
+  return /^[A-Z]{2} [!-~]+/.test(code) && (head.startsWith(`${code}/`) || head.startsWith(`${code} `));
+}

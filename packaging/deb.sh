@@ -1,0 +1,88 @@
+#!/usr/bin/env bash
+# Makes a Debian package of the built program, the pages, the front's configuration, the units and the manual page:
+#
+#     packaging/deb.sh PROGRAM [OUT]
+#
+# OUT is the folder that the package goes to, without a word this one's `out`. DEBFULLNAME and DEBEMAIL name who makes it.
+set -euo pipefail
+top=$(cd "$(dirname "$0")/.." && pwd)
+[ $# -ge 1 ] && [ -x "$1" ] || { echo "usage: packaging/deb.sh PROGRAM [OUT]" >&2; exit 2; }
+program=$1
+out=${2:-$top/packaging/out}
+maintainer="${DEBFULLNAME:-Record Office} <${DEBEMAIL:-office@record-office.invalid}>"
+version=$(sed -n 's/^## \[\([0-9.]*\)\].*/\1/p' "$top/CHANGELOG.md" | head -1)
+arch=$(dpkg --print-architecture)
+root=$(mktemp -d)
+trap 'rm -rf "$root"' EXIT
+chmod 755 "$root"
+
+# place MODE FOLDER FILE ..: files, with this mode, in a folder of the package
+place() {
+    local mode=$1 folder=$root/$2
+    shift 2
+    install -d -m 755 "$folder"
+    install -m "$mode" "$@" "$folder"
+}
+
+# The C library's version that the program asks for: the greatest of those that its symbols name.
+needed_libc() {
+    objdump -T "$1" | grep -o 'GLIBC_[0-9.]*' | cut -d_ -f2 | sort -Vu | tail -1
+}
+
+place 755 usr/bin "$program"
+[ "$(basename "$program")" = record_office ] || mv "$root/usr/bin/$(basename "$program")" "$root/usr/bin/record_office"
+strip --strip-unneeded --remove-section=.comment "$root/usr/bin/record_office"
+for part in public desk shared; do
+    (cd "$top/front" && find "$part" -type f ! -name '.*') | while read -r file; do
+        place 644 "usr/share/record-office/front/$(dirname "$file")" "$top/front/$file"
+    done
+done
+for file in "$top"/front/server/*; do
+    case ${file##*/} in
+    nginx.conf) place 644 etc/nginx/sites-available "$file" && mv "$root"/etc/nginx/sites-available/{nginx.conf,record-office} ;;
+    tls.conf) place 644 usr/share/doc/record-office/examples "$file" ;;
+    *) place 644 etc/record-office "$file" ;;
+    esac
+done
+place 644 lib/systemd/system "$top"/packaging/*.service
+place 644 usr/share/man/man1 "$top/packaging/record_office.1"
+place 644 usr/share/doc/record-office "$top/packaging/copyright" "$top/docs/OPERATING.md" "$top/docs/RULES.md" "$top/CHANGELOG.md"
+place 644 usr/share/doc/record-office/examples "$top/examples/archives.csv" "$top/examples/fonds.csv"
+place 644 usr/share/lintian/overrides "$top/packaging/lintian-overrides"
+mv "$root/usr/share/lintian/overrides/lintian-overrides" "$root/usr/share/lintian/overrides/record-office"
+(
+    cd "$root/usr/share/doc/record-office"
+    mv CHANGELOG.md changelog
+    python3 "$top/packaging/debian_changelog.py" "$top/CHANGELOG.md" "$maintainer" >changelog.Debian
+    gzip -9n changelog changelog.Debian OPERATING.md RULES.md
+)
+if [ -d "$top/docs/pictures" ]; then place 644 usr/share/doc/record-office/pictures "$top"/docs/pictures/*.png; fi
+gzip -9n "$root/usr/share/man/man1/record_office.1"
+
+install -d -m 755 "$root/DEBIAN"
+install -m 755 "$top"/packaging/{postinst,prerm,postrm} "$root/DEBIAN"
+(cd "$root" && find etc -type f -printf '/%p\n' | sort) >"$root/DEBIAN/conffiles"
+(cd "$root" && find usr lib -type f -print0 | sort -z | xargs -0 md5sum) >"$root/DEBIAN/md5sums"
+cat >"$root/DEBIAN/control" <<END
+Package: record-office
+Version: $version-1
+Architecture: $arch
+Maintainer: $maintainer
+Installed-Size: $(du -sk --exclude=DEBIAN "$root" | cut -f1)
+Depends: adduser, libc6 (>= $(needed_libc "$program"))
+Recommends: haproxy (>= 2.4), nginx (>= 1.19.4), openssl, sqlite3
+Section: database
+Priority: optional
+Description: public side of a record office: catalogue and reading room
+ The program takes archival description CSV files as AtoM exports them, shows
+ finding aids by ISAD(G), and runs the desk of a reading room: orders, runs,
+ slips, seats, closures and permits. One file keeps the office.
+ .
+ Pages for readers and for staff come with it, the configuration of nginx and
+ of an HAProxy of its own before the program, and units for systemd. Nothing is
+ started before an office has been made.
+END
+chmod 644 "$root"/DEBIAN/{control,conffiles,md5sums}
+mkdir -p "$out"
+dpkg-deb --root-owner-group --build "$root" "$out/record-office_$version-1_$arch.deb" >/dev/null
+echo "$out/record-office_$version-1_$arch.deb"

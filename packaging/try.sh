@@ -1,0 +1,118 @@
+#!/usr/bin/env bash
+# Makes the package, asks lintian, installs it on a clean Debian root, boots systemd there in namespaces of its own, runs an
+# office by the lines of OPERATING, upgrades, removes and purges it, and says what it did:
+#
+#     packaging/try.sh PROGRAM [ROOT.tar]
+#
+# ROOT.tar is the clean root, which is made where it is not there (some two minutes). Needs root, mmdebstrap, lintian and the
+# network for Debian's packages; nothing outside its folder is changed but a control group of its own, which it takes away.
+# Its last line is `N passed, M failed`; where systemd cannot be begun here it says so, and that counts as failed.
+set -euo pipefail
+here=$(cd "$(dirname "$0")" && pwd)
+[ $# -ge 1 ] || { echo "usage: packaging/try.sh PROGRAM [ROOT.tar]" >&2; exit 2; }
+room=$(mktemp -d)
+chmod 755 "$room"
+tar=${2:-$room/root.tar}
+group=/sys/fs/cgroup/unified/record-office-try.$$
+booted=
+passed=0
+failed=0
+
+ends() {
+    [ -z "$booted" ] || kill -KILL "$booted" 2>/dev/null || true
+    sleep 1
+    [ ! -d "$group" ] || find "$group" -depth -type d -exec rmdir {} + 2>/dev/null || true
+    rm -rf --one-file-system "$room"
+}
+trap ends EXIT
+
+# is WHAT STATUS: counts one thing that was tried
+is() {
+    if [ "$2" = 0 ]; then
+        passed=$((passed + 1))
+        echo "passed: $1"
+    else
+        failed=$((failed + 1))
+        echo "FAILED: $1"
+    fi
+}
+
+deb=$("$here/deb.sh" "$1" "$room")
+lintian --fail-on error,warning "$deb" >"$room/lintian" 2>&1 && is "lintian finds no error and no warning" 0 || {
+    cat "$room/lintian"
+    is "lintian finds no error and no warning" 1
+}
+
+how=0
+said=$(LC_ALL=C.UTF-8 MANWIDTH=80 man --warnings -l -Tutf8 "$here/record_office.1" 2>&1 >/dev/null) || how=$?
+[ -z "$said" ] || how=1
+is "man finds nothing wrong with the manual page${said:+: $said}" "$how"
+
+[ -s "$tar" ] || mmdebstrap --quiet --variant=minbase --include=systemd-sysv,dbus,curl,iproute2,ca-certificates bookworm "$tar"
+root=$room/root
+mkdir "$root"
+tar -C "$root" -xf "$tar" --exclude='./dev/*'
+cp /etc/resolv.conf "$root/etc/resolv.conf"
+cp "$deb" "$root/root/record-office.deb"
+cp "$here/try_inside.sh" "$root/root"
+cp "$here/../examples/archives.csv" "$root/root"
+mkdir -p "$root/root/top/crates/record_office/out"
+cp -r "$here/../front" "$here/../packaging" "$root/root/top"
+cp "$1" "$root/root/top/crates/record_office/out/record_office"
+install() {
+    unshare -mpf --kill-child bash -c "
+        mount --bind '$root' '$root'; mount -t proc proc '$root/proc'; mount --rbind /dev '$root/dev'; mount -t tmpfs none '$root/run'
+        chroot '$root' sh -c 'export DEBIAN_FRONTEND=noninteractive; apt-get update -qq && apt-get install -qq -y /root/record-office.deb'"
+}
+install >"$room/install" 2>&1 && is "apt installs the package, with nginx and HAProxy, on a clean root" 0 || {
+    tail -20 "$room/install"
+    is "apt installs the package, with nginx and HAProxy, on a clean root" 1
+}
+
+# systemd as the first process of its own namespaces, in a control group of its own, with a network of loopback alone
+boot() {
+    mkdir "$group"
+    setsid bash -c "echo \$\$ >'$group/cgroup.procs'; exec unshare -mpfCn --kill-child bash -c '
+        mount --bind $root $root; cd $root
+        mount -t proc proc proc; mount -t sysfs -o ro sysfs sys; mount -t tmpfs none run; mount -t tmpfs none tmp; mount --rbind /dev dev
+        mount -t cgroup2 none sys/fs/cgroup; ip link set lo up
+        pivot_root . mnt; umount -l /mnt; exec env container=other /lib/systemd/systemd'" <"/dev/null" >"$room/boot" 2>&1 &
+    for _ in $(seq 30); do
+        sleep 1
+        booted=$(pgrep -f '^/lib/systemd/systemd$' | while read -r one; do
+            [ "$(readlink "/proc/$one/root")" != / ] || [ "$(readlink "/proc/$one/ns/pid")" = "$(readlink /proc/self/ns/pid)" ] || echo "$one"
+        done | head -1)
+        [ -z "$booted" ] || return 0
+    done
+    return 1
+}
+
+# inside COMMAND ..: runs it there, and counts what it says
+inside() {
+    nsenter -t "$booted" -m -p -n -C "$@" >"$room/inside" 2>&1 || true
+    cat "$room/inside"
+    passed=$((passed + $(grep -c '^passed: ' "$room/inside" || true)))
+    failed=$((failed + $(grep -c '^FAILED: ' "$room/inside" || true)))
+}
+
+# operating PLACE FOLDER: the lines of OPERATING that are of this place
+operating() {
+    local how=0
+    "$here/../acceptance/operating.py" --place "$1" --shell "nsenter -t $booted -m -p -n -C bash -c 'cd $2 && exec bash'" >"$room/lines" || how=$?
+    grep -v '^left out' "$room/lines" || true
+    is "the lines of OPERATING, place '$1': $(tail -1 "$room/lines")" "$how"
+}
+
+if boot && sleep 3; then
+    is "systemd begins there" 0
+    inside bash /root/try_inside.sh before
+    operating package /root
+    inside bash /root/try_inside.sh after
+    grep -q '^to the end$' "$room/inside" || is "the trial inside came to its end" 1
+    operating hand /root/top
+else
+    cat "$room/boot"
+    is "systemd begins there" 1
+fi
+echo "$passed passed, $failed failed"
+[ "$failed" = 0 ]
