@@ -42,7 +42,7 @@ async function askFirst(day) {
   const question = {
     title: `Open ${day}?`, stay: 'Open no day', go: `Open ${day}`,
     content: el('p', {}, `By the clock of this computer today is ${today}. A day that has been opened cannot be taken back: `
-      + 'every ticket and every closure that ends before it is over then.'),
+      + 'tickets that end before it expire, and what is closed until then opens.'),
   };
   return await isSure(question) ? null : STAYED;
 }
