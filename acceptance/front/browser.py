@@ -93,7 +93,7 @@ class Page:
             raise RuntimeError(f"{code}: {got['exceptionDetails']['exception'].get('description')}")
         return got["result"].get("value")
 
-    def wait(self, condition, seconds=10):
+    def wait(self, condition, seconds=20):
         end = time.time() + seconds
         while time.time() < end:
             if self.js(f"Boolean({condition})"):
@@ -118,7 +118,7 @@ class Page:
     def text(self, selector="main"):
         return self.js(f"document.querySelector({json.dumps(selector)})?.innerText ?? ''")
 
-    def see(self, words, selector="main", seconds=10):
+    def see(self, words, selector="main", seconds=20):
         quoted, place = json.dumps(words), json.dumps(selector)
         self.wait(f"(document.querySelector({place})?.innerText ?? '').includes({quoted})", seconds)
 

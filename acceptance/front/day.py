@@ -20,7 +20,8 @@ class Day:
 
     def play(self):
         for part in (self.registers, self.finds, self.reader_orders, self.desk_orders, self.fetches, self.counter, self.waits,
-                     self.out, self.takes_back, self.permits, self.units, self.removes, self.next_day, self.keyboard, self.uncertain):
+                     self.out, self.takes_back, self.permits, self.units, self.removes, self.next_day, self.keyboard, self.slow,
+                     self.uncertain, self.every_form_is_held):
             self.checks.part(f"day: {part.__name__}", part)
 
     # The catalogue comes in
@@ -66,23 +67,23 @@ class Day:
             page.fill("Last day of the ticket", FAR, "Register a reader")
             page.js("(() => { const form = [...document.querySelectorAll('.card')].at(-1).querySelector('form');"
                     "form.requestSubmit(); form.requestSubmit(); })()")
-            page.see(f"Name typed: {name}", ".outcome")
+            page.see(f"Registered: {name}, ticket", ".outcome")
             time.sleep(0.65)
         self.shot(page, "desk-readers")
         self.checks.same("two presses register one reader", self.asks.get("/desk/readers/5", True)[0], 404)
-        self.checks.same("names as they were typed", [json.loads(self.asks.text(f"/desk/readers/{t}", True))["name"] for t in (1, 4)],
-                         ["Ann <b>Smith</b>", "\u202eneB"])
+        names = [json.loads(self.asks.text(f"/desk/readers/{ticket}", True))["name"] for ticket in (1, 4)]
+        self.checks.same("names as they were typed", names, ["Ann <b>Smith</b>", "\u202eneB"])
 
     def finds(self):
         page = self.at("/readers")
-        for who, found in (("zoe luk", ["Zo\u00eb \u0141ukasz"]), ("SMITH ann", ["Ann <b>Smith</b>"]), ("<b>", ["Ann <b>Smith</b>"]), ("nobody", [])):
-            if "luk" in who:
-                who = "zoe"
+        ann, zoe = "Ann <b>Smith</b>", "Zo\u00eb \u0141ukasz"
+        for who, found in (("zoe luk", [zoe]), ("SMITH ann", [ann]), ("<b>", [ann]), ("nobody", [])):
             page.fill("Name or ticket number", who)
             page.press("Find")
             page.see(f"{len(found)} reader", ".told")
             page.wait("!document.querySelector('.told').innerText.includes('…')")
-            self.checks.same(f"a reader is found by “{who}”", page.js("[...document.querySelectorAll('.find td a')].map((a) => a.textContent)"), found)
+            names = page.js("[...document.querySelectorAll('.find td a')].map((a) => a.textContent)")
+            self.checks.same(f"a reader is found by “{who}”", names, found)
         page.fill("Name or ticket number", "n")
         page.press("Find")
         page.see("3 readers with", ".told")
@@ -171,8 +172,10 @@ class Day:
         page.key("Enter")
         page.see("Issued: Box 1, container")
         page.wait("document.activeElement.name === 'ticket'")
-        self.checks.same("issued by keys alone", json.loads(self.asks.text("/desk/issued", True)), [{"container": int(box), "order": 1, "ticket": 1}])
-        self.checks.same("both fields are empty again", page.js("[...document.querySelector('form.command').querySelectorAll('input')].map((one) => one.value)"), ["", ""])
+        out = json.loads(self.asks.text("/desk/issued", True))
+        self.checks.same("issued by keys alone", out, [{"container": int(box), "order": 1, "ticket": 1}])
+        fields = page.js("[...document.querySelector('form.command').querySelectorAll('input')].map((one) => one.value)")
+        self.checks.same("both fields are empty again", fields, ["", ""])
         self.shot(page, "desk-counter-issued", full=False)
         page.scan("2")
         page.wait("document.activeElement.name === 'container'")
@@ -314,7 +317,8 @@ class Day:
 
     def next_day(self):
         page = self.at("/")
-        self.checks.check("the clock's date is suggested", page.js("/^\\d{4}-\\d\\d-\\d\\d$/.test(document.querySelector('input[type=date]').value)"))
+        suggested = page.js("document.querySelector('input[type=date]').value")
+        self.checks.same("the clock's date is suggested", suggested, page.js("new Date().toLocaleDateString('sv')"))
         page.fill("The new day", "2024-03-02")
         page.press("Open the day")
         page.see("A day that has been opened cannot be taken back", "dialog")
@@ -394,6 +398,49 @@ class Day:
         self.page.fill("Last day of the ticket", FAR, "Register a reader")
         self.page.press("Register", "Register a reader")
 
+    def every_form_is_held(self):
+        """Each command's form is shut by a 503, and opened by looking alone."""
+        plans, box = str(self.unit("plans")), self.container("Box 2")
+        for hash_, card, fields, button, route in (
+                ("/counter", "Issue", {"Ticket": "1", "Container": box}, "Issue", "issue"),
+                ("/counter", "Take back", {"Container": box}, "Take back", "return"),
+                ("/counter", "A reader arrives", {"Ticket": "1"}, "Give a seat", "seat"),
+                ("/counter", "A reader leaves", {"Ticket": "1"}, "Free the seat", "leave"),
+                (f"/counter/{box}", "Order it for a reader", {"Ticket": "1"}, "Order", "orders"),
+                ("/orders", "Place an order", {"Ticket": "1", "Container": box}, "Order", "orders"),
+                ("/orders", "Cancel an order", {"Order": "1"}, "Cancel the order", "cancel"),
+                ("/runs", "Fetch from the shelves", {}, "Begin a run", "run"), ("/out", "Reshelve", {}, "Reshelve", "reshelve"),
+                ("/readers/1", "Renew", {"New last day": FAR}, "Renew", "renew"),
+                ("/readers/1", "Give a permit", {"Unit": plans, "Last day of the permit": FAR}, "Give a permit", "permit"),
+                (f"/units/{plans}", "Closure", {"Closed until": FAR}, "Set the closure", "closure"),
+                (f"/units/{plans}", "Move", {"Below which unit": ""}, "Move", "move")):
+            self.is_held(hash_, card, fields, button, route)
+
+    def is_held(self, hash_, card, fields, button, route):
+        page = self.at(hash_)
+        page.answer_with(f"*/{route}", 503, b'{"error":"busy"}')
+        for label, value in fields.items():
+            page.fill(label, value, card)
+        page.press(button, card)
+        page.see("Look before you repeat it.")
+        page.answer_with(None, 0, b"")
+        page.press("Look now", card)
+        page.wait("document.querySelector('.seen')?.innerText.length > 10")
+        page.press("It was done", card)
+        self.checks.check(f"{hash_} {button} is held, shows where to look, and opens", "Look before you repeat it." not in page.text())
+
+    def slow(self):
+        """What is scanned while the office is slow is not taken, and the clerk is told."""
+        page = self.at("/counter")
+        page.js("[...document.querySelectorAll('.card')][1].querySelector('input').focus()")
+        with self.asks.office.without_program():
+            page.scan("998")
+            page.see("Waiting for the office …")
+            page.scan("997")
+            self.checks.same("the field keeps the first number", page.js("document.activeElement.value"), "998")
+        page.see("There is no container with this number.", seconds=30)
+        self.checks.check("the clerk is told of the second number", "was not taken: please do it again" in page.text(), page.text())
+
     def unsent(self):
         page = self.at("/readers")
         page.answer_with("*/desk/register", 503, b'{"error":"not reached"}')
@@ -402,7 +449,7 @@ class Day:
         page.answer_with(None, 0, b"")
         time.sleep(0.65)
         page.press("Register", "Register a reader")
-        page.see("Name typed: Cid", ".outcome")
+        page.see("Registered: Cid, ticket", ".outcome")
         self.checks.same("what was not passed on may be sent again, once", self.asks.get("/desk/readers/6", True)[0], 404)
 
 

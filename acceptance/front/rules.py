@@ -57,8 +57,8 @@ class Rules:
         self.checks.same("no odd path did anything", self.state(), before)
 
     def readers_limits(self):
-        for path, wanted in (("/public/units/1", 200), ("/public/units/01", 404), ("/public/units/1/", 404), ("/public/units/99999999999", 404),
-                             ("/public/fonds/", 404), ("/public/orders", 405), ("/public/", 404)):
+        for path, wanted in (("/public/units/1", 200), ("/public/units/01", 404), ("/public/units/1/", 404),
+                             ("/public/units/99999999999", 404), ("/public/fonds/", 404), ("/public/orders", 405), ("/public/", 404)):
             self.checks.same(f"readers and {path}", self.asks.get(path)[0], wanted)
         large = b"{" + b" " * 20000 + b"}"
         self.checks.same("a large order is not taken", self.asks.call("POST", "/public/orders", large, False)[0], 413)
@@ -68,7 +68,8 @@ class Rules:
             got = raw(self.staff, f"GET {path} HTTP/1.1\r\nHost: 127.0.0.1:{self.staff}\r\nConnection: close\r\n\r\n")
             self.checks.same(f"no password, no {path}", status(got), 401)
         wrong = base64.b64encode(f"{PASSWORD[0]}:wrong".encode()).decode()
-        got = raw(self.staff, f"GET /desk/issued HTTP/1.1\r\nHost: 127.0.0.1:{self.staff}\r\nAuthorization: Basic {wrong}\r\nConnection: close\r\n\r\n")
+        got = raw(self.staff, f"GET /desk/issued HTTP/1.1\r\nHost: 127.0.0.1:{self.staff}\r\n"
+                              f"Authorization: Basic {wrong}\r\nConnection: close\r\n\r\n")
         self.checks.same("a wrong password", status(got), 401)
         self.checks.same("the right password", self.asks.get("/desk/issued", True), (200, "[]"))
 
@@ -90,11 +91,13 @@ class Rules:
     def heads(self):
         """What each answer tells a browser: scripts from here alone, and none made from texts."""
         for port, path in ((self.public, "/"), (self.public, "/public/fonds"), (self.public, "/no"), (self.staff, "/desk/issued")):
-            got = raw(port, f"GET {path} HTTP/1.1\r\nHost: 127.0.0.1:{port}\r\nAuthorization: {SIGNED_IN['Authorization']}\r\nConnection: close\r\n\r\n")
+            got = raw(port, f"GET {path} HTTP/1.1\r\nHost: 127.0.0.1:{port}\r\n"
+                            f"Authorization: {SIGNED_IN['Authorization']}\r\nConnection: close\r\n\r\n")
             head = got.split(b"\r\n\r\n", 1)[0].decode().lower()
             policy = next((line for line in head.splitlines() if line.startswith("content-security-policy:")), "")
-            strict = "default-src 'none'" in policy and "script-src 'self'" in policy and "require-trusted-types-for 'script'" in policy
-            self.checks.check(f"a strict policy at {path}", strict and "unsafe" not in policy and "x-content-type-options: nosniff" in head, head)
+            strict = all(part in policy for part in ("default-src 'none'", "script-src 'self'", "require-trusted-types-for 'script'"))
+            strict = strict and "unsafe" not in policy and "x-content-type-options: nosniff" in head
+            self.checks.check(f"a strict policy at {path}", strict, head)
 
     def foreign_page(self):
         """A page of another site, open in the browser of a member of staff who is signed in."""
@@ -109,8 +112,8 @@ class Rules:
         other = serve(html)
         self.page.call("Page.navigate", url=f"http://127.0.0.1:{other.server_port}/")
         self.page.wait(f"location.href.startsWith('{site}')")
-        self.checks.check("what another site's page sends is turned away", "another site" in self.page.text("body") or "403" in self.page.text("body"),
-                          self.page.text("body"))
+        told = self.page.text("body")
+        self.checks.check("what another site's page sends is turned away", "another site" in told or "403" in told, told)
         self.checks.same("and nothing was done", self.state(), before)
         other.shutdown()
 

@@ -62,9 +62,10 @@ class Visit:
             page = self.at(hash_[1:])
             seen = page.js("document.querySelector('main').textContent")
             self.checks.check(f"odd text stands as it is: {name}", seen.count(text) >= 3, seen)
-            made = page.js("document.querySelectorAll('main img, main b, main i, main script, main style, main title, main [onmouseover]').length")
+            made = page.js("document.querySelectorAll('main :is(img, b, i, script, style, title, [onmouseover])').length")
             self.checks.same(f"odd text is no markup: {name}", made, 0)
-            self.shot(page, f"reader-odd-{name}") if name in ("markup", "override", "long", "closed") else None
+            if name in ("markup", "override", "long", "closed"):
+                self.shot(page, f"reader-odd-{name}")
         self.checks.check("no odd text ran", page.js("document.title !== 'broken'"))
         page = self.at(f"/unit/{top}")
         self.checks.check("a draft is not listed", "Letters of the secretary" not in page.text())
@@ -80,9 +81,10 @@ class Visit:
         page = self.at(f"/unit/{int(top) + 4}")
         page.see("Weekly meetings (from GB 0999 HUL) and yearly accounts.")
         page.wait("document.querySelectorAll('nav.way li').length === 3")
-        self.checks.same("the way down to a unit that was come to directly", page.js(
-            "[...document.querySelectorAll('nav.way a')].map((a) => [a.hash, a.textContent])"),
-            [["#/", "Archives"], [f"#/unit/{top}", "GB 0999 HUL [Fonds] Hull Dock Company"], [f"#/unit/{series}", "GB 0999 HUL/1 [Series] Minutes"]])
+        way = page.js("[...document.querySelectorAll('nav.way a')].map((a) => [a.hash, a.textContent])")
+        self.checks.same("the way down to a unit that was come to directly", way, [
+            ["#/", "Archives"], [f"#/unit/{top}", "GB 0999 HUL [Fonds] Hull Dock Company"],
+            [f"#/unit/{series}", "GB 0999 HUL/1 [Series] Minutes"]])
         self.shot(page, "reader-file")
         page.press("GB 0999 HUL/1 [Series] Minutes")
         page.see("Box 1")
@@ -175,8 +177,10 @@ class Visit:
         top = self.number_of("Hull Dock Company", "HUL")
         page = self.at(f"/unit/{int(top) + 1}")
         page.press_starting("Order container")
-        for ticket, words in (("999", "There is no reader’s ticket with this number."), (" 0001 ", "Ordered. Your order has the number 1."),
-                              ("1", "You have ordered this container already."), ("2", "Ordered. Your order has the number 2.")):
+        for ticket, words in (("999", "There is no reader’s ticket with this number."),
+                              (" 0001 ", "Ordered. Your order has the number 1."),
+                              ("1", "You have ordered this container already."),
+                              ("2", "Ordered. Your order has the number 2.")):
             page.fill("Number of your reader’s ticket", ticket)
             page.press("Order this container")
             page.see(words)

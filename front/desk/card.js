@@ -10,8 +10,12 @@ import { lookAtPermits, lookAtReader } from './looks.js';
 import { boxLink } from './names.js';
 import { card, heldContainer, problem, said, unitLink } from './parts.js';
 
+const PERMIT = 'A permit opens a closed unit to this reader, with the closed units above and below it. It does not open drafts.';
+
 export async function cardPage(ticket) {
-  const view = { ticket, name: el('p', { class: 'big-name' }), head: el('div', { class: 'reader' }), told: el('div', { role: 'status' }) };
+  const view = {
+    ticket, name: el('p', { class: 'big-name' }), head: el('div', { class: 'reader' }), told: el('div', { role: 'status' }),
+  };
   const isThere = await show(view);
   return { title: `Ticket ${ticket}`, content: [
     el('h1', {}, `Ticket ${ticket}`), view.name, view.told, view.head,
@@ -19,7 +23,7 @@ export async function cardPage(ticket) {
       card('Seat', seatForm(view), leaveForm(view)),
       card('Order a container', orderForm(view)),
       card('Renew', renewForm(view)),
-      card('Give a permit', el('p', { class: 'quiet' }, 'A permit opens a closed unit to this reader, with the closed units above and below it. It does not open drafts.'), permitForm(view))),
+      card('Give a permit', el('p', { class: 'quiet' }, PERMIT), permitForm(view))),
   ] };
 }
 
@@ -52,14 +56,17 @@ function orderTable(view, orders) {
 }
 
 function cancelForm(view, order) {
-  return rowForm(view, { key: `cancel ${order}`, button: 'Cancel', what: `order ${order}`, send: () => routes.cancel(order),
-    sentence: [`Order ${order} is cancelled.`], look: () => lookAtReader(view.ticket) });
+  return rowForm(view, {
+    key: `cancel ${order}`, button: 'Cancel', what: `order ${order}`, send: () => routes.cancel(order),
+    sentence: [`Order ${order} is cancelled.`], look: () => lookAtReader(view.ticket),
+  });
 }
 
 /** A button in a row of a table. The row goes with what is done, so that is told above the tables. */
 function rowForm(view, { key, button, what, send, sentence, look }) {
   return commandForm({
-    key, button: [`${button} `, el('span', { class: 'unseen' }, what)], kind: 'plain small', send, look, help: heldContainer, explain: deskWords,
+    key, button: [`${button} `, el('span', { class: 'unseen' }, what)], kind: 'plain small',
+    send, look, help: heldContainer, explain: deskWords,
     done: async () => {
       view.told.replaceChildren(note('done', await after(view, ...sentence)));
       view.name.tabIndex = -1;
@@ -89,15 +96,20 @@ const renewForm = (view) => command(view, 'Renew', ({ until }) => routes.renew(v
 
 const permitForm = (view) => command(view, 'Give a permit', ({ unit, until }) => routes.permit(view.ticket, numberOf(unit), until),
   (value) => ['Permit for ', unitLink(value.unit), ` until ${value.until}.`], {
-    fields: [numberField('unit', 'Unit'), dayField('until', 'Last day of the permit', { hint: 'If there is a permit already, the later day counts.' })],
+    fields: [numberField('unit', 'Unit'),
+      dayField('until', 'Last day of the permit', { hint: 'If there is a permit already, the later day counts.' })],
     explain: (answer) => deskWords(answer, 'permit'), look: () => lookAtPermits(view.ticket),
   });
 
 function permitTable(view, permits) {
-  return table('Permits', ['Unit', 'Good until', 'Take away'], permits.map(({ unit, until }) => [unitLink(unit), el('span', { class: 'whole' }, until), revokeForm(view, unit)]));
+  return table('Permits', ['Unit', 'Good until', 'Take away'], permits.map(({ unit, until }) =>
+    [unitLink(unit), el('span', { class: 'whole' }, until), revokeForm(view, unit)]));
 }
 
 function revokeForm(view, unit) {
-  return rowForm(view, { key: `revoke ${view.ticket} ${unit}`, button: 'Take away', what: `the permit for unit ${unit}`,
-    send: () => routes.revoke(view.ticket, unit), sentence: ['The permit for ', unitLink(unit), ' is taken away.'], look: () => lookAtPermits(view.ticket) });
+  return rowForm(view, {
+    key: `revoke ${view.ticket} ${unit}`, button: 'Take away', what: `the permit for unit ${unit}`,
+    send: () => routes.revoke(view.ticket, unit), sentence: ['The permit for ', unitLink(unit), ' is taken away.'],
+    look: () => lookAtPermits(view.ticket),
+  });
 }

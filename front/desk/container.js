@@ -37,7 +37,8 @@ function panel(view, box, holder) {
     words(box.name, 'p', { class: 'big-name' }),
     el('p', { class: 'place' }, place(box, holder)),
     next(view, box),
-    box.waiting.length > 0 && table('Who waits, first to last', ['Order', 'Reader'], box.waiting.map((one) => [String(one.order), readerLink(one.ticket)])),
+    box.waiting.length > 0 && table('Who waits, first to last', ['Order', 'Reader'],
+      box.waiting.map((one) => [String(one.order), readerLink(one.ticket)])),
   ].filter(Boolean);
 }
 

@@ -10,7 +10,7 @@ import { go } from '../shared/router.js';
 import { giveBack, issue, leaveSeat, queue, takeSeat } from '../shared/routes.js';
 import { lookAtContainer, lookAtReader } from './looks.js';
 import { boxLink, readerLink } from './names.js';
-import { card, heldContainer, lookUp, problem, said } from './parts.js';
+import { card, lookUp, problem, said } from './parts.js';
 import { showReader } from './reader_at_counter.js';
 
 const KEPT = 12; // so many containers that came back are listed
@@ -28,11 +28,11 @@ export function counterPage() {
   return { title: 'Counter', focus: input, content: [el('h1', {}, 'Counter'), counter] };
 }
 
-/** What a barcode reader sends while a button has the focus goes to the first field of that form, not to the button. */
+/** What a barcode reader sends while a button or a link has the focus goes to the first field of that card. */
 function digitsGoTo(event) {
-  const isButton = event.target.closest('button') !== null;
-  if (!isButton || !/^[0-9]$/.test(event.key) || event.ctrlKey || event.altKey || event.metaKey) return;
-  const input = event.target.closest('form')?.querySelector('input');
+  const isPressed = event.target.closest('button, a') !== null;
+  if (!isPressed || !/^[0-9]$/.test(event.key) || event.ctrlKey || event.altKey || event.metaKey) return;
+  const input = event.target.closest('.card')?.querySelector('input');
   input?.focus();
   input?.select();
 }
@@ -43,9 +43,13 @@ function issueForm(ticketRow) {
   const form = commandForm({
     key: 'issue', fields: [ticketRow, about, containerRow], button: 'Issue',
     send: ({ ticket, container }) => issue(numberOf(container), numberOf(ticket)),
-    done: (value, { ticket, container }) => { showReader(about, null); return issued(value, numberOf(ticket), numberOf(container)); },
+    done: (value, { ticket, container }) => {
+      showReader(about, null);
+      return issued(value, numberOf(ticket), numberOf(container));
+    },
     explain: deskWords,
-    help: (answer, { ticket }, again) => (answer.code === 10 ? seatButton(numberOf(ticket), again) : readerOf(answer, numberOf(ticket))),
+    help: (answer, { ticket }, again) => (answer.code === 10
+      ? seatButton(numberOf(ticket), again) : readerOf(answer, numberOf(ticket))),
     look: ({ container }) => lookAtContainer(numberOf(container)),
     focus: focusOfIssue,
   });
@@ -85,7 +89,8 @@ function readerOf(answer, ticket) {
 
 function seatButton(ticket, again) {
   const place = el('p', {});
-  const give = el('button', { type: 'button', class: 'plain', click: () => seat(ticket, give, place, again) }, `Give ticket ${ticket} a seat and issue`);
+  const give = el('button', { type: 'button', class: 'plain', click: () => seat(ticket, give, place, again) },
+    `Give ticket ${ticket} a seat and issue`);
   place.append(give);
   return place;
 }
@@ -101,7 +106,8 @@ async function seat(ticket, give, place, again) {
 function returnForm() {
   const list = el('ul', { class: 'back', 'aria-label': 'Taken back just now' });
   const form = commandForm({
-    key: 'return', fields: [numberField('container', 'Container', { hint: 'Scan or type, then Enter. One after the other.' })], button: 'Take back',
+    key: 'return', button: 'Take back',
+    fields: [numberField('container', 'Container', { hint: 'Scan or type, then Enter. One after the other.' })],
     send: ({ container }) => giveBack(numberOf(container)),
     done: (value, { container }) => cameBack(list, numberOf(container), value.order),
     explain: deskWords,
@@ -139,7 +145,8 @@ function leaveForm() {
     key: 'leave', fields: [numberField('ticket', 'Ticket')], button: 'Free the seat', kind: 'plain',
     send: ({ ticket }) => leaveSeat(numberOf(ticket)),
     done: ({ seat: number }, { ticket }) => said(`Seat ${number} is free. `, readerLink(numberOf(ticket)), ' has left.'),
-    explain: deskWords, help: (answer, { ticket }) => (answer.code === 11 ? el('p', {}, 'What is out: ', readerLink(numberOf(ticket)), '.') : heldContainer(answer)),
+    explain: deskWords,
+    help: (answer, { ticket }) => (answer.code === 11 ? el('p', {}, 'What is out: ', readerLink(numberOf(ticket)), '.') : null),
     look: ({ ticket }) => lookAtReader(numberOf(ticket)),
   });
 }

@@ -53,7 +53,7 @@ function report(value, { source, file }) {
 function remarks(list) {
   if (list.length === 0) return el('p', {}, 'There is nothing to look at.');
   return [
-    el('p', {}, el('strong', {}, list.length === 1 ? 'One row should be looked at. ' : `${list.length} remarks on rows that should be looked at. `), 'They were taken in all the same.'),
+    el('p', {}, el('strong', {}, 'Please look at these rows. '), 'They were taken in all the same.'),
     el('ul', { class: 'remarks' }, list.slice(0, SHOWN).map(({ kind, row }) => el('li', {}, `Row ${row}: ${remarkWords(kind)}.`))),
     list.length > SHOWN ? el('p', {}, `And ${list.length - SHOWN} more.`) : null,
   ];

@@ -51,8 +51,9 @@ export async function lookAtNewestRun() {
 export const onceMore = (sign) => async () => line(`No page can show this. Open the form and do the same once more, which does no harm: ${sign}`);
 
 function placeOf(box) {
-  return line(`Container ${box.container}, `, words(box.name), ', is ', { shelf: 'on its shelf', desk: 'at the desk', out: 'out' }[box.place],
-    box.place === 'out' ? ` with order ${box.out}.` : '.', ` Orders that wait for it: ${box.waiting.map((one) => `${one.order} (ticket ${one.ticket})`).join(', ') || 'none'}.`);
+  const place = { shelf: 'on its shelf.', desk: 'at the desk.', out: `out with order ${box.out}.` }[box.place];
+  const waiting = box.waiting.map((one) => `${one.order} (ticket ${one.ticket})`).join(', ') || 'none';
+  return line(`Container ${box.container}, `, words(box.name), `, is ${place} Orders that wait for it: ${waiting}.`);
 }
 
 function cardLines(card) {

@@ -10,8 +10,8 @@ const containers = new Map();
 
 export const knownReaders = () => readers;
 
-export const readerName = (ticket) => nameFrom(readers, Number(ticket), reader);
-export const containerName = (container) => nameFrom(containers, Number(container), queue);
+const readerName = (ticket) => nameFrom(readers, Number(ticket), reader);
+const containerName = (container) => nameFrom(containers, Number(container), queue);
 
 async function nameFrom(kept, number, ask) {
   if (kept.has(number)) return kept.get(number);

@@ -24,7 +24,8 @@ function placeForm() {
     key: 'order', fields: [numberField('ticket', 'Ticket'), numberField('container', 'Container')],
     button: 'Order',
     send: ({ ticket, container }) => order(numberOf(ticket), numberOf(container)),
-    done: (value, { ticket, container }) => said(`Order ${value.order}: `, boxLink(numberOf(container)), ' for ', readerLink(numberOf(ticket)), '.'),
+    done: (value, { ticket, container }) =>
+      said(`Order ${value.order}: `, boxLink(numberOf(container)), ' for ', readerLink(numberOf(ticket)), '.'),
     explain: deskWords,
     look: ({ ticket }) => lookAtReader(numberOf(ticket)),
   });

@@ -13,7 +13,8 @@ export async function outPage() {
   return { title: 'Out now', content: [
     el('h1', {}, 'Out now'),
     answer.ok ? outTable(answer.value) : problem(answer),
-    card('Reshelve', el('p', {}, 'Every container at the desk that nobody is waiting for goes back to its shelf. You get the list of them.'), reshelveForm()),
+    card('Reshelve', el('p', {}, 'Every container at the desk that nobody is waiting for goes back to its shelf. You get a list of them.'),
+      reshelveForm()),
   ] };
 }
 
@@ -29,7 +30,8 @@ function reshelveForm() {
     send: reshelve,
     done: ({ containers }) => shelfList(containers),
     explain: (answer) => deskWords(answer, 'reshelve'),
-    look: onceMore('“nothing to take back” means that it was done. Its list is lost then, so carry back everything that stands at the desk with nobody waiting: the counter tells for each container who waits.'),
+    look: onceMore('“nothing to take back” means that it was done. Its list is lost then: carry back every container at the desk '
+      + 'for which the counter shows that nobody is waiting.'),
   });
 }
 

@@ -5,8 +5,7 @@ import { note } from '../shared/form.js';
 import { numberOf } from '../shared/numbers.js';
 import { deskWords } from '../shared/refusals.js';
 
-export const ticketLink = (ticket) => link(`#/readers/${ticket}`, `ticket ${ticket}`);
-export const containerLink = (container) => link(`#/counter/${container}`, `container ${container}`);
+const containerLink = (container) => link(`#/counter/${container}`, `container ${container}`);
 export const runLink = (run) => link(`#/runs/${run}`, `run ${run}`);
 export const unitLink = (unit) => link(`#/units/${unit}`, `unit ${unit}`);
 
@@ -33,7 +32,8 @@ export function heldContainer(answer) {
 
 /** A form that looks something up by its number: it changes nothing, so it may be sent as often as one likes. */
 export function lookUp(field, button, then) {
-  const form = el('form', { class: 'look' }, field, el('p', { class: 'buttons' }, el('button', { type: 'submit', class: 'plain' }, button)));
+  const form = el('form', { class: 'look' }, field,
+    el('p', { class: 'buttons' }, el('button', { type: 'submit', class: 'plain' }, button)));
   form.addEventListener('submit', (event) => {
     event.preventDefault();
     then(numberOf(form.querySelector('input').value));

@@ -14,7 +14,8 @@ import { said } from './parts.js';
 export function permitForm(unit) {
   return commandForm({
     key: `permit for ${unit}`,
-    fields: [numberField('ticket', 'Ticket'), dayField('until', 'Last day of the permit', { hint: 'It opens what is closed here to that reader, and no draft.' })],
+    fields: [numberField('ticket', 'Ticket'),
+      dayField('until', 'Last day of the permit', { hint: 'It opens what is closed here to that reader, and no draft.' })],
     button: 'Give a permit', kind: 'plain',
     send: ({ ticket, until }) => permit(numberOf(ticket), unit, until),
     done: (value) => said('Permit for ', readerLink(value.ticket), ` until ${value.until}.`),
@@ -36,10 +37,11 @@ async function gather(unit, told, list) {
   const found = await holdersOf(unit);
   if (found === null) { told.textContent = 'The office did not answer for all cards. Try again in a minute.'; return; }
   told.textContent = found.length === 0 ? 'Nobody has a permit for this very unit.' : `${count(found.length, 'permit', 'permits')}.`;
-  list.replaceChildren(...(found.length === 0 ? [] : [table('Permits for this unit', ['Reader', 'Good until'], found.map((one) => [readerLink(one.ticket), el('span', { class: 'whole' }, one.until)]))]));
+  list.replaceChildren(...(found.length === 0 ? [] : [table('Permits for this unit', ['Reader', 'Good until'],
+    found.map((one) => [readerLink(one.ticket), el('span', { class: 'whole' }, one.until)]))]));
 }
 
-export async function holdersOf(unit) {
+async function holdersOf(unit) {
   const newest = await newestTicket();
   if (newest === null) return null;
   const found = [];

@@ -12,8 +12,12 @@ export async function showReader(place, ticket) {
   place.replaceChildren();
   if (ticket === null) return;
   const answer = await reader(ticket);
-  const shown = answer.ok ? await summary(answer.value) : [answer.kind === 'missing' ? el('p', {}, 'There is no ticket with this number.') : problem(answer)];
+  const shown = answer.ok ? await summary(answer.value) : [none(answer)];
   if (mine === turn) place.replaceChildren(...shown);
+}
+
+function none(answer) {
+  return answer.kind === 'missing' ? el('p', {}, 'There is no ticket with this number.') : problem(answer);
 }
 
 async function summary({ name, seat, until, orders }) {

@@ -9,8 +9,9 @@ import { go } from '../shared/router.js';
 import { register } from '../shared/routes.js';
 import { lookAtNewestTicket } from './looks.js';
 import { knownReaders, newestTicket, readCards, readerLink } from './names.js';
-import { card } from './parts.js';
+import { card, said } from './parts.js';
 
+const PLAIN = { ł: 'l', ø: 'o', đ: 'd', ð: 'd', þ: 'th', ß: 'ss', æ: 'ae', œ: 'oe', ı: 'i' };
 const SHOWN = 50; // so many readers are listed
 const MOST = 20000; // so many cards are asked for without being asked to go on
 
@@ -25,7 +26,8 @@ export function readersPage() {
 function findForm(field) {
   const told = el('p', { class: 'told', role: 'status' });
   const found = el('div', {});
-  const form = el('form', { class: 'find' }, field, el('p', { class: 'buttons' }, el('button', { type: 'submit', class: 'plain' }, 'Find')), told, found);
+  const form = el('form', { class: 'find' }, field,
+    el('p', { class: 'buttons' }, el('button', { type: 'submit', class: 'plain' }, 'Find')), told, found);
   form.addEventListener('submit', (event) => {
     event.preventDefault();
     const who = form.elements.who.value;
@@ -48,17 +50,22 @@ async function findByName(form, who, told, found) {
   if (newest === null) return goesOn() && show('The office did not answer. Try again in a minute.');
   let last = 0;
   const whole = await readCards(newest, (done, all) => {
-    if (performance.now() - last > 500) { last = performance.now(); goesOn() && show(`${done.toLocaleString('en-GB')} of ${all.toLocaleString('en-GB')} cards read …`); }
+    if (goesOn() && performance.now() - last > 500) {
+      last = performance.now();
+      show(`${done.toLocaleString('en-GB')} of ${all.toLocaleString('en-GB')} cards read …`);
+    }
     return goesOn() && done < MOST;
   });
-  if (goesOn()) show(whole ? '' : `The newest ${knownReaders().size.toLocaleString('en-GB')} cards were searched. Choose Find again to search older ones.`);
+  const known = knownReaders().size.toLocaleString('en-GB');
+  if (goesOn()) show(whole ? '' : `The newest ${known} cards were searched. Choose Find again to search older ones.`);
 }
 
 function showFound(who, told, found, end) {
   const tickets = matching(who);
   told.textContent = `${count(tickets.length, 'reader', 'readers')} with “${who.trim()}”. ${end}`;
   found.replaceChildren(...(tickets.length === 0 ? [] : [
-    table('Readers found', ['Name', 'Ticket'], tickets.slice(0, SHOWN).map(([ticket, name]) => [link(`#/readers/${ticket}`, words(name)), String(ticket)])),
+    table('Readers found', ['Name', 'Ticket'],
+      tickets.slice(0, SHOWN).map(([ticket, name]) => [link(`#/readers/${ticket}`, words(name)), String(ticket)])),
     tickets.length > SHOWN ? el('p', {}, `And ${tickets.length - SHOWN} more: type more of the name.`) : '']));
 }
 
@@ -69,7 +76,8 @@ function matching(who) {
     .sort((a, b) => a[1].localeCompare(b[1]) || a[0] - b[0]);
 }
 
-const folded = (text) => text.normalize('NFD').replace(/\p{M}/gu, '').toLowerCase();
+/** Letters without their marks; some letters have no mark that could be taken away. */
+const folded = (text) => text.normalize('NFD').replace(/\p{M}/gu, '').toLowerCase().replace(/[łøđðþßæœı]/g, (letter) => PLAIN[letter]);
 
 function registerForm() {
   return commandForm({
@@ -80,7 +88,7 @@ function registerForm() {
     ],
     button: 'Register',
     send: ({ name, until }) => register(name, until),
-    done: ({ ticket }, { name, until }) => el('p', {}, el('strong', {}, readerLink(ticket), ' is registered'), `, good until ${until}. Name typed: `, words(name), '.'),
+    done: ({ ticket }, { until }) => said('Registered: ', readerLink(ticket), `, good until ${until}.`),
     explain: deskWords,
     look: lookAtNewestTicket,
   });

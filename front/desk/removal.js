@@ -16,7 +16,8 @@ export function removeForm(unit, refresh) {
     key: `remove ${unit}`,
     fields: [el('p', { class: 'hint' }, 'You are shown first what would go.')],
     button: 'Remove …', kind: 'grave',
-    send: () => removeIfSure(unit),
+    before: () => askFirst(unit),
+    send: () => remove(unit),
     done: async ({ units }) => { await refresh(); return said(`Unit ${unit} is removed: ${count(units, 'unit', 'units')} in all.`); },
     explain: (answer) => (answer === STAYED ? ['Nothing was removed.', ''] : deskWords(answer)),
     help: heldContainer,
@@ -24,15 +25,15 @@ export function removeForm(unit, refresh) {
   });
 }
 
-async function removeIfSure(unit) {
+async function askFirst(unit) {
   const answer = await aid(unit);
-  if (!answer.ok && answer.kind !== 'missing') return answer.kind === 'silent' ? { ok: false, kind: 'silent' } : answer;
+  if (!answer.ok && answer.kind !== 'missing') return answer;
   const question = {
     title: `Remove unit ${unit} for good?`, stay: 'Keep it', go: `Remove unit ${unit}`, kind: 'grave',
     content: [whatGoes(answer), el('p', {}, 'Drafts and closed units below it go too, and so do all permits for these units. '
       + 'Orders, runs and containers stay.')],
   };
-  return await isSure(question) ? remove(unit) : STAYED;
+  return await isSure(question) ? null : STAYED;
 }
 
 function whatGoes(answer) {

@@ -17,7 +17,8 @@ export async function runsPage() {
   return { title: 'Runs', content: [
     el('h1', {}, 'Runs'),
     el('div', { class: 'cards' },
-      card('Fetch from the shelves', el('p', {}, 'A run fetches the containers that have been waited for longest, as many as one run carries. Its slip says where they are.'), runForm()),
+      card('Fetch from the shelves', el('p', {}, 'A run fetches the containers that readers have waited for longest, as many as one run takes. '
+        + 'Its slip says where they are.'), runForm()),
       card('Slips', latest(newest), lookUp(numberField('run', 'Run'), 'Show the slip', (number) => go(`#/runs/${number}`)))),
   ] };
 }

@@ -29,7 +29,8 @@ function beside(lines) {
   const show = () => place.replaceChildren(table('For whom, and what', ['Container', 'Order', 'Reader', 'Reference code'],
     lines.map((line) => [boxLink(line.container), line.order, readerLink(line.ticket), codes(line.container)])));
   show();
-  const find = el('button', { type: 'button', class: 'plain', click: () => lookForCodes(lines, told, show, find) }, 'Look for reference codes');
+  const find = el('button', { type: 'button', class: 'plain', click: () => lookForCodes(lines, told, show, find) },
+    'Look for reference codes');
   return el('section', { class: 'beside' }, place, el('p', { class: 'buttons no-print' }, find), told);
 }
 

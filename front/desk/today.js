@@ -26,7 +26,8 @@ function dayForm() {
     key: 'day',
     fields: [dayField('day', 'The new day', { value: dayOfThisComputer(), hint: 'All seats become free. Nothing may be out.' })],
     button: 'Open the day',
-    send: ({ day }) => openIfSure(day),
+    before: ({ day }) => askFirst(day),
+    send: ({ day }) => openDay(day),
     done: opened,
     explain: (answer) => (answer === STAYED ? ['No day was opened.', ''] : deskWords(answer)),
     focus: (form, answer) => { if (answer === null) form.elements.day.value = ''; form.elements.day.focus(); },
@@ -35,15 +36,15 @@ function dayForm() {
 }
 
 /** A day cannot be closed again, so one that is not today by the clock is asked about. */
-async function openIfSure(day) {
+async function askFirst(day) {
   const today = dayOfThisComputer();
-  if (day === today) return openDay(day);
+  if (day === today) return null;
   const question = {
     title: `Open ${day}?`, stay: 'Open no day', go: `Open ${day}`,
     content: el('p', {}, `By the clock of this computer today is ${today}. A day that has been opened cannot be taken back: `
-      + 'every ticket and every closure that ends before it is over then.'),
+      + 'tickets that end before it expire, and what is closed until then opens.'),
   };
-  return await isSure(question) ? openDay(day) : STAYED;
+  return await isSure(question) ? null : STAYED;
 }
 
 /** What the clock of this computer says, as a suggestion: the office itself reads no clock. */
@@ -62,7 +63,8 @@ function opened({ day }) {
 /** The program does not tell which day is open; this browser knows only what was opened in it. */
 function lastDay() {
   const day = localStorage.getItem(KEPT);
-  return el('p', { class: 'last-day quiet' }, day ? `The day opened last in this browser is ${day}.` : 'No day has been opened in this browser yet.');
+  return el('p', { class: 'last-day quiet' },
+    day ? `The day opened last in this browser is ${day}.` : 'No day has been opened in this browser yet.');
 }
 
 async function stillOut() {

@@ -15,7 +15,9 @@ import { permitForm, permitList } from './permits.js';
 import { removeForm } from './removal.js';
 
 export async function unitsPage(number) {
-  const field = numberField('unit', 'Unit', { hint: 'The number at the end of the address of its public page. A draft is found by its number alone.' });
+  const field = numberField('unit', 'Unit', {
+    hint: 'The number at the end of the address of its public page. A draft is found by its number alone.',
+  });
   const look = lookUp(field, 'Open the unit', (typed) => go(`#/units/${typed}`));
   if (!number) return { title: 'Units', focus: field.querySelector('input'), content: [el('h1', {}, 'Units'), look, await tops()] };
   const view = { number, page: el('div', { role: 'region', 'aria-label': 'What the public sees', tabindex: 0 }) };
@@ -46,7 +48,8 @@ function unitList(units) {
 
 async function tops() {
   const answer = await fonds();
-  return answer.ok ? [el('h2', {}, 'Top units that the public sees'), unitList(readFonds(answer.value)) || el('p', {}, 'None yet.')] : problem(answer);
+  if (!answer.ok) return problem(answer);
+  return [el('h2', {}, 'Top units that the public sees'), unitList(readFonds(answer.value)) || el('p', {}, 'None yet.')];
 }
 
 function nothing(answer) {
@@ -81,9 +84,12 @@ function closureForm(view) {
 
 function moveForm(view) {
   return change(view, {
-    fields: [numberField('parent', 'Below which unit', { required: false, hint: 'It becomes the last one there, with everything below it. Leave the number out to make it a top unit.' })],
+    fields: [numberField('parent', 'Below which unit', {
+      required: false, hint: 'It becomes the last one there, with everything below it. Leave the number out to make it a top unit.',
+    })],
     button: 'Move',
     send: ({ parent }) => move(view.number, numberOf(parent)),
-    done: (value, { parent }) => (numberOf(parent) ? ['It is now the last below ', unitLink(numberOf(parent)), '.'] : ['It is now the last of the top units.']),
+    done: (value, { parent }) => (numberOf(parent)
+      ? ['It is now the last below ', unitLink(numberOf(parent)), '.'] : ['It is now the last of the top units.']),
   });
 }

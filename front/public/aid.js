@@ -16,7 +16,8 @@ export async function aidPage(number) {
   const rows = lines.map(row);
   return { title: `Finding aid: ${lines[0]?.text ?? ''}`, content: [
     el('h1', {}, 'Finding aid'),
-    el('p', { class: 'tools no-print' }, link(`#/unit/${number}`, 'To the page of this unit, where you can order'), printButton('Print the finding aid')),
+    el('p', { class: 'tools no-print' },
+      link(`#/unit/${number}`, 'To the page of this unit, where you can order'), printButton('Print the finding aid')),
     searchForm(rows),
     el('div', { class: 'aid' }, rows.length > LARGE ? blocks(rows) : rows),
   ] };

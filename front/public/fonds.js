@@ -12,7 +12,8 @@ export async function fondsPage() {
   const tops = readFonds(answer.value);
   return { title: 'Archives', content: [
     el('h1', {}, 'Archives'),
-    el('p', { class: 'lead' }, 'Each archive is described first as a whole and then part by part. Open one to read its description and order from it.'),
+    el('p', { class: 'lead' }, 'Each archive is described first as a whole and then part by part. '
+      + 'Open one to read its description and order from it.'),
     tops.length ? el('ul', { class: 'units' }, tops.map(item)) : el('p', {}, 'No archive has been published yet.'),
   ] };
 }

@@ -71,7 +71,8 @@ function containers(list) {
   if (list.length === 0) return null;
   return el('section', {},
     el('h2', {}, 'Where it is kept'),
-    el('p', { class: 'quiet no-print' }, 'Order a container to see what is in it in the reading room. You need a reader’s ticket. ', link('#/help', 'How to order')),
+    el('p', { class: 'quiet no-print' }, 'Order a container to see what is in it in the reading room. You need a reader’s ticket. ',
+      link('#/help', 'How to order')),
     el('ul', { class: 'containers' }, list.map(({ number, text, mark }) => el('li', {},
       el('p', {}, el('span', { class: 'number' }, `Container ${number}`), ' ', marked(text, mark)), orderBox(number, text)))));
 }

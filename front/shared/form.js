@@ -9,8 +9,9 @@ const PAUSE = 600; // milliseconds after an answer in which the same once more i
 
 /**
  * key: a name of the form's own; fields: rows of fields.js; button: its words; kind: its class;
- * send(values): promises an answer of routes.js; done(value, values): promises what to show where it was done;
- * explain(answer): two sentences where it was not; help(answer, values): more to show then;
+ * before(values): promises null to go on, or an answer that ends it; send(values): promises an answer of routes.js;
+ * done(value, values): promises what to show where it was done;
+ * explain(answer): two sentences where it was not; help(answer, values, again): more to show then, where `again` sends the same;
  * look(values): promises what tells whether it was done, or null where that cannot be had now;
  * focus(form, answer): what gets the focus after an answer (null after success);
  * harmless: giving the command twice does no harm, so the form is never held.
@@ -45,11 +46,14 @@ async function submit(event, state) {
   const values = Object.fromEntries(new FormData(state.form));
   if (state.busy || isRepeat(state, values)) return;
   begin(state);
+  const ended = await state.parts.before?.(values);
+  if (ended) return stop(state, ended, values);
+  showWaiting(state);
   const answer = await state.parts.send(values);
   end(state);
-  if (answer.ok) await succeed(state, answer.value, values);
-  else if (answer.kind === 'uncertain' && !state.parts.harmless) hold(state, answer, values);
-  else fail(state, answer, values);
+  if (answer.ok) return succeed(state, answer.value, values);
+  if (answer.kind === 'uncertain' && !state.parts.harmless) return hold(state, answer, values);
+  return fail(state, answer, values);
 }
 
 function isRepeat(state, values) {
@@ -63,7 +67,15 @@ function begin(state) {
   state.missed = false;
   shut(state, true);
   state.outcome.replaceChildren();
+}
+
+function showWaiting(state) {
   state.slow = setTimeout(() => state.outcome.replaceChildren(el('p', { class: 'waiting' }, 'Waiting for the office …')), 400);
+}
+
+function stop(state, ended, values) {
+  end(state);
+  fail(state, ended, values);
 }
 
 function end(state) {
@@ -75,8 +87,7 @@ function end(state) {
 /** While a form is shut its fields take nothing: what a barcode reader types would join what stands there. */
 function shut(state, isShut) {
   state.busy = isShut;
-  state.press.toggleAttribute('aria-disabled', false);
-  if (isShut) state.press.setAttribute('aria-disabled', 'true');
+  state.press.setAttribute('aria-disabled', String(isShut));
   for (const input of state.form.querySelectorAll('input')) input.readOnly = isShut;
 }
 
@@ -87,7 +98,8 @@ async function succeed(state, value, values) {
   if (shown) state.outcome.replaceChildren(note('done', [shown, missed(state)]));
 }
 
-const missed = (state) => state.missed && el('p', {}, 'A number was typed or scanned while the office was busy. It was not taken: please do it again.');
+const missed = (state) => state.missed
+  && el('p', {}, 'A number was typed or scanned while the office was busy. It was not taken: please do it again.');
 
 function fail(state, answer, values) {
   state.outcome.replaceChildren(note('refused', [

@@ -34,7 +34,7 @@ const ELEMENTS = [
 ].map(([number, name, above]) => ({ number, name, above: above === 'above' }));
 
 /** The lines of a text. */
-export function linesOf(text) {
+function linesOf(text) {
   const lines = text.split('\n');
   if (lines.at(-1) === '') lines.pop();
   return lines;
