@@ -20,8 +20,11 @@ failed=0
 
 ends() {
     [ -z "$booted" ] || kill -KILL "$booted" 2>/dev/null || true
-    sleep 1
-    [ ! -d "$group" ] || find "$group" -depth -type d -exec rmdir {} + 2>/dev/null || true
+    for _ in $(seq 20); do
+        [ -d "$group" ] || break
+        find "$group" -depth -type d -exec rmdir {} \; 2>/dev/null || true
+        sleep 0.5
+    done
     rm -rf --one-file-system "$room"
 }
 trap ends EXIT
