@@ -8,7 +8,7 @@ ghost use Rattle.sqlite.specs.State.{HasCleanDisk};
 ghost use Rattle.isad_core.specs.Limits.{IsNumber, most_tickets};
 ghost use Rattle.desk_core.specs.DeskRows.{Desk, ReaderRow};
 ghost use Rattle.office_tables.specs.Asking.{Reads};
-ghost use Rattle.office_tables.specs.Calls.{Updates};
+ghost use Rattle.office_tables.specs.Calls.{Updates, Answers};
 ghost use Rattle.office_tables.specs.Changing.{Leaves};
 ghost use Rattle.office_tables.specs.Faults.{FaultsHaveCause};
 ghost use Rattle.office_tables.specs.Schema as tables;
