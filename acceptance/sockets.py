@@ -98,7 +98,7 @@ def status(head):
 
 def asked(server, what, request=FONDS):
     """Whether a new client is answered at once."""
-    with server.client() as client:
+    with server.client(PATIENCE * 12) as client:
         begun = time.monotonic()
         client.sendall(request)
         head, body, _ = message(client)
@@ -194,8 +194,8 @@ def unread(program, port):
             client.connect((HERE, port))
             client.sendall(AID * 20)
             taken, _ = asked(server, "read nothing")
-            # a write that moved some bytes in its time is followed by another
-            same(f"read nothing: left after {PATIENCE} seconds or more", PATIENCE - 1 < taken < 3 * PATIENCE + LATE, True)
+            # a write that moved some bytes in its time is followed by another, so more than one may have to end
+            same(f"read nothing: left after {PATIENCE} seconds or more", PATIENCE - 1 < taken < 10 * PATIENCE, True)
         server.ends_well("the end after a client that reads nothing")
 
 
