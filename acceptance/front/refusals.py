@@ -13,8 +13,8 @@ UNREACHED = {26}  # the program answers an unknown run with 404, which has words
 
 def listed():
     """The refusals of docs/RULES.md, by number."""
-    line = next(line for line in (TOP / "docs/RULES.md").read_text().splitlines() if line.startswith("**Refusals.**"))
-    return {int(number): name for number, name in re.findall(r"\b(\d+) ([A-Z][A-Za-z]+)", line.split(":", 1)[1])}
+    text = (TOP / "docs/RULES.md").read_text().split("### Refusals\n", 1)[1].split("\n### ", 1)[0]
+    return {int(number): name for number, name in re.findall(r"\b(\d+) ([A-Z][A-Za-z]+)", text)}
 
 
 class Refusals:

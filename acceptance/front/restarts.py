@@ -9,6 +9,7 @@ from office import SIGNED_IN
 
 CLIENTS = 8
 MANY = 40
+TOO_MANY = 429
 
 
 class Client(threading.Thread):
@@ -20,12 +21,21 @@ class Client(threading.Thread):
         connection = http.client.HTTPConnection("127.0.0.1", self.port, timeout=90)
         for method, path, body, headers in self.requests:
             try:
-                connection.request(method, path, body, headers)
-                answer = connection.getresponse()
-                self.got.append((answer.status, answer.read()))
+                self.got.append(self.answer(connection, method, path, body, headers))
             except (OSError, http.client.HTTPException) as lost:
                 self.got.append((type(lost).__name__, b""))
                 connection.close()
+
+    @staticmethod
+    def answer(connection, method, path, body, headers):
+        """What is answered. Who asks more often than the front allows an address is told so, and asks again."""
+        while True:
+            connection.request(method, path, body, headers)
+            answer = connection.getresponse()
+            status, text = answer.status, answer.read()
+            if status != TOO_MANY:
+                return status, text
+            time.sleep(0.3)
 
 
 def looks(port, first):

@@ -1,3 +1,4 @@
+pub mod DeskChecked
 pub mod catalogue
 pub mod tables
 pub mod desk
@@ -9,4 +10,3 @@ pub mod NewTables
 pub mod OwnRowLemmas
 pub mod CauseLemmas
 pub mod DayRules
-pub mod DeskChecked

@@ -5,7 +5,7 @@ use Rattle.sqlite.specs.Tree.{Trees}
 use Rattle.tree_core.specs.Versions.{Version}
 use Rattle.integrity_checks.specs.CatalogueChecks.{cause_of, doubtful_catalogue}
 use Rattle.state_encoding.specs.CellCauses.{rows_in, cell_cause}
-use Rattle.refinement.specs.DeskChecked.{catalogue_cell_cause, of_desk}
+use Rattle.adoption.specs.DeskChecked.{catalogue_cell_cause, of_desk}
 use Rattle.adoption.specs.OwnRows.{office_is_doubtful}
 
 -- Where the office's own row is in order, the check of the catalogue tells the first of the causes 1 to 5.

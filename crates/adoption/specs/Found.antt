@@ -4,7 +4,7 @@ use Rattle.sqlite.specs.Effect.{Database, IsDatabase}
 use Rattle.tree_core.specs.Versions.{Version}
 use Rattle.state_encoding.specs.CellCauses.{cell_cause}
 use Rattle.office_tables.specs.Schema.{schema}
-use Rattle.refinement.specs.DeskChecked.{catalogue_cell_cause, of_desk}
+use Rattle.adoption.specs.DeskChecked.{catalogue_cell_cause, of_desk}
 use Rattle.adoption.specs.WholeTables.{AreWholeTables}
 
 -- they are of the version and keep its rules, are whole, and no cause holds of their rows

@@ -1,3 +1,4 @@
+pub mod DeskChecked
 pub mod WholeTables
 pub mod Found
 pub mod Catalogue
@@ -9,4 +10,3 @@ pub mod Verdicts
 pub mod Plain
 pub mod OwnRows
 pub mod Causes
-pub mod DeskChecked

@@ -7,7 +7,7 @@ ghost use Rattle.state_encoding.specs.CellCauses.{cell_cause};
 ghost use Rattle.office_tables.specs.Asking.{Reads};
 ghost use Rattle.office_tables.specs.Faults.{FaultsHaveCause, IsUnlimited};
 ghost use Rattle.office_tables.specs.Step.{InTransaction};
-ghost use Rattle.refinement.specs.DeskChecked.{catalogue_cell_cause};
+ghost use Rattle.adoption.specs.DeskChecked.{catalogue_cell_cause};
 ghost use Rattle.adoption.specs.OwnRows.{own_row_of};
 ghost use Rattle.adoption.specs.Verdicts.{IsVerdict};
 ghost use Rattle.adoption.specs.WholeTables.{AreWholeTables};

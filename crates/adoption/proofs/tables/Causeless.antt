@@ -15,7 +15,7 @@ use Rattle.office_tables.specs.Cells.{has_unread}
 use Rattle.office_tables.specs.CatalogueCells.{read_office, read_unit, read_element, read_container, read_housing}
 use Rattle.office_tables.specs.DeskCells.{read_reader, read_seat, read_order, read_holding, read_run, read_run_line, read_permit}
 use Rattle.office_tables.specs.Schema as tables
-use Rattle.refinement.specs.DeskChecked.{catalogue_cell_cause, of_desk}
+use Rattle.adoption.specs.DeskChecked.{catalogue_cell_cause, of_desk}
 
 -- ---- nine of ten tests do not hold
 

@@ -10,7 +10,7 @@ use Rattle.state_encoding.proofs.CellCauses.{cells_are_said}
 use Rattle.state_encoding.proofs.Judging.{none_before}
 use Rattle.state_encoding.specs.CellCauses.{rows_in, unread, either_of, cell_cause}
 use Rattle.state_encoding.specs.Causes.{catalogue_tests, desk_tests}
-use Rattle.refinement.specs.DeskChecked.{catalogue_cell_cause, of_desk}
+use Rattle.adoption.specs.DeskChecked.{catalogue_cell_cause, of_desk}
 use Rattle.adoption.specs.Catalogue.{RepresentsItsCatalogue}
 use Rattle.adoption.specs.Desk.{RepresentsItsDesk}
 use Rattle.adoption.specs.Found.{AreGoodTables, AreSoundTables}
