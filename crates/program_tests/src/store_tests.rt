@@ -2,11 +2,11 @@
 
 use crate::fakes::{Page, Pieces};
 use crate::tests::{FONDS, Host, expect};
-use crate::{FileStoreFrom, close, find, make, unmake};
 use catalogue_store::LinkPlaces;
 use isad_core::Day;
 use nested_sets::SpanPlaces;
 use office::{Office, Settings};
+use program::files::{FileStoreFrom, close, find, make, unmake};
 use program::server::serve;
 use sqlite::{Connection, MemStore, Wary};
 use std::alloc::Global;
