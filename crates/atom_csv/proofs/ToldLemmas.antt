@@ -11,7 +11,7 @@ use Rattle.isad_core.specs.declared.values.BoxKey.{BoxKey}
 use Rattle.csv.specs.Reading.{default_config, records, strip_bom}
 use Rattle.atom_csv.specs.Causes.{number_of}
 use Rattle.atom_csv.specs.Fields.{Fields, field_under, is_blank, is_empty, is_named, trim_start, trimmed, value}
-use Rattle.atom_csv.specs.FileOf.{has_other_width, is_late, is_long, is_translation, names_slug, Fault, below, causes, culture, fault_of, faults, file_of, first_culture, header_causes, is_told_again, legacy, lines_below, lowest, of_records, or_fault, records_of, row_causes, row_of, row_told, rows, stood_above, translations, under, when}
+use Rattle.atom_csv.specs.FileOf.{has_other_width, is_late, is_long, is_translation, has_slug_alone, Fault, below, causes, culture, fault_of, faults, file_of, first_culture, header_causes, is_told_again, legacy, lines_below, lowest, of_records, or_fault, records_of, row_causes, row_of, row_told, rows, stood_above, translations, under, when}
 use Rattle.atom_csv.specs.Told.{AllDiffer, AreValues, IsThere, IsTold}
 use Rattle.atom_csv.specs.Columns.{columns_of, is_split, name_of}
 use Rattle.atom_csv.specs.Entries.{entries, entry_of, filled, joined, parts_of}
@@ -279,7 +279,7 @@ clean_row header x stood row blank again e =
     clean _ _ _ _ _ _ (sym (ap₂ (λ (b t : Bool). if b then when (is_late row) cause.TooManyRows
     else if t then when (has_other_width header x) cause.FieldCount ++ when (is_late row) cause.TooManyRows
     else when (has_other_width header x) cause.FieldCount ++ (when (is_empty (legacy header x)) cause.BlankLegacyId ++ (when (is_some stood) cause.Repeated
-    ++ (when (names_slug header x) cause.Slug ++ (when (is_late row) cause.TooManyRows ++ when (is_long header x) cause.TooLong))))) blank again) ∙ e)
+    ++ (when (has_slug_alone header x) cause.Slug ++ (when (is_late row) cause.TooManyRows ++ when (is_long header x) cause.TooLong))))) blank again) ∙ e)
 
 Facts : Fields → List Fields → List Row → Type 0
 Facts header above rs = AllByRecursion (Below header above) rs × AllDiffer same_legacy rs

@@ -82,8 +82,8 @@ abbrev pub has_other_width : Fields → Fields → Bool
 has_other_width header fields = not (length fields == length header)
 
 -- a parent is named by its slug alone
-abbrev pub names_slug : Fields → Fields → Bool
-names_slug header fields = not (is_empty (value column.QubitParentSlug header fields))
+abbrev pub has_slug_alone : Fields → Fields → Bool
+has_slug_alone header fields = not (is_empty (value column.QubitParentSlug header fields))
     && is_empty (value column.ParentId header fields)
 
 -- rows 2 to 20,001 are taken
@@ -103,7 +103,7 @@ row_causes header fields stood row = if is_blank fields then when (is_late row) 
     else when (has_other_width header fields) cause.FieldCount
     ++ (when (is_empty (legacy header fields)) cause.BlankLegacyId
     ++ (when (is_some stood) cause.Repeated
-    ++ (when (names_slug header fields) cause.Slug
+    ++ (when (has_slug_alone header fields) cause.Slug
     ++ (when (is_late row) cause.TooManyRows
     ++ when (is_long header fields) cause.TooLong))))
 

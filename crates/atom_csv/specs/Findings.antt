@@ -2,7 +2,7 @@
 use Rattle.std.specs.Prelude.{ℕ, Option, is_some, ◌++◌, if◌then◌else◌, List}
 use Rattle.isad_core.specs.Texts.{Bytes}
 use Rattle.atom_csv.specs.Fields.{Fields, is_blank, is_empty}
-use Rattle.atom_csv.specs.FileOf.{has_other_width, is_late, is_long, is_translation, legacy, names_slug, when}
+use Rattle.atom_csv.specs.FileOf.{has_other_width, is_late, is_long, is_translation, legacy, has_slug_alone, when}
 use Rattle.atom_csv.specs.declared.cause.Cause.{Cause}
 use Rattle.atom_csv.specs.declared.cause.Cause.TheVariants as cause
 use Rattle.atom_csv.specs.declared.findings.Findings.{Findings}
@@ -15,7 +15,7 @@ findings header fields stood row = record {
   other_width = has_other_width header fields;
   no_legacy = is_empty (legacy header fields);
   stood = is_some stood;
-  slug_alone = names_slug header fields;
+  slug_alone = has_slug_alone header fields;
   is_late = is_late row;
   is_long = is_long header fields;
 }

@@ -12,12 +12,10 @@ use crate::header::Header;
 use crate::trim::trimmed;
 use csv::StringRecord;
 use isad_core::Text;
+use isad_core::limits::MOST_BYTES;
 
 // The last row that is taken.
 const LAST_ROW: u32 = 20_001;
-
-// The most bytes that a field that is read may have.
-const LONGEST: usize = 65_535;
 
 /// What is found of a record.
 #[derive(Clone, Copy)]
@@ -65,8 +63,8 @@ fn has_other_width(header: &Header, row: &StringRecord) -> bool
 }
 
 // Whether a record names its parent by a slug alone.
-fn names_slug(header: &Header, row: &StringRecord) -> bool
-    ensures { result ≡ spec.names_slug header.now (fields_in row.now) }
+fn has_slug_alone(header: &Header, row: &StringRecord) -> bool
+    ensures { result ≡ spec.has_slug_alone header.now (fields_in row.now) }
 {
     !header.value(Column::QubitParentSlug, row).is_empty()
         && header.value(Column::ParentId, row).is_empty()
@@ -78,7 +76,7 @@ fn is_long(header: &Header, row: &StringRecord) -> bool
 {
     Column::all()
         .iter()
-        .any(|column| header.value(*column, row).len() > LONGEST)
+        .any(|column| header.value(*column, row).len() > MOST_BYTES)
 }
 
 impl Findings {
@@ -93,7 +91,7 @@ impl Findings {
             other_width: has_other_width(header, row),
             no_legacy: header.value(Column::LegacyId, row).is_empty(),
             stood: stood.is_some(),
-            slug_alone: names_slug(header, row),
+            slug_alone: has_slug_alone(header, row),
             is_late: number > LAST_ROW,
             is_long: is_long(header, row),
         }

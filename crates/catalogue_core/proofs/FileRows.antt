@@ -7,7 +7,7 @@ use Rattle.std.proofs.lemmas.Bool.{false≢true, or_parts}
 use Rattle.std.proofs.lemmas.List.Folds.{list_any-append}
 use Rattle.isad_core.specs.Texts.{Bytes}
 use Rattle.atom_csv.specs.Fields.{Fields, is_blank, is_empty}
-use Rattle.atom_csv.specs.FileOf.{Line, lines_below, row_number, when, header_causes, legacy, culture, first_culture, stood_above, has_other_width, names_slug, is_late, is_long, causes, row_of, is_told_again, row_told, fault_of, faults, rows, translations, or_fault, under, of_records, records_of, file_of}
+use Rattle.atom_csv.specs.FileOf.{Line, lines_below, row_number, when, header_causes, legacy, culture, first_culture, stood_above, has_other_width, has_slug_alone, is_late, is_long, causes, row_of, is_told_again, row_told, fault_of, faults, rows, translations, or_fault, under, of_records, records_of, file_of}
 use Rattle.atom_csv.specs.Causes.{number_of}
 use Rattle.atom_csv.specs.declared.cause.Cause.{Cause}
 use Rattle.atom_csv.specs.declared.cause.Cause.TheVariants as cause
@@ -71,7 +71,7 @@ none_stood : (x : Option Bytes) → is_some x ≡ false → x ≡ None
 none_stood None e = refl
 none_stood (Some culture) e = absurd (false≢true (sym e))
 
-tells_at : (header : Fields) (line : Line) (row : Row) (blank again : Bool) → cond (blank || again) None (Some (row_of header line.fields (row_number line))) ≡ Some row → cond blank (when (is_late (row_number line)) cause.TooManyRows) (cond again (when (has_other_width header line.fields) cause.FieldCount ++ when (is_late (row_number line)) cause.TooManyRows) (when (has_other_width header line.fields) cause.FieldCount ++ (when (is_empty (legacy header line.fields)) cause.BlankLegacyId ++ (when (is_some (stood_above header line)) cause.Repeated ++ (when (names_slug header line.fields) cause.Slug ++ (when (is_late (row_number line)) cause.TooManyRows ++ when (is_long header line.fields) cause.TooLong)))))) ≡ [] → TellsRow header line row
+tells_at : (header : Fields) (line : Line) (row : Row) (blank again : Bool) → cond (blank || again) None (Some (row_of header line.fields (row_number line))) ≡ Some row → cond blank (when (is_late (row_number line)) cause.TooManyRows) (cond again (when (has_other_width header line.fields) cause.FieldCount ++ when (is_late (row_number line)) cause.TooManyRows) (when (has_other_width header line.fields) cause.FieldCount ++ (when (is_empty (legacy header line.fields)) cause.BlankLegacyId ++ (when (is_some (stood_above header line)) cause.Repeated ++ (when (has_slug_alone header line.fields) cause.Slug ++ (when (is_late (row_number line)) cause.TooManyRows ++ when (is_long header line.fields) cause.TooLong)))))) ≡ [] → TellsRow header line row
 tells_at header line row true again e c = absurd (cc)
 tells_at header line row false true e c = absurd (cc)
 tells_at header line row false false e c =
@@ -79,7 +79,7 @@ tells_at header line row false false e c =
     let a = none_when (has_other_width header line.fields) cause.FieldCount _ c in
     let b = none_when (is_empty (legacy header line.fields)) cause.BlankLegacyId _ a.1 in
     let d = none_when (is_some (stood_above header line)) cause.Repeated _ b.1 in
-    let f = none_when (names_slug header line.fields) cause.Slug _ d.1 in
+    let f = none_when (has_slug_alone header line.fields) cause.Slug _ d.1 in
     let g = none_when (is_late (row_number line)) cause.TooManyRows _ f.1 in
     record {
       is = sym same;

@@ -3,3 +3,6 @@
 
 pub mod laws;
 pub mod laws_of_rows;
+mod sources;
+
+pub use sources::is_source;

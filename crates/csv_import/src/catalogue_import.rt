@@ -21,21 +21,13 @@ use crate::row_entry::{Counts, enter_rows};
 use crate::row_plan::{Planned, plan};
 use atom_csv::{File, FileFault, read_file};
 use catalogue_store::{Office, Places, office_row};
+use isad_core::limits::{MOST_CONTAINERS, MOST_UNIT_NUMBERS, MOST_UNITS};
 use isad_core::{Day, Text};
 use office_core::{Done, Refusal};
 use office_tables::StoreFault;
 use refinement::pass;
 use sqlite::{Alter, Connection};
 use std::alloc::Global;
-
-/// How many units an office has at most.
-const MOST_UNITS: u64 = 200_000;
-
-/// The last number that a unit may get.
-const LAST_UNIT_NUMBER: u64 = 100_000_000;
-
-/// How many containers an office has at most.
-const MOST_CONTAINERS: u64 = 100_000;
 
 /// Whether so many more units fit, each with a number of its own.
 fn has_space(office: &Office, new: u64) -> bool
@@ -44,7 +36,7 @@ fn has_space(office: &Office, new: u64) -> bool
 {
     let units = office.units.saturating_add(new);
     let next = office.row.next_unit.saturating_add(new);
-    units <= MOST_UNITS && next <= LAST_UNIT_NUMBER + 1
+    units <= MOST_UNITS && next <= MOST_UNIT_NUMBERS + 1
 }
 
 /// Whether there is room for so many more units, each with a number of its own.

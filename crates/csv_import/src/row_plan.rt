@@ -18,6 +18,7 @@ use crate::paths::path_of;
 use atom_csv::Row;
 use catalogue_store::{Places, known};
 use isad_core::Text;
+use isad_core::limits::MOST_DEEP;
 use office_tables::StoreFault;
 use sqlite::{Alter, Connection};
 use std::alloc::Global;
@@ -27,9 +28,6 @@ const NO_PARENT: u8 = 11;
 
 /// Why a row cannot be placed: it would lie too deep.
 const TOO_DEEP: u8 = 12;
-
-/// How many units may stand above one another, the lowest among them.
-const MOST_DEEP: u64 = 64;
 
 /// What can be told of the rows of a file before any is entered.
 #[derive(Clone, Copy)]

@@ -12,14 +12,14 @@ ghost use Rattle.desk_commands.specs.Permitting.{MayPermit, later_of, until_for}
 
 use catalogue_store::{Places, is_unit};
 use desk_store::{Permit, grant, permits, reader};
-use isad_core::Day;
+use isad_core::{Day, limits};
 use office_core::{Done, Refusal};
 use office_tables::StoreFault;
 use sqlite::{Alter, Connection};
 use std::alloc::Global;
 
 /// How many permits a ticket may have.
-const MOST_PERMITS: usize = 100;
+const MOST_PERMITS: usize = limits::MOST_PERMITS as usize;
 
 /// The last day of the permit for a unit, where there is one.
 pub(crate) fn last_day(held: &[Permit], unit: u64) -> Option<Day>

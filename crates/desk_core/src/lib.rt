@@ -4,6 +4,7 @@
 pub mod consistency;
 mod issue;
 pub mod laws;
+mod names;
 mod order;
 mod reader;
 mod refusal;
@@ -12,6 +13,7 @@ mod seat;
 mod slip;
 
 pub use issue::{AtDesk, may_issue};
+pub use names::is_name;
 pub use order::{Ask, may_order};
 pub use reader::{Limits, Place, Reader};
 pub use refusal::Refusal;

@@ -9,9 +9,7 @@ ghost use Rattle.desk_core.specs.Refusals.{first_that_holds};
 use crate::reader::{Limits, Reader};
 use crate::refusal::Refusal;
 use isad_core::Day;
-
-/// How many orders there may ever be.
-const MOST_ORDERS: u64 = 10_000_000;
+use isad_core::limits::MOST_ORDERS;
 
 /// What an order is decided by, besides the reader.
 #[derive(Debug, Clone, Copy, PartialEq, Eq)]

@@ -17,13 +17,11 @@ ghost use Rattle.office_tables.specs.Numbered.{AreCounted};
 ghost use Rattle.desk_store.specs.Stacks.{RepresentsQueues, IsLegibleStacks, box_with};
 
 use isad_core::BoxKey;
+use isad_core::limits::MOST_CONTAINERS;
 use office_tables::value::number;
 use office_tables::{StoreFault, find};
 use sqlite::{Alter, Connection};
 use std::alloc::Global;
-
-/// How many containers there may be.
-const MOST_CONTAINERS: u64 = 100_000;
 
 /// What is written on the container with a number: one, or none. It is found by the number of its row.
 fn boxes_with<S: Alter>(

@@ -18,14 +18,12 @@ ghost use Rattle.desk_store.specs.Represents.{IsLegibleOrder, RepresentsDeskAlon
 ghost use Rattle.office_tables.specs.Numbered.{AreCounted};
 
 use isad_core::Day;
+use isad_core::limits::MOST_ORDERS;
 use office_tables::from_row::FromRow;
 use office_tables::value::number;
 use office_tables::{StoreFault, find};
 use sqlite::{Alter, Connection, Row};
 use std::alloc::Global;
-
-/// How many orders there may ever be.
-const MOST_ORDERS: u64 = 10_000_000;
 
 /// What has become of an order.
 #[derive(Debug, Clone, Copy, PartialEq, Eq)]

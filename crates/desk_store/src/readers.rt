@@ -18,7 +18,7 @@ ghost use Rattle.desk_store.specs.Rows.{reader_cells};
 ghost use Rattle.desk_store.specs.Represents.{IsLegibleReader, RepresentsDesk, RepresentsDeskAlone, IsLegible};
 ghost use Rattle.office_tables.specs.Numbered.{AreCounted};
 
-use isad_core::{Day, Text};
+use isad_core::{Day, Text, limits};
 use office_tables::from_row::FromRow;
 use office_tables::value::{day, number, words};
 use office_tables::{StoreFault, change, find, find_number};
@@ -26,7 +26,7 @@ use sqlite::{Alter, Connection, Row};
 use std::alloc::Global;
 
 /// How many tickets there may ever be.
-pub(crate) const MOST_TICKETS: u32 = 1_000_000;
+pub(crate) const MOST_TICKETS: u32 = limits::MOST_TICKETS as u32;
 
 /// What the table tells of a ticket.
 #[derive(Debug, Drop)]

@@ -9,6 +9,7 @@ ghost use Rattle.httparse.specs.Spans.{IsHeaderWithin, IsWithin, header_bytes, s
 ghost use Rattle.http_messages.specs.Heads.{is_named, is_digits, strip_zeros, same_number, agrees, asks_leave, asks_close, is_close, list_items, accept, hosts, is_head, weigh_size, weigh_length, Judges, weigh, longest_body, is_body, Refused};
 ghost use Rattle.http_messages.specs.Heard.{verdict_in, IsFit};
 
+use crate::digits::all_digits;
 use crate::status::Status;
 use http::Method;
 use httparse::Status as Progress;
@@ -87,12 +88,6 @@ fn first_named<'b>(block: &'b [u8], fields: &[HeaderSpan], name: &[u8]) -> Optio
         }
     }
     None
-}
-
-fn all_digits(bytes: &[u8]) -> bool
-    ensures { result ≡ list_all is_ascii_digit bytes.now }
-{
-    bytes.iter().all(|b| b.is_ascii_digit())
 }
 
 /// Whether there are digits, and nothing else.
@@ -346,7 +341,7 @@ fn weigh_size(block: &[u8], fields: &[HeaderSpan], line: Line, size: u64) -> Jud
 }
 
 /// Whether there is one Host, or none where none is needed.
-fn has_host(block: &[u8], fields: &[HeaderSpan], minor: u8) -> bool
+fn has_allowed_hosts(block: &[u8], fields: &[HeaderSpan], minor: u8) -> bool
     requires { All (IsHeaderWithin (length block.now)) fields.now }
     ensures { result ≡ not (nat_lt 1 (hosts (map (header_bytes block.now) fields.now))
         || (minor == 1 && (hosts (map (header_bytes block.now) fields.now) == 0))) }
@@ -398,7 +393,7 @@ fn weigh_fields(block: &[u8], fields: &[HeaderSpan], line: Line) -> Judged
         ≡ weigh (span_bytes block.now line.method) (span_bytes block.now line.target) line.minor
         (map (header_bytes block.now) fields.now) }
 {
-    if !has_host(block, fields, line.minor) {
+    if !has_allowed_hosts(block, fields, line.minor) {
         refused(block, line, Status::BadRequest)
     } else if has_named(block, fields, b"transfer-encoding") {
         refused(block, line, Status::NotImplemented)

@@ -4,6 +4,7 @@
 
 pub mod answers;
 pub mod body_form;
+mod digits;
 pub mod head_scan;
 pub mod head_verdict;
 pub mod members;

@@ -8,6 +8,7 @@ ghost use Rattle.http_messages.specs.Routes as spec;
 ghost use Rattle.http_messages.specs.Routing.{route_in, plain_in, makes, beginning, pattern_entry, with_all, patterns, table};
 
 use crate::body_form::Form;
+use crate::digits::all_digits;
 use http::Method;
 use matchit::Router;
 use office_core::Query;
@@ -83,12 +84,6 @@ fn after<'p>(beginning: &[u8], path: &'p [u8]) -> Option<&'p [u8]>
         }
     }
     Some(rest)
-}
-
-fn all_digits(bytes: &[u8]) -> bool
-    ensures { result ≡ list_all is_ascii_digit bytes.now }
-{
-    bytes.iter().all(|b| b.is_ascii_digit())
 }
 
 /// Whether the text is 1 to 10 digits, the first not 0.

@@ -1,20 +1,18 @@
 //! What cells of doubtful origin say of units and their texts.
 
 ghost use Rattle.std.specs.Prelude.{◌≡◌, not, false, length, nat_le, is_some, option_map};
-ghost use Rattle.std.specs.List.{list_all};
 ghost use Rattle.std.specs.Option.{option_map_or};
 ghost use Rattle.sqlite.specs.Value.{owned};
 ghost use Rattle.isad_core.specs.Limits.{most_bytes};
 ghost use Rattle.isad_core.specs.Texts.{is_blank_text};
 ghost use Rattle.catalogue_core.specs.CatalogueCauses.{is_some_day};
-ghost use Rattle.catalogue_core.specs.Sources.{is_source as is_source_name, is_source_letter as may_stand};
+ghost use Rattle.catalogue_core.specs.Sources.{is_source as is_source_name};
 ghost use Rattle.office_tables.specs.Cells.{text_in as text_said, whole_in as whole_said, flag_in, or_null_in};
 
+use catalogue_core::is_source;
 use isad_core::is_blank;
+use isad_core::limits::MOST_BYTES;
 use sqlite::types::ValueRef;
-
-/// How many bytes a text has at most that a file tells.
-const MOST_BYTES: usize = 65_535;
 
 /// A text, which is UTF-8.
 fn text_in(value: ValueRef<'_>) -> Option<&str>
@@ -54,32 +52,6 @@ pub(crate) fn is_short(value: ValueRef<'_>) -> bool
         Some(text) => text.len() <= MOST_BYTES,
         None => false,
     }
-}
-
-/// An ASCII letter, a digit, a dot, a low line or a hyphen.
-fn is_source_letter(b: u8) -> bool
-    ensures { result ≡ may_stand b }
-{
-    (b >= b'A' && b <= b'Z')
-        || (b >= b'a' && b <= b'z')
-        || (b >= b'0' && b <= b'9')
-        || b == b'.'
-        || b == b'_'
-        || b == b'-'
-}
-
-/// Whether all bytes may stand in the name of a source.
-fn are_source_letters(name: &str) -> bool
-    ensures { result ≡ list_all may_stand name.now }
-{
-    name.bytes().all(|b| is_source_letter(b))
-}
-
-/// Whether a name may be a source's: 1 to 64 such letters.
-fn is_source(name: &str) -> bool
-    ensures { result ≡ is_source_name name.now }
-{
-    1 <= name.len() && name.len() <= 64 && are_source_letters(name)
 }
 
 /// Whether it is the name of a source.

@@ -10,12 +10,10 @@ ghost use Rattle.integrity_checks.specs.ScanAnswers.{is_container_answer};
 ghost use Rattle.integrity_checks.specs.CatalogueJudging.{number_of_containers};
 
 use crate::cells::{is_text, tells};
+use isad_core::limits::MOST_CONTAINERS;
 use office_tables::{Gathering, StoreFault, gather};
 use row_decoding::{cell, number_in};
 use sqlite::{Alter, Connection, Row};
-
-/// How many containers an office has at most.
-const MOST_CONTAINERS: u64 = 100_000;
 
 /// Whether the cells of a row say the container with this number.
 fn is_container(row: &Row, number: u64) -> bool

@@ -1,7 +1,6 @@
 //! Whether the rows of the readers can be a desk's, whatever their cells are.
 
-ghost use Rattle.std.specs.Prelude.{◌≡◌, ◌&&◌, nat_le, nat_eq, not, false, IfOk};
-ghost use Rattle.std.specs.List.{list_all};
+ghost use Rattle.std.specs.Prelude.{◌≡◌, ◌&&◌, false, IfOk};
 ghost use Rattle.std.specs.Option.{option_map_or};
 ghost use Rattle.sqlite.specs.Held.{state};
 ghost use Rattle.sqlite.specs.Value.{owned};
@@ -14,14 +13,12 @@ ghost use Rattle.office_tables.specs.Faults.{FaultsHaveCause};
 ghost use Rattle.office_tables.specs.Step.{InOffice};
 ghost use Rattle.integrity_checks.specs.ReaderRows.{is_reader_answer, number_registered};
 
-use isad_core::is_blank;
+use desk_core::is_name;
+use isad_core::limits::MOST_TICKETS;
 use office_tables::{Gathering, StoreFault, gather};
 use row_decoding::{cell, number_in};
 use sqlite::types::ValueRef;
 use sqlite::{Alter, Connection, Row};
-
-/// How many tickets an office gives.
-const MOST_TICKETS: u64 = 1_000_000;
 
 /// Whether it is a day of the calendar.
 fn is_day(value: ValueRef<'_>) -> bool
@@ -33,21 +30,7 @@ fn is_day(value: ValueRef<'_>) -> bool
     }
 }
 
-/// Whether no byte is a control character.
-fn is_printed(bytes: &[u8]) -> bool
-    ensures { result ≡ list_all (λ b. nat_le 32 b && not (nat_eq b 127)) bytes.now }
-{
-    bytes.iter().all(|b| 32 <= *b && *b != 127)
-}
-
-/// Whether it is a name that a reader may have.
-fn is_name(name: &str) -> bool
-    ensures { result ≡ is_name_of name.now }
-{
-    1 <= name.len() && name.len() <= 100 && !is_blank(name) && is_printed(name.as_bytes())
-}
-
-/// Whether it is a text, in UTF-8, and such a name.
+/// Whether it is a text, in UTF-8, and a name that a reader may have.
 fn tells_name(value: ValueRef<'_>) -> bool
     ensures { result ≡ option_map_or is_name_of (text_in (owned value.entry)) false }
 {

@@ -18,16 +18,14 @@ ghost use Rattle.integrity_checks.specs.CatalogueJudging.{are_good_numbers};
 
 use crate::ascending_numbers::Ascending;
 use crate::cells::{is_day_or_null, is_flag, is_short, tells, tells_source};
+use isad_core::limits::{self, MOST_DEEP};
 use office_tables::{Gathering, StoreFault, gather};
 use row_decoding::{cell, number_in};
 use sqlite::{Alter, Connection, Row};
 use std::alloc::Global;
 
 /// How many units an office has at most.
-const MOST_UNITS: usize = 200_000;
-
-/// How many units stand above one another at most, the lowest among them.
-const MOST_DEEP: u64 = 64;
+const MOST_UNITS: usize = limits::MOST_UNITS as usize;
 
 /// Whether the cells of a row, but for its number, are such as a unit has.
 fn is_described(row: &Row) -> bool

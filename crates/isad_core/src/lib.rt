@@ -8,6 +8,7 @@ mod display;
 mod element;
 pub mod laws;
 mod level;
+pub mod limits;
 mod list;
 mod page;
 mod print;

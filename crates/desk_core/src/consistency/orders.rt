@@ -15,10 +15,11 @@ use crate::consistency::context::{Around, is_day, is_given};
 use crate::consistency::key_counts::stands_over;
 use crate::consistency::numbering::are_numbered;
 use crate::consistency::rows::OrderRow;
+use isad_core::limits;
 use std::alloc::{AllocError, Global};
 
 /// How many orders there may ever be.
-const MOST_ORDERS: usize = 10_000_000;
+const MOST_ORDERS: usize = limits::MOST_ORDERS as usize;
 
 /// Whether the orders are such as a desk has: numbered from 1, each by itself, no more of a ticket and a
 /// day than may be, and no two of a ticket that wait or are out for one container. It takes about n log n

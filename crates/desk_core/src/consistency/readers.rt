@@ -9,10 +9,8 @@ ghost use Rattle.desk_core.specs.Consistency.{is_fit_seat, is_fit_permit};
 use crate::consistency::context::{Around, is_day, is_given};
 use crate::consistency::rows::{PermitRow, SeatRow};
 use crate::consistency::tally::Tally;
+use isad_core::limits::MOST_PERMITS;
 use std::alloc::{AllocError, Global};
-
-/// How many permits a ticket may have.
-const MOST_PERMITS: u64 = 100;
 
 /// Whether each seat is one of the office, taken by a reader.
 pub fn are_good_seats(around: &Around, seats: &[SeatRow]) -> bool

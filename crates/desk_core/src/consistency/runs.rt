@@ -13,10 +13,11 @@ use crate::consistency::context::{Around, is_day, is_given};
 use crate::consistency::numbering::{are_numbered, nth_order};
 use crate::consistency::rows::{OrderRow, RunLineRow, RunRow};
 use crate::consistency::tally::Tally;
+use isad_core::limits;
 use std::alloc::{AllocError, Global};
 
 /// How many runs there may ever be.
-const MOST_RUNS: usize = 1_000_000;
+const MOST_RUNS: usize = limits::MOST_RUNS as usize;
 
 /// Whether the runs and their lines are such as a desk with these orders has. The orders are to be good;
 /// in which order the lines come is open.

@@ -11,12 +11,12 @@ ghost use Rattle.finding_aids.specs.Places.{ArePlaced, faults};
 ghost use Rattle.finding_aids.specs.Places as spec;
 
 use atom_csv::{FileFault, Row};
-use isad_core::Text;
+use isad_core::{Text, limits};
 use std::alloc::{AllocError, Global};
 use std::collections::BTreeMap;
 
 /// How deep a unit may lie, where a top is 1.
-const MAX_DEPTH: u32 = 64;
+const MAX_DEPTH: u32 = limits::MOST_DEEP as u32;
 
 /// Where a row stands in a file.
 #[derive(Clone, Copy)]

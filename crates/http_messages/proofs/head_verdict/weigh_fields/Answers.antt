@@ -14,7 +14,7 @@ returns-then-has_named-clause-is c =
     let m = span_bytes c.args.block.now c.args.line.method in
     let t = span_bytes c.args.block.now c.args.line.target in
     c.refused-then-has_named.ensures.is
-    ∙ sym (weigh_coded m t c.args.line.minor (map f fields) (sym c.if-not-has_host.false ∙ c.has_host.ensures) (list_any_map (is_named (codes "transfer-encoding")) f fields ∙ sym c.has_named.ensures ∙ c.if-has_named.true))
+    ∙ sym (weigh_coded m t c.args.line.minor (map f fields) (sym c.if-not-has_allowed_hosts.false ∙ c.has_allowed_hosts.ensures) (list_any_map (is_named (codes "transfer-encoding")) f fields ∙ sym c.has_named.ensures ∙ c.if-has_named.true))
 
 pub returns-else-has_named-clause-is : goal.returns-else-has_named-clause-is
 returns-else-has_named-clause-is c =
@@ -24,4 +24,4 @@ returns-else-has_named-clause-is c =
     let t = span_bytes c.args.block.now c.args.line.target in
     let e = ap (option_map (λ (p : Field). p.1)) (find_map_list (is_named (codes "content-length")) f fields) ∙ option_map_map f (λ (p : Field). p.1) (find (λ h. is_named (codes "content-length") (f h)) fields) in
     c.weigh_said.ensures.is ∙ ap (weigh_length m t c.args.line.minor (map f fields)) (sym e)
-    ∙ sym (weigh_on m t c.args.line.minor (map f fields) (sym c.if-not-has_host.false ∙ c.has_host.ensures) (list_any_map (is_named (codes "transfer-encoding")) f fields ∙ sym c.has_named.ensures ∙ c.if-has_named.false))
+    ∙ sym (weigh_on m t c.args.line.minor (map f fields) (sym c.if-not-has_allowed_hosts.false ∙ c.has_allowed_hosts.ensures) (list_any_map (is_named (codes "transfer-encoding")) f fields ∙ sym c.has_named.ensures ∙ c.if-has_named.false))

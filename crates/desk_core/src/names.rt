@@ -1,0 +1,21 @@
+//! The names of readers.
+
+ghost use Rattle.std.specs.Prelude.{◌≡◌, nat_eq, nat_le, not, ◌&&◌};
+ghost use Rattle.std.specs.List.{list_all};
+ghost use Rattle.desk_core.specs.Names.{is_name as is_reader_name};
+
+use isad_core::is_blank;
+
+/// Whether a text has no control characters.
+fn is_printable(text: &str) -> bool
+    ensures { result ≡ list_all (λ b. nat_le 32 b && not (nat_eq b 127)) text.now }
+{
+    text.bytes().all(|b| b >= b' ' && b != 127)
+}
+
+/// Whether a name may be a reader's: 1 to 100 bytes, not blank, without control characters.
+pub fn is_name(name: &str) -> bool
+    ensures { result ≡ is_reader_name name.now }
+{
+    1 <= name.len() && name.len() <= 100 && !is_blank(name) && is_printable(name)
+}
