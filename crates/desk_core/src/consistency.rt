@@ -6,7 +6,7 @@ mod context;
 mod holdings;
 mod key_counts;
 mod number_set;
-mod numbering;
+mod numbers;
 mod orders;
 mod readers;
 mod rows;

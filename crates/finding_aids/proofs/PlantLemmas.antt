@@ -14,10 +14,10 @@ use Rattle.tree_core.specs.Forest.{Forest, Empty, Node, each, join}
 use Rattle.catalogue_core.specs.Merging.{New, branches, new_unit, has_legacy, number_of, numbered_from}
 use Rattle.catalogue_core.specs.Publishing.{PublicUnit, Told, public_of}
 use Rattle.finding_aids.specs.declared.previews.places.RowPosition.{RowPosition}
-use Rattle.finding_aids.specs.declared.previews.planting.Slot.{Slot}
-use Rattle.finding_aids.specs.declared.previews.planting.Tree.{Tree}
-use Rattle.finding_aids.specs.declared.previews.planting.Tree.TheViews.{out-Tree}
-use Rattle.finding_aids.specs.declared.previews.planting.Tree.TheFolds.{fold_out-Tree}
+use Rattle.finding_aids.specs.declared.previews.trees.Slot.{Slot}
+use Rattle.finding_aids.specs.declared.previews.trees.Tree.{Tree}
+use Rattle.finding_aids.specs.declared.previews.trees.Tree.TheViews.{out-Tree}
+use Rattle.finding_aids.specs.declared.previews.trees.Tree.TheFolds.{fold_out-Tree}
 use Rattle.finding_aids.specs.Places.{AllPlaced, ArePlaced, IsPlaced, depth_below, index_of}
 use Rattle.finding_aids.specs.Planting.{grove, height, height_of_all, height_step, highest, in_order, planted, side_by_side, rest_of, seen_below, tree_of, tree_step}
 use Rattle.finding_aids.specs.Slots.{HasGrown, IsBelow, depth_at, grown_at}

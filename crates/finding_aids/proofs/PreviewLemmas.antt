@@ -20,7 +20,7 @@ use Rattle.finding_aids.specs.Numbers.{AreNumbered, Texts, number_by}
 use Rattle.finding_aids.specs.Places.{faults}
 use Rattle.finding_aids.specs.Planting.{grove, seen_below}
 use Rattle.finding_aids.specs.Preview.{after_merging}
-use Rattle.finding_aids.specs.declared.previews.planting.Tree.{Tree}
+use Rattle.finding_aids.specs.declared.previews.trees.Tree.{Tree}
 
 -- ---- every row of a file is new
 

@@ -13,8 +13,8 @@ use Rattle.tree_core.specs.Forest.{Forest, Empty, Node, join}
 use Rattle.catalogue_core.specs.Publishing.{PublicUnit}
 use Rattle.catalogue_core.specs.Aids.{Repository, identifier_of, shown_by, shown_told, shown_unit_by}
 use Rattle.finding_aids.specs.Planting.{grove, height, height_of_all, side_by_side, tree_of}
-use Rattle.finding_aids.specs.declared.previews.planting.Tree.{Tree}
-use Rattle.finding_aids.specs.declared.previews.planting.Tree.TheViews.{out-Tree}
+use Rattle.finding_aids.specs.declared.previews.trees.Tree.{Tree}
+use Rattle.finding_aids.specs.declared.previews.trees.Tree.TheViews.{out-Tree}
 use Rattle.finding_aids.proofs.PlantLemmas.{height-parts, length-push, side_by_side-push, tree_of-parts}
 
 -- ---- no child is too deep

@@ -4,9 +4,9 @@ use Rattle.atom_csv.specs.declared.file.Row.{Row}
 use Rattle.tree_core.specs.Forest.{Forest, Empty, Node, join}
 use Rattle.catalogue_core.specs.Merging.{New, new_units, numbered_from}
 use Rattle.catalogue_core.specs.Publishing.{PublicUnit, Told, public_of}
-use Rattle.finding_aids.specs.declared.previews.planting.Tree.{Tree}
-use Rattle.finding_aids.specs.declared.previews.planting.Tree.TheOpen.{Tree-F}
-use Rattle.finding_aids.specs.declared.previews.planting.Tree.TheFolds.{fold-Tree}
+use Rattle.finding_aids.specs.declared.previews.trees.Tree.{Tree}
+use Rattle.finding_aids.specs.declared.previews.trees.Tree.TheOpen.{Tree-F}
+use Rattle.finding_aids.specs.declared.previews.trees.Tree.TheFolds.{fold-Tree}
 
 -- forests one after another
 abbrev pub side_by_side : List (Forest PublicUnit) → Forest PublicUnit

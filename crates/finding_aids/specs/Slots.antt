@@ -3,8 +3,8 @@ use Rattle.std.specs.Prelude.{◌≡◌, ℕ, suc, ◌+◌, ◌≤◌, ◌<◌, 
 use Rattle.std.specs.Option.{option_map_or}
 use Rattle.isad_core.specs.Limits.{most_deep}
 use Rattle.atom_csv.specs.declared.file.Row.{Row}
-use Rattle.finding_aids.specs.declared.previews.planting.Slot.{Slot}
-use Rattle.finding_aids.specs.declared.previews.planting.Tree.{Tree}
+use Rattle.finding_aids.specs.declared.previews.trees.Slot.{Slot}
+use Rattle.finding_aids.specs.declared.previews.trees.Tree.{Tree}
 use Rattle.finding_aids.specs.Places.{AllPlaced}
 use Rattle.finding_aids.specs.Planting.{height_of_all, planted, rest_of, seen_below}
 

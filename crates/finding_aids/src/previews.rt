@@ -4,15 +4,15 @@ ghost use Rattle.atom_csv.specs.Reads.{IsBad};
 ghost use Rattle.catalogue_core.specs.Merging.{empty_catalogue, merge};
 ghost use Rattle.finding_aids.specs.Preview.{after_merging, preview_of};
 
+mod aid_printer;
 mod numbers;
 mod places;
-mod planting;
-mod printing;
+mod trees;
 
+use crate::previews::aid_printer::Printer;
 use crate::previews::numbers::number_boxes;
 use crate::previews::places::place_rows;
-use crate::previews::planting::plant;
-use crate::previews::printing::Printer;
+use crate::previews::trees::plant;
 use atom_csv::{FileFault, Row, read_file};
 use std::alloc::Global;
 

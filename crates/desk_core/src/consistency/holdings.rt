@@ -8,7 +8,7 @@ ghost use Rattle.desk_core.specs.Consistency.{holder, is_held, is_fit_holding, i
 ghost use Rattle.desk_core.specs.Consistency.{lies_well as lies_well_of};
 
 use crate::consistency::context::Around;
-use crate::consistency::numbering::nth_order;
+use crate::consistency::numbers::nth_order;
 use crate::consistency::rows::{HoldingRow, OrderRow};
 use crate::consistency::tally::Tally;
 use std::alloc::{AllocError, Global};

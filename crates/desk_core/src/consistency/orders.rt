@@ -13,7 +13,7 @@ ghost use Rattle.desk_core.specs.Consistency.{waits_or_is_out as waits_or_is_out
 
 use crate::consistency::context::{Around, is_day, is_given};
 use crate::consistency::key_counts::stands_over;
-use crate::consistency::numbering::are_numbered;
+use crate::consistency::numbers::are_numbered;
 use crate::consistency::rows::OrderRow;
 use isad_core::limits;
 use std::alloc::{AllocError, Global};

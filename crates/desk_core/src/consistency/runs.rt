@@ -10,7 +10,7 @@ ghost use Rattle.desk_core.specs.Consistency.{is_fit_line as is_fit_line_of};
 ghost use Rattle.desk_core.specs.Consistency.{is_fit_run as is_fit_run_of};
 
 use crate::consistency::context::{Around, is_day, is_given};
-use crate::consistency::numbering::{are_numbered, nth_order};
+use crate::consistency::numbers::{are_numbered, nth_order};
 use crate::consistency::rows::{OrderRow, RunLineRow, RunRow};
 use crate::consistency::tally::Tally;
 use isad_core::limits;

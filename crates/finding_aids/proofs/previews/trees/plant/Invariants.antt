@@ -1,6 +1,6 @@
 use Rattle.std.proofs.Common.{vec_len}
 use Rattle.finding_aids.specs.Slots.{HasGrown}
-use Rattle.finding_aids.proofs.previews.planting.plant.Given as goal
+use Rattle.finding_aids.proofs.previews.trees.plant.Given as goal
 
 abbrev pub invariant-loop-slot : goal.invariant-loop-slot
 invariant-loop-slot l = HasGrown l.rows l.slots.items l.tops.items

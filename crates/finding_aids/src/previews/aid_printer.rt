@@ -8,7 +8,7 @@ ghost use Rattle.finding_aids.specs.Numbers.{number_by};
 ghost use Rattle.catalogue_core.specs.Aids.{shown_by, shown_told};
 
 use crate::previews::numbers::{Numbers, number_of};
-use crate::previews::planting::Tree;
+use crate::previews::trees::Tree;
 use isad_core::{Body, BoxKey, Element, List, Shown, Text, Values, aid_text, join_code};
 use std::alloc::{AllocError, Global};
 

@@ -3,10 +3,10 @@ use Rattle.std.specs.Prelude.{unwrap_or}
 use Rattle.isad_core.specs.Values.{identifier}
 use Rattle.finding_aids.specs.Numbers.{number_by}
 use Rattle.finding_aids.specs.Planting.{height_of_all}
-use Rattle.finding_aids.specs.declared.previews.planting.Tree.{Tree}
-use Rattle.finding_aids.specs.declared.previews.planting.Tree.TheViews.{out-Tree}
+use Rattle.finding_aids.specs.declared.previews.trees.Tree.{Tree}
+use Rattle.finding_aids.specs.declared.previews.trees.Tree.TheViews.{out-Tree}
 use Rattle.finding_aids.proofs.PrintLemmas.{child_fits, child_lower, popped, tree_printed}
-use Rattle.finding_aids.proofs.previews.printing.Printer.+print_trees.Goals as goal
+use Rattle.finding_aids.proofs.previews.aid_printer.Printer.+print_trees.Goals as goal
 
 pub print_trees-requires : goal.print_trees-requires
 print_trees-requires t c =

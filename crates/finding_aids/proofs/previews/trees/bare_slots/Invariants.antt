@@ -1,7 +1,7 @@
 use Rattle.std.proofs.Common.{◌≡◌, [], map, take}
 use Rattle.std.specs.List.{All}
-use Rattle.finding_aids.specs.declared.previews.planting.Slot.{Slot}
-use Rattle.finding_aids.proofs.previews.planting.bare_slots.Given as goal
+use Rattle.finding_aids.specs.declared.previews.trees.Slot.{Slot}
+use Rattle.finding_aids.proofs.previews.trees.bare_slots.Given as goal
 
 abbrev pub invariant-loop-place : goal.invariant-loop-place
 invariant-loop-place l = record {

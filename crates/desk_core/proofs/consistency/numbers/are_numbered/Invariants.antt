@@ -1,6 +1,6 @@
 use Rattle.std.proofs.Common.{◌≡◌, ◌+◌, drop}
 use Rattle.isad_core.specs.Words.{are_numbered_from}
-use Rattle.desk_core.proofs.consistency.numbering.are_numbered.Given as goal
+use Rattle.desk_core.proofs.consistency.numbers.are_numbered.Given as goal
 
 abbrev pub invariant-loop-number : goal.invariant-loop-number
 invariant-loop-number l = record {

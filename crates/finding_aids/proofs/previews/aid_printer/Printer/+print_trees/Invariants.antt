@@ -3,7 +3,7 @@ use Rattle.isad_core.specs.Printed.{aid}
 use Rattle.finding_aids.specs.Planting.{grove, height_of_all}
 use Rattle.finding_aids.specs.Numbers.{number_by}
 use Rattle.catalogue_core.specs.Aids.{shown_by}
-use Rattle.finding_aids.proofs.previews.printing.Printer.+print_trees.Given as goal
+use Rattle.finding_aids.proofs.previews.aid_printer.Printer.+print_trees.Given as goal
 
 abbrev pub decreases-print_trees : goal.decreases-print_trees
 decreases-print_trees l = height_of_all l.trees.now

@@ -2,8 +2,8 @@ use Rattle.std.proofs.Common.{arith, ap}
 use Rattle.std.proofs.Math.Seq.{map-set_same}
 use Rattle.std.proofs.lemmas.Grind.{common_steps}
 use Rattle.std.proofs.lemmas.Option.{gets}
-use Rattle.finding_aids.specs.declared.previews.planting.Slot.{Slot}
-use Rattle.finding_aids.proofs.previews.planting.put_at.Goals as goal
+use Rattle.finding_aids.specs.declared.previews.trees.Slot.{Slot}
+use Rattle.finding_aids.proofs.previews.trees.put_at.Goals as goal
 
 pub returns-clause-places : goal.returns-clause-places
 returns-clause-places c =
