@@ -7,7 +7,6 @@ ghost use Rattle.isad_core.specs.Limits.{IsNumber};
 ghost use Rattle.desk_core.specs.Checks.{issue_checks};
 ghost use Rattle.desk_core.specs.Decisions.{issue_facts};
 ghost use Rattle.desk_core.specs.Refusals.{first_that_holds};
-ghost use Rattle.desk_store.specs.declared.reader_summary.ReaderCard.{ReaderCard as Card};
 ghost use Rattle.desk_store.specs.declared.orders.WaitingOrder.{WaitingOrder as Waiter};
 ghost use Rattle.office_core.specs.Rules.{refusal};
 ghost use Rattle.office_core.specs.Words.{first as first_of};
@@ -18,9 +17,10 @@ ghost use Rattle.refinement.specs.CommandSteps.{CarriesOut};
 ghost use Rattle.desk_commands.specs.Lending.{IsQueuedFor, asked_for};
 
 use crate::container_moves::hand_over;
+use crate::seats::reader_of;
 use catalogue_store::Places;
 use desk_core::{AtDesk, Limits, Place, Reader, may_issue};
-use desk_store::{OrderState, ReaderCard, WaitingOrder, queue, reader};
+use desk_store::{OrderState, WaitingOrder, queue, reader};
 use isad_core::Day;
 use office_core::{Done, Refusal};
 use office_tables::StoreFault;
@@ -35,13 +35,6 @@ struct Wanted {
     container: u64,
     place: Place,
     head: Option<WaitingOrder>,
-}
-
-/// The reader of a card, where there is one.
-fn holder_of(card: &Option<ReaderCard>) -> Option<Reader>
-    ensures { result ≡ option_map (λ (c : Card). c.reader) card.now }
-{
-    card.as_ref().map(|card| card.reader)
 }
 
 /// The ticket of an order, where there is one.
@@ -113,7 +106,7 @@ fn issue_known<P: Places, S: Alter>(
         (state S.Store conn.old) (state S.Store conn.new) result }
 {
     let card = reader(alloc, conn, ticket, today)?;
-    let who = holder_of(&card);
+    let who = reader_of(&card);
     let is_open = is_open_to::<P, S>(alloc, conn, wanted.container, ticket, today)?;
     match decide(wanted, is_open, ticket, who, today, limits) {
         Ok(order) => lend::<P, S>(conn, wanted.container, ticket, order),

@@ -66,8 +66,8 @@ returns g c =
     let shown_b = subst (λ (db : Database). RepresentsState g.P.Places.represents v db s) (sym (card.looks.same at_b)) it in
     refuses g.P.Places.represents v s (command.Issue w.container c.args.ticket) d.now c.in-Err.why
     (sym (c.in-Err.ensures.refused
-    ∙ decided_as v s w.container c.args.ticket sound w.place w.head c.in_ok-is_open.is_open c.holder_of-who.result c.args.today c.args.limits.now so.0 so.1 so.2
-    (c.holder_of-who.ensures ∙ ap (option_map (λ (r : ReaderCard). r.reader)) (card.answers at_b tt (tables v s).desk it.desk))
+    ∙ decided_as v s w.container c.args.ticket sound w.place w.head c.in_ok-is_open.is_open c.reader_of-who.result c.args.today c.args.limits.now so.0 so.1 so.2
+    (c.reader_of-who.ensures ∙ ap (option_map (λ (r : ReaderCard). r.reader)) (card.answers at_b tt (tables v s).desk it.desk))
     (opened.answers clean tt s shown_b (judged_now s sound) so.0))))
 
 pub returns-in-Ok : goal.returns-in-Ok
@@ -85,8 +85,8 @@ returns-in-Ok g c =
     let at_b = early b d _ opened.looks.goes.on.crash clean in
     let shown_b = subst (λ (db : Database). RepresentsState g.P.Places.represents v db s) (sym (card.looks.same at_b)) it in (
       sym (c.in-Ok.ensures.refused
-          ∙ decided_as v s w.container c.args.ticket sound w.place w.head c.in_ok-is_open.is_open c.holder_of-who.result c.args.today c.args.limits.now so.0 so.1 so.2
-          (c.holder_of-who.ensures ∙ ap (option_map (λ (r : ReaderCard). r.reader)) (card.answers at_b tt (tables v s).desk it.desk))
+          ∙ decided_as v s w.container c.args.ticket sound w.place w.head c.in_ok-is_open.is_open c.reader_of-who.result c.args.today c.args.limits.now so.0 so.1 so.2
+          (c.reader_of-who.ensures ∙ ap (option_map (λ (r : ReaderCard). r.reader)) (card.answers at_b tt (tables v s).desk it.desk))
           (opened.answers clean tt s shown_b (judged_now s sound) so.0)),
       first_order s w.container c.in-Ok.order (ap (option_map (λ (x : WaitingOrder). x.order)) (sym so.2.is_first) ∙ c.in-Ok.ensures.order),
     ))
