@@ -142,7 +142,7 @@ def counted(most):
 
 
 TWO_BOXES = [
-    "INSERT INTO unit VALUES (1, 'a', '1', '', 0, NULL)",
+    "INSERT INTO unit (id, source, legacy, level, draft) VALUES (1, 'a', '1', '', 0)",
     "INSERT INTO span VALUES (1, 1, 2)",
     "INSERT INTO element VALUES (1, 2, 'Plans')",
     "INSERT INTO container VALUES (1, 'Box 1', '', '')",
@@ -160,7 +160,7 @@ SQL = {
     ],
     "containers": [counted(99_999) + "INSERT INTO container SELECT i, 'Box ' || i, '', '' FROM n"],
     "units": [
-        counted(199_999) + "INSERT INTO unit SELECT i, 'a', i, '', 1, NULL FROM n",
+        counted(199_999) + "INSERT INTO unit (id, source, legacy, level, draft) SELECT i, 'a', i, '', 1 FROM n",
         counted(199_999) + "INSERT INTO span SELECT i, 2 * i - 1, 2 * i FROM n",
         "UPDATE office SET next_unit = 200000",
     ],

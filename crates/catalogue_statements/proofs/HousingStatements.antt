@@ -48,7 +48,7 @@ use Rattle.office_tables.proofs.statements.OnlyOf.{delete_only}
 use Rattle.office_tables.proofs.Queries.{plain_query, asking, choosing}
 use Rattle.office_tables.proofs.statements.SelectOf.{select_finds, select_faults}
 use Rattle.office_tables.proofs.Steps.{is_referred_to}
-use Rattle.office_tables.proofs.Tests.{only, both, same_number, by_two_ints}
+use Rattle.office_tables.proofs.Tests.{only, both, either_first, same_number, by_two_ints}
 use Rattle.office_tables.proofs.statements.WelcomeOf.{next_welcome, none_agrees}
 use Rattle.catalogue_statements.proofs.ElementStatements.{of_unit, by_unit, to_unit_fits, has_its_unit}
 
@@ -72,9 +72,9 @@ same_place : (a b : ℤ × HousingRow) → agree plain (1 ∷ 2 ∷ []) (housing
 unfolding first_key
 same_place a b = both (same_number a.1.unit b.1.unit) (same_number a.1.ord b.1.ord)
 
-same_house : (a b : ℤ × HousingRow) → agree plain (1 ∷ 3 ∷ []) (housing_row a) (1 ∷ 3 ∷ []) (housing_row b) ≡ (nat_eq b.1.unit a.1.unit && nat_eq b.1.container a.1.container)
+same_house : (a b : ℤ × HousingRow) → agree plain (3 ∷ 1 ∷ []) (housing_row a) (3 ∷ 1 ∷ []) (housing_row b) ≡ (nat_eq b.1.unit a.1.unit && nat_eq b.1.container a.1.container)
 unfolding first_key
-same_house a b = both (same_number a.1.unit b.1.unit) (same_number a.1.container b.1.container)
+same_house a b = both (same_number a.1.container b.1.container) (same_number a.1.unit b.1.unit) ∙ either_first (nat_eq b.1.container a.1.container) (nat_eq b.1.unit a.1.unit)
 
 module _ (old new : State) (unit_id ord n : ℕ) (v : Version) (has : old.now.schema ≡ schema v) where
   abbrev params : Row
@@ -95,8 +95,8 @@ module _ (old new : State) (unit_id ord n : ℕ) (v : Version) (has : old.now.sc
     welcome =
         let apart : list_any (λ r. agree plain (1 ∷ 2 ∷ []) r (1 ∷ 2 ∷ []) (housing_row added)) (old.now.trees housing.tree) ≡ false =
         none_agrees housing_row (old.now.trees housing.tree) xs at (1 ∷ 2 ∷ []) (housing_row added) (λ (h : HousingRow). nat_eq unit_id h.unit && nat_eq ord h.ord) (λ x. same_place x added) none in
-        let other_too : list_any (λ r. agree plain (1 ∷ 3 ∷ []) r (1 ∷ 3 ∷ []) (housing_row added)) (old.now.trees housing.tree) ≡ false =
-        none_agrees housing_row (old.now.trees housing.tree) xs at (1 ∷ 3 ∷ []) (housing_row added) (λ (h : HousingRow). nat_eq unit_id h.unit && nat_eq n h.container) (λ x. same_house x added) other in
+        let other_too : list_any (λ r. agree plain (3 ∷ 1 ∷ []) r (3 ∷ 1 ∷ []) (housing_row added)) (old.now.trees housing.tree) ≡ false =
+        none_agrees housing_row (old.now.trees housing.tree) xs at (3 ∷ 1 ∷ []) (housing_row added) (λ (h : HousingRow). nat_eq unit_id h.unit && nat_eq n h.container) (λ x. same_house x added) other in
         next_welcome v housing housing_row (λ (h : HousingRow). Int (pos h.unit) ∷ Int (pos h.ord) ∷ Int (pos h.container) ∷ []) (λ _. refl) (record { unit = unit_id; ord = ord; container = n }) xs old.now.trees at (rw (apart, other_too) refl)
         (record { typed = refl; present = refl; checked = refl; referred = to_unit_fits v; parents = has_its_unit v old.now.trees (housing_row added) unit_id refl known })
 

@@ -111,27 +111,27 @@ module _ (v : Version) (place : ℕ) where
 parents_left : (v : Version) (old new : Database) (gone : List ℕ) → IsTold old.trees → Keeps ForeignKey (schema v) old.trees → AreRemoved gone old new → Refers All (schema v) new.trees
 parents_left v old new gone told keeps removed =
     let now = removed.units told.units told.unit_rows told.units_rise in (
-      free 0,
+      free tables.reader.tree,
       (
-        free 1,
+        free tables.seat.tree,
         (
-          free 3,
+          free tables.orders.tree,
           (
-            free 6,
+            free tables.holding.tree,
             (
-              free 7,
+              free tables.run.tree,
               (
-                free 8,
+                free tables.run_line.tree,
                 (
                   children_left v 2 permit_cells (λ p. p.unit) (λ _. refl) gone old.trees new.trees told.units told.unit_rows now tables.permit.tree told.permits told.permit_rows (removed.permits told.permits told.permit_rows) keeps.1.1.1.1.1.1.0,
                   (
-                    free 13,
+                    free tables.office.tree,
                     (
-                      free 14,
+                      free tables.unit.tree,
                       (
                         children_left v 1 element_row (λ e. e.unit) (λ _. refl) gone old.trees new.trees told.units told.unit_rows now tables.element.tree told.elements told.element_rows (removed.elements told.elements told.element_rows) keeps.1.1.1.1.1.1.1.1.1.0,
                         (
-                          free 18,
+                          free tables.container.tree,
                           (
                             children_left v 1 housing_row (λ h. h.unit) (λ _. refl) gone old.trees new.trees told.units told.unit_rows now tables.housing.tree told.housings told.housing_rows (removed.housings told.housings told.housing_rows) keeps.1.1.1.1.1.1.1.1.1.1.1.0,
                             (

@@ -99,7 +99,7 @@ abbrev pub status_text : List ℕ
 status_text = codes "SELECT draft, until FROM unit WHERE id = ?1 ORDER BY id"
 
 abbrev pub status_columns : List Term
-status_columns = col 1 5 ∷ col 1 6 ∷ []
+status_columns = col 1 6 ∷ col 1 5 ∷ []
 
 abbrev pub status_names : List (List ℕ)
 status_names = codes "draft" ∷ codes "until" ∷ []
@@ -133,7 +133,7 @@ abbrev pub standing_text : List ℕ
 standing_text = codes "SELECT level, draft, until FROM unit WHERE id = ?1 ORDER BY id"
 
 abbrev pub standing_columns : List Term
-standing_columns = col 1 4 ∷ col 1 5 ∷ col 1 6 ∷ []
+standing_columns = col 1 4 ∷ col 1 6 ∷ col 1 5 ∷ []
 
 abbrev pub standing_names : List (List ℕ)
 standing_names = codes "level" ∷ codes "draft" ∷ codes "until" ∷ []

@@ -58,7 +58,7 @@ abbrev pub insert_unit_text : List ℕ
 insert_unit_text = codes "INSERT INTO unit (id, source, legacy, level, draft, until) VALUES (?1, ?2, ?3, ?4, ?5, NULL)"
 
 abbrev pub insert_unit_terms : List Term
-insert_unit_terms = col 0 0 ∷ lit Null ∷ col 0 1 ∷ col 0 2 ∷ col 0 3 ∷ col 0 4 ∷ lit Null ∷ []
+insert_unit_terms = col 0 0 ∷ lit Null ∷ col 0 1 ∷ col 0 2 ∷ col 0 3 ∷ lit Null ∷ col 0 4 ∷ []
 
 abbrev pub insert_unit_command : Command
 insert_unit_command = Insert 8 (Values insert_unit_terms 7)
@@ -115,7 +115,7 @@ unit_alike a b id source legacy (suc (suc (suc (suc p)))) h = absurd (omega (ari
 unit_typed : (u : Described) → is_typed unit (unit_row u) ≡ true
 unit_typed u = by_closure u.until
   where
-    by_closure : (until : Option ℤ) → is_typed unit (Int (pos u.id) ∷ Null ∷ Text u.source ∷ Text u.legacy ∷ Text u.values.level ∷ Int (flag u.draft) ∷ or_null Int until ∷ []) ≡ true
+    by_closure : (until : Option ℤ) → is_typed unit (Int (pos u.id) ∷ Null ∷ Text u.source ∷ Text u.legacy ∷ Text u.values.level ∷ or_null Int until ∷ Int (flag u.draft) ∷ []) ≡ true
     by_closure None = refl
     by_closure (Some n) = refl
 
@@ -159,7 +159,7 @@ set_level_means Spans = record { is = refl; plain = (refl, refl); whole = (le_re
 module _ (old new : State) (id : ℕ) (values : Description) (v : Version) (has : old.now.schema ≡ schema v) (xs : List Described) (stored : Holds unit unit_row old xs) (up : Rises by_number xs)
     (r : Result Unit StoreFault) (ran : Ran set_level_text (Int (pos id) ∷ Text values.level ∷ []) old new r) where
   abbrev source_of_level : Described → Row
-  source_of_level x = Int (pos x.id) ∷ Int (pos x.id) ∷ Null ∷ Text x.source ∷ Text x.legacy ∷ Text values.level ∷ Int (flag x.draft) ∷ or_null Int x.until ∷ []
+  source_of_level x = Int (pos x.id) ∷ Int (pos x.id) ∷ Null ∷ Text x.source ∷ Text x.legacy ∷ Text values.level ∷ or_null Int x.until ∷ Int (flag x.draft) ∷ []
 
   pub set_level_leaves : OnOk r (HasRows tables.unit.tree (map unit_row (map (λ (x : Described). if nat_eq id x.id then record x { values = values } else x) xs)) old.now new.now)
   set_level_leaves =
@@ -177,7 +177,7 @@ abbrev pub set_draft_text : List ℕ
 set_draft_text = codes "UPDATE unit SET draft = ?2 WHERE id = ?1"
 
 abbrev set_draft_columns : List Term
-set_draft_columns = col 1 0 ∷ col 1 0 ∷ lit Null ∷ col 1 2 ∷ col 1 3 ∷ col 1 4 ∷ col 0 1 ∷ col 1 6 ∷ []
+set_draft_columns = col 1 0 ∷ col 1 0 ∷ lit Null ∷ col 1 2 ∷ col 1 3 ∷ col 1 4 ∷ col 1 5 ∷ col 0 1 ∷ []
 
 abbrev pub set_draft_command : Command
 set_draft_command = Update 8 (choosing unit with_its_number set_draft_columns)
@@ -190,7 +190,7 @@ set_draft_means Spans = record { is = refl; plain = (refl, refl); whole = (le_re
 module _ (old new : State) (id : ℕ) (draft : Bool) (v : Version) (has : old.now.schema ≡ schema v) (xs : List Described) (stored : Holds unit unit_row old xs) (up : Rises by_number xs)
     (r : Result Unit StoreFault) (ran : Ran set_draft_text (Int (pos id) ∷ Int (flag draft) ∷ []) old new r) where
   abbrev source_of_draft : Described → Row
-  source_of_draft x = Int (pos x.id) ∷ Int (pos x.id) ∷ Null ∷ Text x.source ∷ Text x.legacy ∷ Text x.values.level ∷ Int (flag draft) ∷ or_null Int x.until ∷ []
+  source_of_draft x = Int (pos x.id) ∷ Int (pos x.id) ∷ Null ∷ Text x.source ∷ Text x.legacy ∷ Text x.values.level ∷ or_null Int x.until ∷ Int (flag draft) ∷ []
 
   pub set_draft_leaves : OnOk r (HasRows tables.unit.tree (map unit_row (map (λ (x : Described). if nat_eq id x.id then record x { draft = draft } else x) xs)) old.now new.now)
   set_draft_leaves =
@@ -208,7 +208,7 @@ abbrev pub set_until_text : List ℕ
 set_until_text = codes "UPDATE unit SET until = ?2 WHERE id = ?1"
 
 abbrev set_until_columns : List Term
-set_until_columns = col 1 0 ∷ col 1 0 ∷ lit Null ∷ col 1 2 ∷ col 1 3 ∷ col 1 4 ∷ col 1 5 ∷ col 0 1 ∷ []
+set_until_columns = col 1 0 ∷ col 1 0 ∷ lit Null ∷ col 1 2 ∷ col 1 3 ∷ col 1 4 ∷ col 0 1 ∷ col 1 6 ∷ []
 
 abbrev pub set_until_command : Command
 set_until_command = Update 8 (choosing unit with_its_number set_until_columns)
@@ -227,7 +227,7 @@ until_accepted Spans id (Some n) = refl
 module _ (old new : State) (id : ℕ) (until : Option ℤ) (v : Version) (has : old.now.schema ≡ schema v) (xs : List Described) (stored : Holds unit unit_row old xs) (up : Rises by_number xs)
     (r : Result Unit StoreFault) (ran : Ran set_until_text (Int (pos id) ∷ or_null Int until ∷ []) old new r) where
   abbrev source_of_until : Described → Row
-  source_of_until x = Int (pos x.id) ∷ Int (pos x.id) ∷ Null ∷ Text x.source ∷ Text x.legacy ∷ Text x.values.level ∷ Int (flag x.draft) ∷ or_null Int until ∷ []
+  source_of_until x = Int (pos x.id) ∷ Int (pos x.id) ∷ Null ∷ Text x.source ∷ Text x.legacy ∷ Text x.values.level ∷ or_null Int until ∷ Int (flag x.draft) ∷ []
 
   pub set_until_leaves : OnOk r (HasRows tables.unit.tree (map unit_row (map (λ (x : Described). if nat_eq id x.id then record x { until = until } else x) xs)) old.now new.now)
   set_until_leaves =

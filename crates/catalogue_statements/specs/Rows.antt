@@ -45,7 +45,7 @@ told_cells o = settings_cells (told_in Links o)
 -- ---- units
 
 abbrev pub unit_row : Unit → Row
-unit_row u = Int (pos u.id) ∷ Null ∷ Text u.source ∷ Text u.legacy ∷ Text u.values.level ∷ Int (flag u.draft) ∷ or_null Int u.until ∷ []
+unit_row u = Int (pos u.id) ∷ Null ∷ Text u.source ∷ Text u.legacy ∷ Text u.values.level ∷ or_null Int u.until ∷ Int (flag u.draft) ∷ []
 
 abbrev pub by_number : Unit → Unit → Ordering
 by_number a b = int_cmp (pos a.id) (pos b.id)

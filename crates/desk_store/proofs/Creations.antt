@@ -1,14 +1,13 @@
 -- What the definitions of the desk's tables make.
-use Rattle.std.proofs.Common.{ℕ, List, [], ◌∷◌, codes, inl, inr, refl}
+use Rattle.std.proofs.Common.{ℕ, List, [], ◌∷◌, codes, refl}
 use Rattle.sqlite.specs.Table.{Table}
 use Rattle.sqlite.specs.Schema.{Schema}
-use Rattle.sqlite.specs.Change.{created, indexed}
+use Rattle.sqlite.specs.Change.{created}
 use Rattle.sqlite.specs.Listing.{understood}
 use Rattle.sqlite_tied.specs.Compute.{everything}
-use Rattle.sqlite_schema.specs.declared.schema.Index.{Index}
 use Rattle.office_tables.proofs.Creations.{naming}
-use Rattle.office_tables.specs.Creation.{DefinesTable, DefinesIndex}
-use Rattle.office_tables.specs.Schema.{no_schema, desk_schema, reader, seat, orders, holding, run, run_line, permit, orders_by_state, orders_by_ticket, permit_by_unit}
+use Rattle.office_tables.specs.Creation.{DefinesTable}
+use Rattle.office_tables.specs.Schema.{no_schema, desk_schema, reader, seat, orders, holding, run, run_line, permit}
 
 abbrev pub reader_text : List ℕ
 reader_text = codes "CREATE TABLE reader (ticket INTEGER PRIMARY KEY, name TEXT NOT NULL, until INTEGER NOT NULL) STRICT"
@@ -17,16 +16,10 @@ abbrev pub seat_text : List ℕ
 seat_text = codes "CREATE TABLE seat (seat INTEGER PRIMARY KEY, ticket INTEGER NOT NULL, UNIQUE (ticket)) STRICT"
 
 abbrev pub orders_text : List ℕ
-orders_text = codes "CREATE TABLE orders (id INTEGER PRIMARY KEY, ticket INTEGER NOT NULL, container INTEGER NOT NULL, day INTEGER NOT NULL, state INTEGER NOT NULL) STRICT"
-
-abbrev pub orders_by_state_text : List ℕ
-orders_by_state_text = codes "CREATE INDEX orders_by_state ON orders (state, container, ticket)"
-
-abbrev pub orders_by_ticket_text : List ℕ
-orders_by_ticket_text = codes "CREATE INDEX orders_by_ticket ON orders (ticket, day)"
+orders_text = codes "CREATE TABLE orders (id INTEGER PRIMARY KEY, ticket INTEGER NOT NULL, container INTEGER NOT NULL, day INTEGER NOT NULL, state INTEGER NOT NULL, UNIQUE (state, container, id, ticket), UNIQUE (ticket, day, id), UNIQUE (ticket, state, id)) STRICT"
 
 abbrev pub holding_text : List ℕ
-holding_text = codes "CREATE TABLE holding (container INTEGER PRIMARY KEY, place INTEGER NOT NULL, held_by INTEGER) STRICT"
+holding_text = codes "CREATE TABLE holding (container INTEGER PRIMARY KEY, held_by INTEGER, place INTEGER NOT NULL) STRICT"
 
 abbrev pub run_text : List ℕ
 run_text = codes "CREATE TABLE run (id INTEGER PRIMARY KEY, day INTEGER NOT NULL) STRICT"
@@ -35,18 +28,12 @@ abbrev pub run_line_text : List ℕ
 run_line_text = codes "CREATE TABLE run_line (run INTEGER NOT NULL, container INTEGER NOT NULL, order_no INTEGER NOT NULL, ticket INTEGER NOT NULL, PRIMARY KEY (run, container)) STRICT"
 
 abbrev pub permit_text : List ℕ
-permit_text = codes "CREATE TABLE permit (ticket INTEGER NOT NULL, unit INTEGER NOT NULL REFERENCES unit ON DELETE CASCADE, until INTEGER NOT NULL, PRIMARY KEY (ticket, unit)) STRICT"
-
-abbrev pub permit_by_unit_text : List ℕ
-permit_by_unit_text = codes "CREATE INDEX permit_by_unit ON permit (unit)"
+permit_text = codes "CREATE TABLE permit (ticket INTEGER NOT NULL, unit INTEGER NOT NULL REFERENCES unit ON DELETE CASCADE, until INTEGER NOT NULL, PRIMARY KEY (ticket, unit), UNIQUE (unit, ticket)) STRICT"
 
 -- ---- the schema after each definition in turn
 
 abbrev free : Table → Table
 free t = record t { tree = 0 }
-
-abbrev free_index : Index → Index
-free_index i = record i { tree = 0 }
 
 abbrev pub s1 : Schema
 s1 = created no_schema (free reader)
@@ -58,22 +45,13 @@ abbrev pub s3 : Schema
 s3 = created s2 (free orders)
 
 abbrev pub s4 : Schema
-s4 = indexed s3 orders (free_index orders_by_state)
+s4 = created s3 (free holding)
 
 abbrev pub s5 : Schema
-s5 = indexed s4 orders (free_index orders_by_ticket)
+s5 = created s4 (free run)
 
 abbrev pub s6 : Schema
-s6 = created s5 (free holding)
-
-abbrev pub s7 : Schema
-s7 = created s6 (free run)
-
-abbrev pub s8 : Schema
-s8 = created s7 (free run_line)
-
-abbrev pub s9 : Schema
-s9 = created s8 (free permit)
+s6 = created s5 (free run_line)
 
 pub reader_defined : DefinesTable [] no_schema reader_text s1
 unfolding understood everything naming
@@ -87,30 +65,18 @@ pub orders_defined : DefinesTable [] s2 orders_text s3
 unfolding understood everything naming
 orders_defined = record { table = free orders; says = record { is = refl; plain = (refl, refl); whole = refl; alone = (refl, refl) }; defined = refl; allowed = record { named = record { free = refl; utf8 = refl; unreserved = refl }; guards = refl; formed = refl; fit = refl; trees = refl; reals = refl; key_reals = refl }; uncounted = refl; is = refl; more = reader ∷ seat ∷ []; first = refl; rest = refl; last = refl }
 
-pub orders_by_state_indexed : DefinesIndex [] s3 orders_by_state_text s4
-unfolding understood everything naming
-orders_by_state_indexed = record { at = 2; table = orders; index = free_index orders_by_state; says = record { is = refl; plain = (refl, refl); whole = refl; alone = (refl, refl) }; place = refl; defined = refl; allowed = record { named = record { free = refl; utf8 = refl; unreserved = refl }; utf8 = refl; fit = refl; trees = refl; reals = refl; key_reals = refl }; is = refl; same = refl; more = reader ∷ seat ∷ orders ∷ []; first = refl; rest = refl; among = inr (inr (inl refl)) }
-
-pub orders_by_ticket_indexed : DefinesIndex [] s4 orders_by_ticket_text s5
-unfolding understood everything naming
-orders_by_ticket_indexed = record { at = 2; table = orders; index = free_index orders_by_ticket; says = record { is = refl; plain = (refl, refl); whole = refl; alone = (refl, refl) }; place = refl; defined = refl; allowed = record { named = record { free = refl; utf8 = refl; unreserved = refl }; utf8 = refl; fit = refl; trees = refl; reals = refl; key_reals = refl }; is = refl; same = refl; more = reader ∷ seat ∷ orders ∷ []; first = refl; rest = refl; among = inr (inr (inl refl)) }
-
-pub holding_defined : DefinesTable [] s5 holding_text s6
+pub holding_defined : DefinesTable [] s3 holding_text s4
 unfolding understood everything naming
 holding_defined = record { table = free holding; says = record { is = refl; plain = (refl, refl); whole = refl; alone = (refl, refl) }; defined = refl; allowed = record { named = record { free = refl; utf8 = refl; unreserved = refl }; guards = refl; formed = refl; fit = refl; trees = refl; reals = refl; key_reals = refl }; uncounted = refl; is = refl; more = reader ∷ seat ∷ orders ∷ []; first = refl; rest = refl; last = refl }
 
-pub run_defined : DefinesTable [] s6 run_text s7
+pub run_defined : DefinesTable [] s4 run_text s5
 unfolding understood everything naming
 run_defined = record { table = free run; says = record { is = refl; plain = (refl, refl); whole = refl; alone = (refl, refl) }; defined = refl; allowed = record { named = record { free = refl; utf8 = refl; unreserved = refl }; guards = refl; formed = refl; fit = refl; trees = refl; reals = refl; key_reals = refl }; uncounted = refl; is = refl; more = reader ∷ seat ∷ orders ∷ holding ∷ []; first = refl; rest = refl; last = refl }
 
-pub run_line_defined : DefinesTable [] s7 run_line_text s8
+pub run_line_defined : DefinesTable [] s5 run_line_text s6
 unfolding understood everything naming
 run_line_defined = record { table = free run_line; says = record { is = refl; plain = (refl, refl); whole = refl; alone = (refl, refl) }; defined = refl; allowed = record { named = record { free = refl; utf8 = refl; unreserved = refl }; guards = refl; formed = refl; fit = refl; trees = refl; reals = refl; key_reals = refl }; uncounted = refl; is = refl; more = reader ∷ seat ∷ orders ∷ holding ∷ run ∷ []; first = refl; rest = refl; last = refl }
 
-pub permit_defined : DefinesTable [] s8 permit_text s9
+pub permit_defined : DefinesTable [] s6 permit_text desk_schema
 unfolding understood everything naming
 permit_defined = record { table = free permit; says = record { is = refl; plain = (refl, refl); whole = refl; alone = (refl, refl) }; defined = refl; allowed = record { named = record { free = refl; utf8 = refl; unreserved = refl }; guards = refl; formed = refl; fit = refl; trees = refl; reals = refl; key_reals = refl }; uncounted = refl; is = refl; more = reader ∷ seat ∷ orders ∷ holding ∷ run ∷ run_line ∷ []; first = refl; rest = refl; last = refl }
-
-pub permit_by_unit_indexed : DefinesIndex [] s9 permit_by_unit_text desk_schema
-unfolding understood everything naming
-permit_by_unit_indexed = record { at = 6; table = permit; index = free_index permit_by_unit; says = record { is = refl; plain = (refl, refl); whole = refl; alone = (refl, refl) }; place = refl; defined = refl; allowed = record { named = record { free = refl; utf8 = refl; unreserved = refl }; utf8 = refl; fit = refl; trees = refl; reals = refl; key_reals = refl }; is = refl; same = refl; more = reader ∷ seat ∷ orders ∷ holding ∷ run ∷ run_line ∷ permit ∷ []; first = refl; rest = refl; among = inr (inr (inr (inr (inr (inr (inl refl)))))) }

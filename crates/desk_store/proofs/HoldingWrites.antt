@@ -107,7 +107,7 @@ abbrev pub insert_holding_text : List ℕ
 insert_holding_text = codes "INSERT INTO holding (container, place, held_by) VALUES (?1, ?2, ?3)"
 
 abbrev pub insert_holding_terms : List Term
-insert_holding_terms = col 0 0 ∷ lit Null ∷ col 0 1 ∷ col 0 2 ∷ []
+insert_holding_terms = col 0 0 ∷ lit Null ∷ col 0 2 ∷ col 0 1 ∷ []
 
 abbrev pub insert_holding_command : Command
 insert_holding_command = Insert 3 (Values insert_holding_terms 4)

@@ -54,7 +54,7 @@ abbrev pub line_cells : HoldingLine → Row
 line_cells h = Int (pos h.container) ∷ or_null Int (option_map pos h.held_by) ∷ []
 
 abbrev line_columns : List Term
-line_columns = col 1 0 ∷ col 1 3 ∷ []
+line_columns = col 1 0 ∷ col 1 2 ∷ []
 
 abbrev line_names : List (List ℕ)
 line_names = codes "container" ∷ codes "held_by" ∷ []

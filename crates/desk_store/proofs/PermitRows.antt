@@ -49,7 +49,7 @@ use Rattle.office_tables.proofs.statements.DeleteOf.{delete_leaves, delete_fault
 use Rattle.office_tables.proofs.InsertCauses.{IsWelcome}
 use Rattle.office_tables.proofs.statements.InsertOf.{insert_puts, insert_faults}
 use Rattle.office_tables.proofs.statements.SelectOf.{select_finds, select_faults}
-use Rattle.office_tables.proofs.Tests.{only, both, same_number, by_two_ints}
+use Rattle.office_tables.proofs.Tests.{only, both, either_first, same_number, by_two_ints}
 use Rattle.office_tables.proofs.statements.OnlyOf.{delete_only}
 use Rattle.office_tables.proofs.numbered.OwnNumbers.{all_numbered, those_left}
 use Rattle.office_tables.proofs.statements.WelcomeOf.{next_welcome, none_agrees}
@@ -94,6 +94,11 @@ same_permit : (a b : ℤ × PermitRow) → agree plain (1 ∷ 2 ∷ []) (permit_
 unfolding first_key
 same_permit a b = both (same_number a.1.ticket b.1.ticket) (same_number a.1.unit b.1.unit)
 
+-- the same by the unit first
+same_by_unit : (a b : ℤ × PermitRow) → agree plain (2 ∷ 1 ∷ []) (permit_cells a) (2 ∷ 1 ∷ []) (permit_cells b) ≡ is_permit b.1.ticket b.1.unit a.1
+unfolding first_key
+same_by_unit a b = both (same_number a.1.unit b.1.unit) (same_number a.1.ticket b.1.ticket) ∙ either_first (nat_eq b.1.unit a.1.unit) (nat_eq b.1.ticket a.1.ticket)
+
 module _ (old new : State) (p : PermitRow) (v : Version) (has : old.now.schema ≡ schema v) where
   abbrev params : Row
   params = Int (pos p.ticket) ∷ Int (pos p.unit) ∷ Int p.until ∷ []
@@ -112,7 +117,9 @@ module _ (old new : State) (p : PermitRow) (v : Version) (has : old.now.schema �
     welcome =
         let apart : list_any (λ r. agree plain (1 ∷ 2 ∷ []) r (1 ∷ 2 ∷ []) (permit_cells added)) (old.now.trees permit.tree) ≡ false =
         none_agrees permit_cells (old.now.trees permit.tree) ps at (1 ∷ 2 ∷ []) (permit_cells added) (is_permit p.ticket p.unit) (λ x. same_permit x added) none in
-        next_welcome v permit permit_cells (λ (p : PermitRow). Int (pos p.ticket) ∷ Int (pos p.unit) ∷ Int p.until ∷ []) (λ _. refl) p ps old.now.trees at (rw apart refl)
+        let apart_too : list_any (λ r. agree plain (2 ∷ 1 ∷ []) r (2 ∷ 1 ∷ []) (permit_cells added)) (old.now.trees permit.tree) ≡ false =
+        none_agrees permit_cells (old.now.trees permit.tree) ps at (2 ∷ 1 ∷ []) (permit_cells added) (is_permit p.ticket p.unit) (λ x. same_by_unit x added) none in
+        next_welcome v permit permit_cells (λ (p : PermitRow). Int (pos p.ticket) ∷ Int (pos p.unit) ∷ Int p.until ∷ []) (λ _. refl) p ps old.now.trees at (rw (apart, apart_too) refl)
         (record { typed = refl; present = refl; checked = refl; referred = unit_fits v; parents = has_its_unit v old.now.trees (permit_cells added) p.unit refl known })
 
     pub insert_permit_faults : IsUnlimited old → IsLive old → (r : Result Unit StoreFault) → Ran insert_permit_text params old new r → IfErr r (HasCause old new)

@@ -48,7 +48,7 @@ abbrev with_its_number : List Term
 with_its_number = op2 (Compare Eq Binary) (col 1 0) (col 0 0) ∷ []
 
 abbrev place_columns : List Term
-place_columns = col 1 2 ∷ col 1 3 ∷ []
+place_columns = col 1 3 ∷ col 1 2 ∷ []
 
 abbrev place_names : List (List ℕ)
 place_names = codes "place" ∷ codes "held_by" ∷ []

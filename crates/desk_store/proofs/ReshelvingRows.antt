@@ -34,7 +34,7 @@ abbrev pub number_cells : ℕ → Row
 number_cells n = Int (pos n) ∷ []
 
 abbrev is_there : List Term
-is_there = op2 (Compare Eq Binary) (col 1 2) (lit (Int (pos 1))) ∷ []
+is_there = op2 (Compare Eq Binary) (col 1 3) (lit (Int (pos 1))) ∷ []
 
 abbrev pub desk_text : List ℕ
 desk_text = codes "SELECT container FROM holding WHERE place = 1 ORDER BY container"

@@ -76,8 +76,8 @@ impl FromRow for OrderLine {
     }
 }
 
-/// The orders of a ticket that wait or are out, by number. They are found by the ticket, in the
-/// index of the orders by ticket and day.
+/// The orders of a ticket that wait or are out, by number. They are found by the index of the
+/// orders by ticket and state, so that those that have ended are not looked at.
 pub(crate) fn live_lines<S: Alter>(
     alloc: Global,
     conn: &mut Connection<S>,

@@ -42,8 +42,8 @@ impl FromRow for FirstOrder {
     }
 }
 
-/// The orders that wait, by number. They are found by the index of the orders by state, container
-/// and ticket, so that those that have ended are not looked at.
+/// The orders that wait, by number. They are found by the index of the orders by state and
+/// container, so that those that have ended are not looked at.
 fn waiting_orders<S: Alter>(
     alloc: Global,
     conn: &mut Connection<S>,

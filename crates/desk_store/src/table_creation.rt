@@ -11,7 +11,7 @@ ghost use Rattle.office_tables.specs.Step.{Continues, IsAborted};
 ghost use Rattle.desk_store.specs.Making.{reader_schema, order_schema, run_schema};
 
 use crate::blank::is_blank;
-use office_tables::{StoreFault, create_index, create_table};
+use office_tables::{StoreFault, create_table};
 use sqlite::{Alter, Connection};
 
 /// Makes the tables of the readers and of the seats that are taken.
@@ -48,15 +48,7 @@ fn create_orders<S: Alter>(conn: &mut Connection<S>) -> Result<(), StoreFault>
 {
     create_table(
         conn,
-        "CREATE TABLE orders (id INTEGER PRIMARY KEY, ticket INTEGER NOT NULL, container INTEGER NOT NULL, day INTEGER NOT NULL, state INTEGER NOT NULL) STRICT",
-    )?;
-    create_index(
-        conn,
-        "CREATE INDEX orders_by_state ON orders (state, container, ticket)",
-    )?;
-    create_index(
-        conn,
-        "CREATE INDEX orders_by_ticket ON orders (ticket, day)",
+        "CREATE TABLE orders (id INTEGER PRIMARY KEY, ticket INTEGER NOT NULL, container INTEGER NOT NULL, day INTEGER NOT NULL, state INTEGER NOT NULL, UNIQUE (state, container, id, ticket), UNIQUE (ticket, day, id), UNIQUE (ticket, state, id)) STRICT",
     )
 }
 
@@ -73,7 +65,7 @@ fn create_runs<S: Alter>(conn: &mut Connection<S>) -> Result<(), StoreFault>
 {
     create_table(
         conn,
-        "CREATE TABLE holding (container INTEGER PRIMARY KEY, place INTEGER NOT NULL, held_by INTEGER) STRICT",
+        "CREATE TABLE holding (container INTEGER PRIMARY KEY, held_by INTEGER, place INTEGER NOT NULL) STRICT",
     )?;
     create_table(
         conn,
@@ -98,9 +90,8 @@ fn create_permits<S: Alter>(conn: &mut Connection<S>) -> Result<(), StoreFault>
 {
     create_table(
         conn,
-        "CREATE TABLE permit (ticket INTEGER NOT NULL, unit INTEGER NOT NULL REFERENCES unit ON DELETE CASCADE, until INTEGER NOT NULL, PRIMARY KEY (ticket, unit)) STRICT",
-    )?;
-    create_index(conn, "CREATE INDEX permit_by_unit ON permit (unit)")
+        "CREATE TABLE permit (ticket INTEGER NOT NULL, unit INTEGER NOT NULL REFERENCES unit ON DELETE CASCADE, until INTEGER NOT NULL, PRIMARY KEY (ticket, unit), UNIQUE (unit, ticket)) STRICT",
+    )
 }
 
 /// Makes the desk's tables, where there are none.

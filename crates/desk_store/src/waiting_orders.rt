@@ -40,7 +40,7 @@ impl FromRow for WaitingOrder {
 }
 
 /// The orders that wait for a container, by number. They are found by the index of the orders by
-/// state, container and ticket, so that those that have ended are not looked at.
+/// state and container, in which they stand by number.
 pub(crate) fn waiting_for<S: Alter>(
     alloc: Global,
     conn: &mut Connection<S>,

@@ -19,7 +19,7 @@ use Rattle.sqlite_tied.specs.Compute.{everything}
 use Rattle.sqlite_trees.specs.Sound.{same_name, begins, is_free_name, fits_kind}
 use Rattle.office_tables.specs.Creation.{DefinesTable, DefinesIndex, HasMade}
 use Rattle.tree_core.specs.Versions.{Links}
-use Rattle.office_tables.specs.Schema.{desk_schema, desk_tables, schema, office, unit, element, container, housing, housing_by_container, link, index}
+use Rattle.office_tables.specs.Schema.{desk_schema, desk_tables, schema, office, unit, element, container, housing, link, index}
 use Rattle.office_tables.proofs.Steps.{went, same_value}
 
 -- all that unfolds when a name and the text that defines it are judged
@@ -31,7 +31,7 @@ abbrev pub office_text : List ℕ
 office_text = codes "CREATE TABLE office (one INTEGER PRIMARY KEY, version INTEGER NOT NULL, country TEXT NOT NULL, repo TEXT NOT NULL, seats INTEGER NOT NULL, daily INTEGER NOT NULL, hands INTEGER NOT NULL, run_size INTEGER NOT NULL, day INTEGER NOT NULL, next_unit INTEGER NOT NULL) STRICT"
 
 abbrev pub unit_text : List ℕ
-unit_text = codes "CREATE TABLE unit (id INTEGER PRIMARY KEY, source TEXT NOT NULL, legacy TEXT NOT NULL, level TEXT NOT NULL, draft INTEGER NOT NULL, until INTEGER, UNIQUE (source, legacy)) STRICT"
+unit_text = codes "CREATE TABLE unit (id INTEGER PRIMARY KEY, source TEXT NOT NULL, legacy TEXT NOT NULL, level TEXT NOT NULL, until INTEGER, draft INTEGER NOT NULL, UNIQUE (source, legacy)) STRICT"
 
 abbrev pub element_text : List ℕ
 element_text = codes "CREATE TABLE element (unit INTEGER NOT NULL REFERENCES unit ON DELETE CASCADE, k INTEGER NOT NULL, value TEXT NOT NULL, PRIMARY KEY (unit, k)) STRICT"
@@ -40,10 +40,7 @@ abbrev pub container_text : List ℕ
 container_text = codes "CREATE TABLE container (id INTEGER PRIMARY KEY, name TEXT NOT NULL, location TEXT NOT NULL, kind TEXT NOT NULL, UNIQUE (name, location, kind)) STRICT"
 
 abbrev pub housing_text : List ℕ
-housing_text = codes "CREATE TABLE housing (unit INTEGER NOT NULL REFERENCES unit ON DELETE CASCADE, ord INTEGER NOT NULL, container INTEGER NOT NULL, PRIMARY KEY (unit, ord), UNIQUE (unit, container)) STRICT"
-
-abbrev pub housing_index_text : List ℕ
-housing_index_text = codes "CREATE INDEX housing_by_container ON housing (container)"
+housing_text = codes "CREATE TABLE housing (unit INTEGER NOT NULL REFERENCES unit ON DELETE CASCADE, ord INTEGER NOT NULL, container INTEGER NOT NULL, PRIMARY KEY (unit, ord), UNIQUE (container, unit)) STRICT"
 
 abbrev pub link_index_text : List ℕ
 link_index_text = codes "CREATE INDEX link_by_parent ON link (parent, ord)"
@@ -72,10 +69,7 @@ abbrev pub s5 : Schema
 s5 = created s4 (free housing)
 
 abbrev pub s6 : Schema
-s6 = indexed s5 housing (record housing_by_container { tree = 0 })
-
-abbrev pub s7 : Schema
-s7 = created s6 (free link)
+s6 = created s5 (free link)
 
 pub office_defined : DefinesTable desk_tables desk_schema office_text s1
 unfolding understood everything naming
@@ -97,15 +91,11 @@ pub housing_defined : DefinesTable desk_tables s4 housing_text s5
 unfolding understood everything naming
 housing_defined = record { table = free housing; says = record { is = refl; plain = (refl, refl); whole = refl; alone = (refl, refl) }; defined = refl; allowed = record { named = record { free = refl; utf8 = refl; unreserved = refl }; guards = refl; formed = refl; fit = refl; trees = refl; reals = refl; key_reals = refl }; uncounted = refl; is = refl; more = office ∷ unit ∷ element ∷ container ∷ []; first = refl; rest = refl; last = refl }
 
-pub housing_indexed : DefinesIndex desk_tables s5 housing_index_text s6
-unfolding understood everything naming
-housing_indexed = record { at = 11; table = housing; index = record housing_by_container { tree = 0 }; says = record { is = refl; plain = (refl, refl); whole = refl; alone = (refl, refl) }; place = refl; defined = refl; allowed = record { named = record { free = refl; utf8 = refl; unreserved = refl }; utf8 = refl; fit = refl; trees = refl; reals = refl; key_reals = refl }; is = refl; same = refl; more = office ∷ unit ∷ element ∷ container ∷ housing ∷ []; first = refl; rest = refl; among = inr (inr (inr (inr (inl refl)))) }
-
-pub link_defined : DefinesTable desk_tables s6 link_text s7
+pub link_defined : DefinesTable desk_tables s5 link_text s6
 unfolding understood everything naming
 link_defined = record { table = free link; says = record { is = refl; plain = (refl, refl); whole = refl; alone = (refl, refl) }; defined = refl; allowed = record { named = record { free = refl; utf8 = refl; unreserved = refl }; guards = refl; formed = refl; fit = refl; trees = refl; reals = refl; key_reals = refl }; uncounted = refl; is = refl; more = office ∷ unit ∷ element ∷ container ∷ housing ∷ []; first = refl; rest = refl; last = refl }
 
-pub link_indexed : DefinesIndex desk_tables s7 link_index_text (schema Links)
+pub link_indexed : DefinesIndex desk_tables s6 link_index_text (schema Links)
 unfolding understood everything naming
 link_indexed = record { at = 12; table = link; index = index (codes "link_by_parent") 0 link (2 ∷ 3 ∷ []); says = record { is = refl; plain = (refl, refl); whole = refl; alone = (refl, refl) }; place = refl; defined = refl; allowed = record { named = record { free = refl; utf8 = refl; unreserved = refl }; utf8 = refl; fit = refl; trees = refl; reals = refl; key_reals = refl }; is = refl; same = refl; more = office ∷ unit ∷ element ∷ container ∷ housing ∷ link ∷ []; first = refl; rest = refl; among = inr (inr (inr (inr (inr (inl refl))))) }
 

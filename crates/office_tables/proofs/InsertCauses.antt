@@ -1,5 +1,5 @@
 -- Why the INSERT of one row fails, where its table takes the row: for want of memory, or of the disk.
-use Rattle.std.proofs.Common.{◌≡◌, ◌≢◌, ◌⊎◌, inl, inr, IsSome, ℕ, ◌/◌, List, [], ◌∷◌, length, slice_get, Bool, true, false, not, ◌&&◌, eqb, Err, Option, Some, None, refl, sym, ap, subst, ◌∙◌, true≢false}
+use Rattle.std.proofs.Common.{◌≡◌, ◌≢◌, ◌⊎◌, inl, inr, IsSome, ℕ, ◌/◌, List, [], ◌∷◌, length, slice_get, Bool, true, false, not, ◌&&◌, ◌||◌, eqb, Err, Option, Some, None, refl, sym, ap, subst, ◌∙◌, true≢false}
 use Rattle.std.proofs.lemmas.Bool.{both_ways, not-true, and_parts, and_from, or_cases, or_left, or_right, not_from_false, false_from_ne_true, cases_eq, eq-eqb, ne_eqb}
 use Rattle.std.proofs.lemmas.Cmp.{tied_itself}
 use Rattle.std.specs.List.{list_any, list_all}
@@ -41,6 +41,7 @@ use Rattle.tree_core.specs.Versions.{Version, Links, Spans}
 use Rattle.office_tables.specs.Schema.{schema}
 use Rattle.office_tables.proofs.Causes.{failed_cause}
 use Rattle.office_tables.proofs.Failures.{IsWhole, fails_as}
+use Rattle.office_tables.proofs.NumberedKeys.{is_numbered, never_clashes}
 use Rattle.office_tables.proofs.Refusals.{IsInsertRefusal, by_source, by_rule, by_key, insert_refused, never_misplaced}
 use Rattle.office_tables.proofs.Steps.{plain}
 use Rattle.office_tables.proofs.Tests.{flag}
@@ -76,8 +77,8 @@ pub record IsWelcome (schema : Schema) (db : Trees) (table : Table) (row : Row) 
   pub typed : passes Datatype schema db table row ≡ true
   pub present : passes NotNull schema db table row ≡ true
   pub checked : passes Check schema db table row ≡ true
-  -- no row has its key in a unique index
-  pub alone : list_all (λ i. not (guards i table && list_any (λ r. agree i.order i.columns r i.columns row) (db table.tree))) schema.indexes ≡ true
+  -- no row has its key in a unique index, but for one that holds the number of the row
+  pub alone : list_all (λ i. is_numbered i || not (guards i table && list_any (λ r. agree i.order i.columns r i.columns row) (db table.tree))) schema.indexes ≡ true
   -- what it refers to is there
   pub referred : list_all (is_key_of schema) table.references ≡ true
   pub parents : list_all (has_parent schema.tables db row) table.references ≡ true
@@ -107,14 +108,16 @@ module _ (schema : Schema) (apart : IsAscending (λ (a b : Table). a.tree ≡ b.
   }
 
   no_clash : (i : Index) → Has schema.indexes i → guards i table ≡ true → clashes i.order i.columns (after table.tree) row ≡ true → ⊥
-  no_clash i known on clash =
-      let other = some_has _ (after table.tree) clash in
-      let parts = and_parts _ _ other.2 in
-      elim (put_has row (db table.tree) other.0 (subst (λ l. Has l other.0) rows other.1)) [
-        | inl is ↦ differs_not (rowid row) welcome.keyed (subst (λ r. differ (rowid r) (rowid row) ≡ true) is parts.1)
-        | inr was ↦ both_ways _ (not-true _ (test_has _ schema.indexes i welcome.alone known))
-            (and_from _ _ on (some_from (λ r. agree i.order i.columns r i.columns row) (db table.tree) other.0 was parts.0))
-      ]
+  no_clash i known on clash = elim (or_cases _ _ (test_has _ schema.indexes i welcome.alone known)) [
+    | inl numbered ↦ never_clashes i (after table.tree) row numbered clash
+    | inr lone ↦
+        let other = some_has _ (after table.tree) clash in
+        let parts = and_parts _ _ other.2 in
+        elim (put_has row (db table.tree) other.0 (subst (λ l. Has l other.0) rows other.1)) [
+          | inl is ↦ differs_not (rowid row) welcome.keyed (subst (λ r. differ (rowid r) (rowid row) ≡ true) is parts.1)
+          | inr was ↦ both_ways _ (not-true _ lone) (and_from _ _ on (some_from (λ r. agree i.order i.columns r i.columns row) (db table.tree) other.0 was parts.0))
+        ]
+  ]
 
   unique : are_unique schema.indexes after table (row ∷ []) ≡ true
   unique = test_from _ schema.indexes (λ i known. not_from_false _ (false_from_ne_true _ (λ both.

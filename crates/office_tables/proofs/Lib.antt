@@ -23,6 +23,7 @@ pub mod Creations
 pub mod LinkFaults
 pub mod WriteCauses
 pub mod Transactions
+pub mod NumberedKeys
 pub mod InsertCauses
 pub mod UpdateCauses
 pub mod DeleteCauses

@@ -29,6 +29,12 @@ only {a} {b} e = elim a as (λ x. (x && true) ≡ x) [ true ↦ refl | false ↦
 pub both : {a b c d : Bool} → a ≡ b → c ≡ d → (a && (c && true)) ≡ (b && d)
 both e f = ap₂ ◌&&◌ e (only f)
 
+pub either_first : (a b : Bool) → (a && b) ≡ (b && a)
+either_first true true = refl
+either_first true false = refl
+either_first false true = refl
+either_first false false = refl
+
 pub eq_ints : (a b : ℤ) → is_true (binary (Compare Eq Binary) (Int a) (Int b)) ≡ same_int a b
 unfolding binary
 eq_ints a b = flag _ ∙ ap is_eq (value_cmp-Int a b)

@@ -43,6 +43,7 @@ use Rattle.sqlite_schema.specs.Rules.{guards, references_fit, passes_checks, Kee
 use Rattle.office_tables.specs.Faults.{fault_of, IsUnlimited, HasCause}
 use Rattle.office_tables.specs.Order.{Rises}
 use Rattle.office_tables.proofs.Causes.{failed_cause}
+use Rattle.office_tables.proofs.NumberedKeys.{firm, firm_unique, unique_from_firm}
 use Rattle.office_tables.proofs.Failures.{IsWhole, fails_as}
 use Rattle.office_tables.proofs.Refusals.{same_error, edit_refused, never_misplaced}
 use Rattle.office_tables.proofs.Rows.{by_key, by_key_total, same_key, removed, eq_from, had, has_map, map_has, compared}
@@ -139,16 +140,16 @@ apart_from (t ∷ tables) h =
     let k = and_parts (list_all (λ u. ltb t.tree u.tree) tables) (rise tables) h in
     (all_from (λ u. t.tree ≡ u.tree → ⊥) tables (λ u there e. omega (arith, ltb-true t.tree u.tree (test_has (λ u. ltb t.tree u.tree) tables u k.0 there), e)), apart_from tables k.1)
 
--- the columns that are kept have each UNIQUE of the table and each of its references
+-- the columns that are kept have each UNIQUE of the table that could refuse a row, and each of its references
 abbrev pub spares : (ℕ → Bool) → Schema → Table → Bool
-spares kept schema table = list_all (λ i. not (guards i table) || list_all kept i.columns) schema.indexes && list_all (λ ref. list_all kept ref.columns) table.references
+spares kept schema table = list_all (λ i. not (guards i table) || list_all kept i.columns) (firm schema).indexes && list_all (λ ref. list_all kept ref.columns) table.references
 
 -- what is computed of the schema
 pub record KeepsTable (kept : ℕ → Bool) (schema : Schema) (at : ℕ) (table : Table) : Type 0 where
   pub listed : slice_get schema.tables at ≡ Some table
   pub apart : rise schema.tables ≡ true
   pub spared : spares kept schema table ≡ true
-  pub fits : references_fit schema table true true ≡ true
+  pub fits : (references_fit schema table true true && references_fit (firm schema) table true true) ≡ true
 
 fits_any : (a b x y : Bool) → ((not true || x) && (not true || y)) ≡ true → ((not a || x) && (not b || y)) ≡ true
 fits_any a b x y h = let k = and_parts x y h in and_from _ _ (or_right (not a) x k.0) (or_right (not b) y k.1)
@@ -160,14 +161,14 @@ module _ (kept : ℕ → Bool) (schema : Schema) (at : ℕ) (table : Table) (it 
   kept_at : (a b : Row) → ((p : ℕ) → kept p ≡ true → column a p ≡ column b p) → (places : List ℕ) → list_all kept places ≡ true → AgreeAt places a b
   kept_at a b same places all = all_from (λ p. column a p ≡ column b p) places (λ p h. same p (test_has kept places p all h))
 
-  twins : (a b : Row) → rowid a ≡ rowid b → ((p : ℕ) → kept p ≡ true → column a p ≡ column b p) → Twins schema table a b
+  twins : (a b : Row) → rowid a ≡ rowid b → ((p : ℕ) → kept p ≡ true → column a p ≡ column b p) → Twins (firm schema) table a b
   twins a b id same =
       let parts = and_parts _ _ it.spared in
       record {
         id = id;
         keys = record {
-          unique = all_from (λ i. guards i table ≡ true → AgreeAt i.columns a b) schema.indexes (λ i h guarded.
-              kept_at a b same i.columns (elim (or_cases _ _ (test_has (λ i. not (guards i table) || list_all kept i.columns) schema.indexes i parts.0 h)) [
+          unique = all_from (λ i. guards i table ≡ true → AgreeAt i.columns a b) (firm schema).indexes (λ i h guarded.
+              kept_at a b same i.columns (elim (or_cases _ _ (test_has (λ i. not (guards i table) || list_all kept i.columns) (firm schema).indexes i parts.0 h)) [
                 | inl none ↦ absurd (let k = sym none ∙ ap not guarded in cc)
                 | inr all ↦ all
               ]));
@@ -181,30 +182,30 @@ module _ (kept : ℕ → Bool) (schema : Schema) (at : ℕ) (table : Table) (it 
     abbrev changed : A → A
     changed x = if keep x then change x else x
 
-    twin : (x : A) → Twins schema table (row x) (row (changed x))
-    twin x = elim (keep x) as (λ b. Twins schema table (row x) (row (if b then change x else x))) [
+    twin : (x : A) → Twins (firm schema) table (row x) (row (changed x))
+    twin x = elim (keep x) as (λ b. Twins (firm schema) table (row x) (row (if b then change x else x))) [
       | true ↦ twins (row x) (row (change x)) (keyed x ∙ ap Int (sym (same_id x)) ∙ sym (keyed (change x))) (alike x)
       | false ↦ twins (row x) (row x) refl (λ _ _. refl)
     ]
 
-    are_twins : (old new : Trees) → old table.tree ≡ map row xs → new table.tree ≡ map row (map changed xs) → AreTwins schema table old new
+    are_twins : (old new : Trees) → old table.tree ≡ map row xs → new table.tree ≡ map row (map changed xs) → AreTwins (firm schema) table old new
     are_twins old new was now = record {
       before = λ r h.
           let outer = map_has row (map changed xs) r (subst (λ l. Has l r) now h) in
           let inner = map_has changed xs outer.0 outer.1 in
           let is : row (changed inner.0) ≡ r = sym (outer.2 ∙ ap row inner.2) in
-          (row inner.0, subst (λ l. Has l (row inner.0)) (sym was) (has_map row xs inner.0 inner.1), subst (Twins schema table (row inner.0)) is (twin inner.0));
+          (row inner.0, subst (λ l. Has l (row inner.0)) (sym was) (has_map row xs inner.0 inner.1), subst (Twins (firm schema) table (row inner.0)) is (twin inner.0));
       after = λ o h.
           let from = map_has row xs o (subst (λ l. Has l o) was h) in
           let there : Has (new table.tree) (row (changed from.0)) = subst (λ l. Has l (row (changed from.0))) (sym now) (has_map row (map changed xs) (changed from.0) (has_map changed xs from.0 from.1)) in
-          (row (changed from.0), there, subst (λ o. Twins schema table o (row (changed from.0))) (sym from.2) (twin from.0));
-      keys = (and_parts _ _ it.fits).1;
+          (row (changed from.0), there, subst (λ o. Twins (firm schema) table o (row (changed from.0))) (sym from.2) (twin from.0));
+      keys = (and_parts _ _ (and_parts _ _ it.fits).1).1;
     }
 
     unique_kept : (db : Trees) → db table.tree ≡ map row xs → Keeps Unique schema db → Keeps Unique schema (with_tree db table.tree (map row (map changed xs)))
-    unique_kept db was =
+    unique_kept db was keeps =
         let new = with_tree db table.tree (map row (map changed xs)) in
-        unique_stays schema db new table listed (apart_from schema.tables it.apart) (λ t _ other. elsewhere t.tree other) (are_twins db new was here)
+        unique_from_firm schema new (unique_stays (firm schema) db new table listed (apart_from schema.tables it.apart) (λ t _ other. elsewhere t.tree other) (are_twins db new was here) (firm_unique schema db keeps))
       where
         here : with_tree db table.tree (map row (map changed xs)) table.tree ≡ map row (map changed xs)
         here = rw (eq-eqb table.tree table.tree refl) refl
@@ -220,11 +221,11 @@ module _ (kept : ℕ → Bool) (schema : Schema) (at : ℕ) (table : Table) (it 
         let rest = λ (t : Table) (h : Has schema.tables t). all_has (λ t. t.tree ≢ table.tree → new t.tree ≡ old t.tree) schema.tables t others h in
         let all = are_twins old new was now in
         refers_from All schema new (λ t ref r here known is there.
-        let mine = twin_of schema old new table listed apart rest all t r here there in
+        let mine = twin_of (firm schema) old new table listed apart rest all t r here there in
         let same = all_has (λ ref. AgreeAt ref.columns mine.0 r) t.references ref mine.3 known in
         elim (or_cases _ _ (refers_at All schema old t mine.0 ref refers here mine.1 known is)) [
           | inl none ↦ or_left _ _ (null_same ref.columns mine.0 r same ∙ none)
-          | inr held ↦ or_right _ _ (held_stays schema old new table listed apart rest all t ref mine.0 r here known same _ refl held)
+          | inr held ↦ or_right _ _ (held_stays (firm schema) old new table listed apart rest all t ref mine.0 r here known same _ refl held)
         ])
 
     module _ (up : Rises (by_key row key keyed) xs) (ys : List A) (perm : IsPermutation (filter keep xs) ys) where
@@ -295,5 +296,5 @@ module _ (kept : ℕ → Bool) (schema : Schema) (at : ℕ) (table : Table) (it 
             rules (Violates ForeignKey) h = absurd h
             rules Mismatch h = absurd (clash (all_new (λ r. is_int (rowid r)) (λ x. ap is_int (keyed (change x)))) h)
             rules NoRowid h = refl
-            rules BadReference h = absurd (clash (fits_any (nat_lt 0 (length edit.news)) (nat_lt 0 (length edit.gone)) _ _ it.fits) h)
+            rules BadReference h = absurd (clash (fits_any (nat_lt 0 (length edit.news)) (nat_lt 0 (length edit.gone)) _ _ (and_parts _ _ it.fits).0) h)
             rules TooDeep h = absurd h

@@ -26,8 +26,8 @@ read_office row =
 abbrev pub read_unit : Row → Option UnitRow
 read_unit row =
     from (number_in (column row 0)) (λ id.
-    from (flag_in (column row 5)) (λ draft.
-    from (or_null_in whole_in (column row 6)) (λ until.
+    from (flag_in (column row 6)) (λ draft.
+    from (or_null_in whole_in (column row 5)) (λ until.
     from (text_in (column row 2)) (λ source.
     from (text_in (column row 3)) (λ legacy.
     from (text_in (column row 4)) (λ level.

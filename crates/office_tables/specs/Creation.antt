@@ -22,7 +22,7 @@ use Rattle.office_tables.specs.Step.{Continues, IsAborted}
 use Rattle.office_tables.specs.declared.fault.StoreFault.{StoreFault}
 use Rattle.office_tables.specs.Text.{command_of, statement_of, IsAlone}
 use Rattle.sqlite_catalog.specs.Listing.{automatic, is_formed, is_fit}
-use Rattle.office_tables.specs.Schema.{reader, seat, orders, holding, run, run_line, permit, office, unit, element, container, housing, orders_by_state, orders_by_ticket, permit_by_unit, housing_by_container}
+use Rattle.office_tables.specs.Schema.{reader, seat, orders, holding, run, run_line, permit, office, unit, element, container, housing, waiting_key, placed_key, live_key}
 
 -- the text is understood as one whole command
 pub record Says (before : Schema) (text : List ℕ) (command : Command) : Type 0 where
@@ -107,10 +107,10 @@ pub record LeavesMaking {X : Type 0} (old new : State) (r : Result X StoreFault)
 abbrev pub catalogue_schema : Schema
 catalogue_schema = record {
   tables = reader ∷ seat ∷ orders ∷ holding ∷ run ∷ run_line ∷ permit ∷ office ∷ unit ∷ element ∷ container ∷ housing ∷ [];
-  indexes = automatic seat 0 (2 ∷ []) 2 ∷ orders_by_state ∷ orders_by_ticket ∷ automatic run_line 0 (1 ∷ 2 ∷ []) 9
-      ∷ automatic permit 0 (1 ∷ 2 ∷ []) 11 ∷ permit_by_unit ∷ automatic unit 0 (2 ∷ 3 ∷ []) 15 ∷ automatic element 0 (1 ∷ 2 ∷ []) 17
-      ∷ automatic container 0 (2 ∷ 3 ∷ 4 ∷ []) 19 ∷ automatic housing 0 (1 ∷ 2 ∷ []) 21 ∷ automatic housing 1 (1 ∷ 3 ∷ []) 22
-      ∷ housing_by_container ∷ [];
+  indexes = automatic seat 0 (2 ∷ []) 2 ∷ automatic orders 0 waiting_key 4 ∷ automatic orders 1 placed_key 5 ∷ automatic orders 2 live_key 6
+      ∷ automatic run_line 0 (1 ∷ 2 ∷ []) 10 ∷ automatic permit 0 (1 ∷ 2 ∷ []) 12 ∷ automatic permit 1 (2 ∷ 1 ∷ []) 13
+      ∷ automatic unit 0 (2 ∷ 3 ∷ []) 16 ∷ automatic element 0 (1 ∷ 2 ∷ []) 18 ∷ automatic container 0 (2 ∷ 3 ∷ 4 ∷ []) 20
+      ∷ automatic housing 0 (1 ∷ 2 ∷ []) 22 ∷ automatic housing 1 (3 ∷ 1 ∷ []) 23 ∷ [];
   views = [];
 }
 
@@ -118,7 +118,8 @@ catalogue_schema = record {
 abbrev pub unit_schema : Schema
 unit_schema = record {
   tables = reader ∷ seat ∷ orders ∷ holding ∷ run ∷ run_line ∷ permit ∷ office ∷ unit ∷ element ∷ [];
-  indexes = automatic seat 0 (2 ∷ []) 2 ∷ orders_by_state ∷ orders_by_ticket ∷ automatic run_line 0 (1 ∷ 2 ∷ []) 9
-      ∷ automatic permit 0 (1 ∷ 2 ∷ []) 11 ∷ permit_by_unit ∷ automatic unit 0 (2 ∷ 3 ∷ []) 15 ∷ automatic element 0 (1 ∷ 2 ∷ []) 17 ∷ [];
+  indexes = automatic seat 0 (2 ∷ []) 2 ∷ automatic orders 0 waiting_key 4 ∷ automatic orders 1 placed_key 5 ∷ automatic orders 2 live_key 6
+      ∷ automatic run_line 0 (1 ∷ 2 ∷ []) 10 ∷ automatic permit 0 (1 ∷ 2 ∷ []) 12 ∷ automatic permit 1 (2 ∷ 1 ∷ []) 13
+      ∷ automatic unit 0 (2 ∷ 3 ∷ []) 16 ∷ automatic element 0 (1 ∷ 2 ∷ []) 18 ∷ [];
   views = [];
 }

@@ -30,8 +30,8 @@ read_order row =
 abbrev pub read_holding : Row → Option HoldingRow
 read_holding row =
     from (number_in (column row 0)) (λ container.
-    from (number_in (column row 2)) (λ place.
-    from (or_null_in number_in (column row 3)) (λ held_by.
+    from (number_in (column row 3)) (λ place.
+    from (or_null_in number_in (column row 2)) (λ held_by.
     Some (record { container = container; place = place; held_by = held_by }))))
 
 abbrev pub read_run : Row → Option RunRow

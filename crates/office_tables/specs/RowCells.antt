@@ -15,8 +15,8 @@ use Rattle.office_tables.specs.Shared.{container_row}
 
 abbrev pub unit_cells : UnitRow → Row
 unit_cells row =
-    Int (pos row.id) ∷ Null ∷ Text row.source ∷ Text row.legacy ∷ Text row.level ∷ Int (flag row.draft)
-    ∷ or_null Int row.until ∷ []
+    Int (pos row.id) ∷ Null ∷ Text row.source ∷ Text row.legacy ∷ Text row.level ∷ or_null Int row.until
+    ∷ Int (flag row.draft) ∷ []
 
 abbrev pub element_cells : ℤ × ElementRow → Row
 element_cells (n, row) = Int n ∷ Int (pos row.unit) ∷ Int (pos row.k) ∷ Text row.value ∷ []
@@ -46,7 +46,7 @@ order_cells row =
     Int (pos row.id) ∷ Null ∷ Int (pos row.ticket) ∷ Int (pos row.container) ∷ Int row.day ∷ Int (pos row.state) ∷ []
 
 abbrev pub holding_cells : HoldingRow → Row
-holding_cells row = Int (pos row.container) ∷ Null ∷ Int (pos row.place) ∷ or_null Int (option_map pos row.held_by) ∷ []
+holding_cells row = Int (pos row.container) ∷ Null ∷ or_null Int (option_map pos row.held_by) ∷ Int (pos row.place) ∷ []
 
 abbrev pub run_cells : RunRow → Row
 run_cells row = Int (pos row.id) ∷ Null ∷ Int row.day ∷ []

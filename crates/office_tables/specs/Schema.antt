@@ -1,6 +1,7 @@
 -- The tables of an office, in the order in which they are made: the desk's, the catalogue's, and that of the places.
 -- Every table is STRICT, and none has a CHECK. The table of the places is the last, so that a file that is brought
--- from version 1 to version 2 has the very schema of one that was made in version 2.
+-- from version 1 to version 2 has the very schema of one that was made in version 2. It alone has indexes of their own;
+-- those of the other tables come with their UNIQUE. So all tables stand before all indexes, as where SQLite vacuums a file.
 use Rattle.std.specs.Prelude.{ℕ, Bool, true, false, List, [], ◌∷◌, Option, Some, None, codes, map}
 use Rattle.sqlite.specs.Collation.TheVariants.{Binary}
 use Rattle.sqlite.specs.declared.types.Value.TheVariants.{Null}
@@ -65,70 +66,72 @@ reader = keyed (codes "reader") 0 (nullable (codes "ticket") ∷ words (codes "n
 abbrev pub seat : Table
 seat = keyed (codes "seat") 1 (nullable (codes "seat") ∷ number (codes "ticket") ∷ []) ((2 ∷ []) ∷ [])
 
+-- Those that wait are few among those of the past. Each of these columns holds the number of the order, so no order is refused.
+abbrev pub waiting_key : List ℕ
+waiting_key = 5 ∷ 3 ∷ 0 ∷ 2 ∷ []
+
+-- those of a ticket, by day
+abbrev pub placed_key : List ℕ
+placed_key = 2 ∷ 4 ∷ 0 ∷ []
+
+-- those of a ticket, by state
+abbrev pub live_key : List ℕ
+live_key = 2 ∷ 5 ∷ 0 ∷ []
+
 abbrev pub orders : Table
 orders = keyed (codes "orders") 3
-    (nullable (codes "id") ∷ number (codes "ticket") ∷ number (codes "container") ∷ number (codes "day") ∷ number (codes "state") ∷ []) []
+    (nullable (codes "id") ∷ number (codes "ticket") ∷ number (codes "container") ∷ number (codes "day") ∷ number (codes "state") ∷ [])
+    (waiting_key ∷ placed_key ∷ live_key ∷ [])
 
 abbrev pub holding : Table
-holding = keyed (codes "holding") 6 (nullable (codes "container") ∷ number (codes "place") ∷ nullable (codes "held_by") ∷ []) []
+holding = keyed (codes "holding") 7 (nullable (codes "container") ∷ nullable (codes "held_by") ∷ number (codes "place") ∷ []) []
 
 abbrev pub run : Table
-run = keyed (codes "run") 7 (nullable (codes "id") ∷ number (codes "day") ∷ []) []
+run = keyed (codes "run") 8 (nullable (codes "id") ∷ number (codes "day") ∷ []) []
 
 abbrev pub run_line : Table
-run_line = table (codes "run_line") 8 None
+run_line = table (codes "run_line") 9 None
     (number (codes "run") ∷ number (codes "container") ∷ number (codes "order_no") ∷ number (codes "ticket") ∷ [])
     (1 ∷ 2 ∷ []) ((1 ∷ 2 ∷ []) ∷ []) []
 
+-- the second key finds the permits for a unit
 abbrev pub permit : Table
-permit = table (codes "permit") 10 None (number (codes "ticket") ∷ number (codes "unit") ∷ number (codes "until") ∷ [])
-    (1 ∷ 2 ∷ []) ((1 ∷ 2 ∷ []) ∷ []) (to_unit 2 ∷ [])
-
--- those that wait are few among those of the past
-abbrev pub orders_by_state : Index
-orders_by_state = index (codes "orders_by_state") 4 orders (5 ∷ 3 ∷ 2 ∷ [])
-
-abbrev pub orders_by_ticket : Index
-orders_by_ticket = index (codes "orders_by_ticket") 5 orders (2 ∷ 4 ∷ [])
-
-abbrev pub permit_by_unit : Index
-permit_by_unit = index (codes "permit_by_unit") 12 permit (2 ∷ [])
+permit = table (codes "permit") 11 None (number (codes "ticket") ∷ number (codes "unit") ∷ number (codes "until") ∷ [])
+    (1 ∷ 2 ∷ []) ((1 ∷ 2 ∷ []) ∷ (2 ∷ 1 ∷ []) ∷ []) (to_unit 2 ∷ [])
 
 abbrev pub desk_tables : List Table
 desk_tables = reader ∷ seat ∷ orders ∷ holding ∷ run ∷ run_line ∷ permit ∷ []
 
 abbrev pub desk_indexes : List Index
-desk_indexes = automatic seat 0 (2 ∷ []) 2 ∷ orders_by_state ∷ orders_by_ticket ∷ automatic run_line 0 (1 ∷ 2 ∷ []) 9
-    ∷ automatic permit 0 (1 ∷ 2 ∷ []) 11 ∷ permit_by_unit ∷ []
+desk_indexes = automatic seat 0 (2 ∷ []) 2 ∷ automatic orders 0 waiting_key 4 ∷ automatic orders 1 placed_key 5 ∷ automatic orders 2 live_key 6
+    ∷ automatic run_line 0 (1 ∷ 2 ∷ []) 10 ∷ automatic permit 0 (1 ∷ 2 ∷ []) 12 ∷ automatic permit 1 (2 ∷ 1 ∷ []) 13 ∷ []
 
 -- ---- the catalogue
 
 abbrev pub office : Table
-office = keyed (codes "office") 13
+office = keyed (codes "office") 14
     (nullable (codes "one") ∷ number (codes "version") ∷ words (codes "country") ∷ words (codes "repo") ∷ number (codes "seats") ∷ number (codes "daily")
     ∷ number (codes "hands") ∷ number (codes "run_size") ∷ number (codes "day") ∷ number (codes "next_unit") ∷ [])
     []
 
 abbrev pub unit : Table
-unit = keyed (codes "unit") 14
-    (nullable (codes "id") ∷ words (codes "source") ∷ words (codes "legacy") ∷ words (codes "level") ∷ number (codes "draft") ∷ nullable (codes "until") ∷ [])
+unit = keyed (codes "unit") 15
+    (nullable (codes "id") ∷ words (codes "source") ∷ words (codes "legacy") ∷ words (codes "level") ∷ nullable (codes "until") ∷ number (codes "draft") ∷ [])
     ((2 ∷ 3 ∷ []) ∷ [])
 
 abbrev pub element : Table
-element = table (codes "element") 16 None (number (codes "unit") ∷ number (codes "k") ∷ words (codes "value") ∷ [])
+element = table (codes "element") 17 None (number (codes "unit") ∷ number (codes "k") ∷ words (codes "value") ∷ [])
     (1 ∷ 2 ∷ []) ((1 ∷ 2 ∷ []) ∷ []) (to_unit 1 ∷ [])
 
 abbrev pub container : Table
-container = keyed (codes "container") 18
+container = keyed (codes "container") 19
     (nullable (codes "id") ∷ words (codes "name") ∷ words (codes "location") ∷ words (codes "kind") ∷ [])
     ((2 ∷ 3 ∷ 4 ∷ []) ∷ [])
 
+-- a unit has a container once, and the units of a container are found by it
 abbrev pub housing : Table
-housing = table (codes "housing") 20 None (number (codes "unit") ∷ number (codes "ord") ∷ number (codes "container") ∷ [])
-    (1 ∷ 2 ∷ []) ((1 ∷ 2 ∷ []) ∷ (1 ∷ 3 ∷ []) ∷ []) (to_unit 1 ∷ [])
-
-abbrev pub housing_by_container : Index
-housing_by_container = index (codes "housing_by_container") 23 housing (3 ∷ [])
+housing = table (codes "housing") 21 None (number (codes "unit") ∷ number (codes "ord") ∷ number (codes "container") ∷ [])
+    (1 ∷ 2 ∷ []) ((1 ∷ 2 ∷ []) ∷ (3 ∷ 1 ∷ []) ∷ []) (to_unit 1 ∷ [])
 
 -- ---- the places
 
@@ -158,9 +161,9 @@ desk_schema = record { tables = desk_tables; indexes = desk_indexes; views = [] 
 abbrev pub schema : Version → Schema
 schema version = record {
   tables = reader ∷ seat ∷ orders ∷ holding ∷ run ∷ run_line ∷ permit ∷ office ∷ unit ∷ element ∷ container ∷ housing ∷ place_table version ∷ [];
-  indexes = automatic seat 0 (2 ∷ []) 2 ∷ orders_by_state ∷ orders_by_ticket ∷ automatic run_line 0 (1 ∷ 2 ∷ []) 9
-      ∷ automatic permit 0 (1 ∷ 2 ∷ []) 11 ∷ permit_by_unit ∷ automatic unit 0 (2 ∷ 3 ∷ []) 15 ∷ automatic element 0 (1 ∷ 2 ∷ []) 17
-      ∷ automatic container 0 (2 ∷ 3 ∷ 4 ∷ []) 19 ∷ automatic housing 0 (1 ∷ 2 ∷ []) 21 ∷ automatic housing 1 (1 ∷ 3 ∷ []) 22
-      ∷ housing_by_container ∷ place_indexes version;
+  indexes = automatic seat 0 (2 ∷ []) 2 ∷ automatic orders 0 waiting_key 4 ∷ automatic orders 1 placed_key 5 ∷ automatic orders 2 live_key 6
+      ∷ automatic run_line 0 (1 ∷ 2 ∷ []) 10 ∷ automatic permit 0 (1 ∷ 2 ∷ []) 12 ∷ automatic permit 1 (2 ∷ 1 ∷ []) 13
+      ∷ automatic unit 0 (2 ∷ 3 ∷ []) 16 ∷ automatic element 0 (1 ∷ 2 ∷ []) 18 ∷ automatic container 0 (2 ∷ 3 ∷ 4 ∷ []) 20
+      ∷ automatic housing 0 (1 ∷ 2 ∷ []) 22 ∷ automatic housing 1 (3 ∷ 1 ∷ []) 23 ∷ place_indexes version;
   views = [];
 }

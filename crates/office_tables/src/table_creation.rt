@@ -80,7 +80,7 @@ pub fn create_units<S: Alter>(conn: &mut Connection<S>) -> Result<(), StoreFault
     )?;
     create_table(
         conn,
-        "CREATE TABLE unit (id INTEGER PRIMARY KEY, source TEXT NOT NULL, legacy TEXT NOT NULL, level TEXT NOT NULL, draft INTEGER NOT NULL, until INTEGER, UNIQUE (source, legacy)) STRICT",
+        "CREATE TABLE unit (id INTEGER PRIMARY KEY, source TEXT NOT NULL, legacy TEXT NOT NULL, level TEXT NOT NULL, until INTEGER, draft INTEGER NOT NULL, UNIQUE (source, legacy)) STRICT",
     )?;
     create_table(
         conn,
@@ -108,10 +108,6 @@ pub fn create_containers<S: Alter>(conn: &mut Connection<S>) -> Result<(), Store
     )?;
     create_table(
         conn,
-        "CREATE TABLE housing (unit INTEGER NOT NULL REFERENCES unit ON DELETE CASCADE, ord INTEGER NOT NULL, container INTEGER NOT NULL, PRIMARY KEY (unit, ord), UNIQUE (unit, container)) STRICT",
-    )?;
-    create_index(
-        conn,
-        "CREATE INDEX housing_by_container ON housing (container)",
+        "CREATE TABLE housing (unit INTEGER NOT NULL REFERENCES unit ON DELETE CASCADE, ord INTEGER NOT NULL, container INTEGER NOT NULL, PRIMARY KEY (unit, ord), UNIQUE (container, unit)) STRICT",
     )
 }

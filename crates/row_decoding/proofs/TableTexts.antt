@@ -70,7 +70,7 @@ abbrev pub holdings_text : List ℕ
 holdings_text = codes "SELECT container, place, held_by FROM holding"
 
 abbrev pub holdings_terms : List Term
-holdings_terms = col 1 0 ∷ col 1 2 ∷ col 1 3 ∷ []
+holdings_terms = col 1 0 ∷ col 1 3 ∷ col 1 2 ∷ []
 
 abbrev pub holdings_names : List (List ℕ)
 holdings_names = codes "container" ∷ codes "place" ∷ codes "held_by" ∷ []

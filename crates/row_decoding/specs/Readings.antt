@@ -27,7 +27,7 @@ abbrev pub said_order : Row → Option OrderRow
 said_order cells = read_order (column cells 0 ∷ Null ∷ column cells 1 ∷ column cells 2 ∷ column cells 3 ∷ column cells 4 ∷ [])
 
 abbrev pub said_holding : Row → Option HoldingRow
-said_holding cells = read_holding (column cells 0 ∷ Null ∷ column cells 1 ∷ column cells 2 ∷ [])
+said_holding cells = read_holding (column cells 0 ∷ Null ∷ column cells 2 ∷ column cells 1 ∷ [])
 
 abbrev pub said_run : Row → Option RunRow
 said_run cells = read_run (column cells 0 ∷ Null ∷ column cells 1 ∷ [])

@@ -57,8 +57,8 @@ all_ordered P before (x ∷ xs) all = all_put P before x (in_order before xs) al
 legible_unit : (row : Row) (x : UnitRow) → read_unit row ≡ Some x → IsLegibleUnitRow x
 legible_unit row x h =
     let a = from_first (number_in (column row 0)) _ x h in
-    let b = from_first (flag_in (column row 5)) _ x a.2 in
-    let c = from_first (or_null_in whole_in (column row 6)) _ x b.2 in
+    let b = from_first (flag_in (column row 6)) _ x a.2 in
+    let c = from_first (or_null_in whole_in (column row 5)) _ x b.2 in
     let d = from_first (text_in (column row 2)) _ x c.2 in
     let e = from_first (text_in (column row 3)) _ x d.2 in
     let f = from_first (text_in (column row 4)) _ x e.2 in

@@ -35,7 +35,7 @@ minus n = Int (neg_ℤ (pos n))
 
 -- the unit 1, but for its draft and until when it is closed
 abbrev pub unit : Value → Value → Row
-unit draft until = Int (pos 1) ∷ Null ∷ text ∷ text ∷ text ∷ draft ∷ until ∷ []
+unit draft until = Int (pos 1) ∷ Null ∷ text ∷ text ∷ text ∷ until ∷ draft ∷ []
 
 -- ---- what is told of them
 
@@ -76,8 +76,8 @@ pub record Told : Type 0 where
   pub day_below_0 : is_unread 7 tables.orders.tree (Int (pos 1) ∷ Null ∷ Int (pos 1) ∷ Int (pos 1) ∷ minus 400 ∷ Int (pos 1) ∷ []) ≡ Some false
   -- where the containers are
   pub no_place : is_unread 8 tables.holding.tree (Int (pos 1) ∷ Null ∷ Null ∷ Null ∷ []) ≡ Some true
-  pub held_by_minus_1 : is_unread 8 tables.holding.tree (Int (pos 1) ∷ Null ∷ Int (pos 2) ∷ minus 1 ∷ []) ≡ Some true
-  pub at_the_desk : is_unread 8 tables.holding.tree (Int (pos 1) ∷ Null ∷ Int (pos 1) ∷ Null ∷ []) ≡ Some false
+  pub held_by_minus_1 : is_unread 8 tables.holding.tree (Int (pos 1) ∷ Null ∷ minus 1 ∷ Int (pos 2) ∷ []) ≡ Some true
+  pub at_the_desk : is_unread 8 tables.holding.tree (Int (pos 1) ∷ Null ∷ Null ∷ Int (pos 1) ∷ []) ≡ Some false
   -- the runs
   pub run_below_0 : is_unread 9 tables.run.tree (minus 1 ∷ Null ∷ Int (pos 20000) ∷ []) ≡ Some true
   pub line_of_order_minus_1 : is_unread 9 tables.run_line.tree (Int (pos 1) ∷ Int (pos 1) ∷ Int (pos 1) ∷ minus 1 ∷ Int (pos 1) ∷ []) ≡ Some true

@@ -1,5 +1,5 @@
 -- When a table takes a new row, for any records.
-use Rattle.std.proofs.Common.{◌≡◌, ℕ, ℤ, pos, List, ◌∷◌, map, Bool, true, false, not, ◌&&◌, nat_eq, ap, ◌∙◌}
+use Rattle.std.proofs.Common.{◌≡◌, ℕ, ℤ, pos, List, ◌∷◌, map, Bool, true, false, not, ◌&&◌, ◌||◌, nat_eq, ap, ◌∙◌}
 use Rattle.std.specs.List.{list_any, list_all}
 use Rattle.sqlite.specs.declared.types.Value.TheVariants.{Int}
 use Rattle.sqlite.specs.Order.{Row}
@@ -14,11 +14,12 @@ use Rattle.office_tables.specs.Numbered.{HasNumbered}
 use Rattle.office_tables.specs.Schema.{Version, Links, Spans, schema}
 use Rattle.office_tables.proofs.Fresh.{any_mapped, next_free, not_there}
 use Rattle.office_tables.proofs.InsertCauses.{IsWelcome}
+use Rattle.office_tables.proofs.NumberedKeys.{is_numbered}
 use Rattle.office_tables.proofs.numbered.OwnNumbers.{none_numbered}
 
--- no row has the key of this one in a unique index
+-- no row has the key of this one in a unique index, but for one that holds the number of the row
 abbrev pub IsAlone : Version → Trees → Table → Row → Type 0
-IsAlone v db table row = list_all (λ i. not (guards i table && list_any (λ r. agree i.order i.columns r i.columns row) (db table.tree))) (schema v).indexes ≡ true
+IsAlone v db table row = list_all (λ i. is_numbered i || not (guards i table && list_any (λ r. agree i.order i.columns r i.columns row) (db table.tree))) (schema v).indexes ≡ true
 
 -- the indexes of the places are not unique, so either version has the same that are
 pub in_either : (v : Version) (db : Trees) (table : Table) (row : Row) → IsAlone Links db table row → IsAlone v db table row

@@ -3,10 +3,9 @@ use Rattle.sqlite.specs.Held.{state}
 use Rattle.office_tables.specs.Step.{Continues, IsAborted}
 use Rattle.office_tables.specs.Creation.{IsMaking}
 use Rattle.office_tables.specs.Schema.{desk_tables}
-use Rattle.office_tables.proofs.Creations.{s3, s4, s5, s6, container_defined, housing_defined, housing_indexed}
-use Rattle.office_tables.proofs.Calls.{cut_then, continues_then, on_ok_then, on_err_then, early}
-use Rattle.office_tables.proofs.Causes.{cause_then}
-use Rattle.office_tables.proofs.WriteCauses.{disk_then, last_disk}
+use Rattle.office_tables.proofs.Creations.{s3, s4, s5, container_defined, housing_defined}
+use Rattle.office_tables.proofs.Calls.{cut_then, continues_then, on_ok_then, on_err_then}
+use Rattle.office_tables.proofs.WriteCauses.{last_disk}
 use Rattle.office_tables.proofs.LaterCauses.{last_cause}
 use Rattle.office_tables.proofs.table_creation.create_containers.Goals as goal
 
@@ -17,100 +16,45 @@ returns-in_err-create_table-clause-cut g c start making =
     let one : IsAborted a0 a1 = c.in_err-create_table.ensures.cut desk_tables start s3 s4 making container_defined in
     search (rules, one)
 
-pub returns-in_err-create_table-2-clause-cut : goal.returns-in_err-create_table-2-clause-cut
-returns-in_err-create_table-2-clause-cut g c start making =
-    let a0 = state g.S.Store c.args.conn.now in
-    let a1 = state g.S.Store c.create_table.new.conn in
-    let step1 = c.in_ok-create_table.ensures.made desk_tables start s3 s4 making container_defined in
-    let on1 = step1.0 in
-    let a2 = state g.S.Store c.create_table-2.new.conn in
-    let one : IsAborted a1 a2 = c.in_err-create_table-2.ensures.cut desk_tables start s4 s5 step1.1 housing_defined in
-    let all : IsAborted a0 a2 = cut_then a0 a1 a2 on1 one in
-    search (rules, all)
-
 pub returns-clause-made : goal.returns-clause-made
 returns-clause-made g c start making =
     let a0 = state g.S.Store c.args.conn.now in
     let a1 = state g.S.Store c.create_table.new.conn in
-    let a2 = state g.S.Store c.create_table-2.new.conn in
     let step1 = c.in_ok-create_table.ensures.made desk_tables start s3 s4 making container_defined in
-    let on1 = step1.0 in
-    let step2 = c.in_ok-create_table-2.ensures.made desk_tables start s4 s5 step1.1 housing_defined in
-    let on2 = continues_then a0 a1 a2 on1 step2.0 in
-    let a3 = state g.S.Store c.create_index.new.conn in
-    on_ok_then c.create_index.result (Continues a2 a3 × IsMaking desk_tables s6 start a3) (Continues a0 a3 × IsMaking desk_tables s6 start a3) (λ last. (continues_then a0 a2 a3 on2 last.0, last.1))
-    (c.create_index.ensures.made desk_tables start s5 s6 step2.1 housing_indexed)
+    let a2 = state g.S.Store c.create_table-2.new.conn in
+    on_ok_then c.create_table-2.result (Continues a1 a2 × IsMaking desk_tables s5 start a2) (Continues a0 a2 × IsMaking desk_tables s5 start a2) (λ last. (continues_then a0 a1 a2 step1.0 last.0, last.1))
+    (c.create_table-2.ensures.made desk_tables start s4 s5 step1.1 housing_defined)
 
 pub returns-clause-cut : goal.returns-clause-cut
 returns-clause-cut g c start making =
     let a0 = state g.S.Store c.args.conn.now in
     let a1 = state g.S.Store c.create_table.new.conn in
-    let a2 = state g.S.Store c.create_table-2.new.conn in
     let step1 = c.in_ok-create_table.ensures.made desk_tables start s3 s4 making container_defined in
-    let on1 = step1.0 in
-    let step2 = c.in_ok-create_table-2.ensures.made desk_tables start s4 s5 step1.1 housing_defined in
-    let on2 = continues_then a0 a1 a2 on1 step2.0 in
-    let a3 = state g.S.Store c.create_index.new.conn in
-    on_err_then c.create_index.result (IsAborted a2 a3) (IsAborted a0 a3) (λ last. cut_then a0 a2 a3 on2 last) (c.create_index.ensures.cut desk_tables start s5 s6 step2.1 housing_indexed)
+    let a2 = state g.S.Store c.create_table-2.new.conn in
+    on_err_then c.create_table-2.result (IsAborted a1 a2) (IsAborted a0 a2) (λ last. cut_then a0 a1 a2 step1.0 last) (c.create_table-2.ensures.cut desk_tables start s4 s5 step1.1 housing_defined)
 
 pub returns-in_err-create_table-clause-disk : goal.returns-in_err-create_table-clause-disk
 returns-in_err-create_table-clause-disk g c start making clean =
-    let a0 = state g.S.Store c.args.conn.now in
-    let a1 = state g.S.Store c.create_table.new.conn in
     let fair = c.in_err-create_table.ensures.disk desk_tables start s3 s4 making container_defined clean in
     search (rules, fair)
-
-pub returns-in_err-create_table-2-clause-disk : goal.returns-in_err-create_table-2-clause-disk
-returns-in_err-create_table-2-clause-disk g c start making clean =
-    let a0 = state g.S.Store c.args.conn.now in
-    let a1 = state g.S.Store c.create_table.new.conn in
-    let step1 = c.in_ok-create_table.ensures.made desk_tables start s3 s4 making container_defined in
-    let on1 = step1.0 in
-    let a2 = state g.S.Store c.create_table-2.new.conn in
-    let before = early a1 a2 _ (c.in_err-create_table-2.ensures.cut desk_tables start s4 s5 step1.1 housing_defined).crash clean in
-    let one = c.in_err-create_table-2.ensures.disk desk_tables start s4 s5 step1.1 housing_defined clean in
-    let all = disk_then a0 a1 a2 on1 before _ one in
-    search (rules, all)
 
 pub returns-clause-disk : goal.returns-clause-disk
 returns-clause-disk g c start making clean =
     let a0 = state g.S.Store c.args.conn.now in
     let a1 = state g.S.Store c.create_table.new.conn in
-    let a2 = state g.S.Store c.create_table-2.new.conn in
     let step1 = c.in_ok-create_table.ensures.made desk_tables start s3 s4 making container_defined in
-    let on1 = step1.0 in
-    let step2 = c.in_ok-create_table-2.ensures.made desk_tables start s4 s5 step1.1 housing_defined in
-    let on2 = continues_then a0 a1 a2 on1 step2.0 in
-    let a3 = state g.S.Store c.create_index.new.conn in
-    last_disk a0 a2 a3 on2 c.create_index.result (c.create_index.ensures.cut desk_tables start s5 s6 step2.1 housing_indexed) clean (c.create_index.ensures.disk desk_tables start s5 s6 step2.1 housing_indexed clean)
+    let a2 = state g.S.Store c.create_table-2.new.conn in
+    last_disk a0 a1 a2 step1.0 c.create_table-2.result (c.create_table-2.ensures.cut desk_tables start s4 s5 step1.1 housing_defined) clean (c.create_table-2.ensures.disk desk_tables start s4 s5 step1.1 housing_defined clean)
 
 pub returns-in_err-create_table-clause-faults : goal.returns-in_err-create_table-clause-faults
 returns-in_err-create_table-clause-faults g c start making clean =
-    let a0 = state g.S.Store c.args.conn.now in
-    let a1 = state g.S.Store c.create_table.new.conn in
     let why = c.in_err-create_table.ensures.faults desk_tables start s3 s4 making container_defined clean in
     search (rules, why)
-
-pub returns-in_err-create_table-2-clause-faults : goal.returns-in_err-create_table-2-clause-faults
-returns-in_err-create_table-2-clause-faults g c start making clean =
-    let a0 = state g.S.Store c.args.conn.now in
-    let a1 = state g.S.Store c.create_table.new.conn in
-    let step1 = c.in_ok-create_table.ensures.made desk_tables start s3 s4 making container_defined in
-    let on1 = step1.0 in
-    let a2 = state g.S.Store c.create_table-2.new.conn in
-    let before = early a1 a2 _ (c.in_err-create_table-2.ensures.cut desk_tables start s4 s5 step1.1 housing_defined).crash clean in
-    let one = c.in_err-create_table-2.ensures.faults desk_tables start s4 s5 step1.1 housing_defined clean in
-    let all = cause_then a0 a1 a2 on1 before _ one in
-    search (rules, all)
 
 pub returns-clause-faults : goal.returns-clause-faults
 returns-clause-faults g c start making clean =
     let a0 = state g.S.Store c.args.conn.now in
     let a1 = state g.S.Store c.create_table.new.conn in
-    let a2 = state g.S.Store c.create_table-2.new.conn in
     let step1 = c.in_ok-create_table.ensures.made desk_tables start s3 s4 making container_defined in
-    let on1 = step1.0 in
-    let step2 = c.in_ok-create_table-2.ensures.made desk_tables start s4 s5 step1.1 housing_defined in
-    let on2 = continues_then a0 a1 a2 on1 step2.0 in
-    let a3 = state g.S.Store c.create_index.new.conn in
-    last_cause a0 a2 a3 on2 c.create_index.result (c.create_index.ensures.cut desk_tables start s5 s6 step2.1 housing_indexed) clean (λ _. c.create_index.ensures.faults desk_tables start s5 s6 step2.1 housing_indexed clean)
+    let a2 = state g.S.Store c.create_table-2.new.conn in
+    last_cause a0 a1 a2 step1.0 c.create_table-2.result (c.create_table-2.ensures.cut desk_tables start s4 s5 step1.1 housing_defined) clean (λ _. c.create_table-2.ensures.faults desk_tables start s4 s5 step1.1 housing_defined clean)
