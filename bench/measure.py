@@ -166,11 +166,11 @@ class Program:
 
 
 class Session:
-    """A running `talk`, which has opened its store."""
+    """A running `talk`, which has opened its store. Words before the program are those of a command that runs it."""
 
-    def __init__(self, program, store):
+    def __init__(self, program, store, before=()):
         self.running = subprocess.Popen(
-            [program, "talk", "--store", store], stdin=subprocess.PIPE, stdout=subprocess.PIPE
+            [*before, program, "talk", "--store", store], stdin=subprocess.PIPE, stdout=subprocess.PIPE
         )
         self.send(get("/desk/issued"))
         self.take_answer()

@@ -5,7 +5,7 @@ ghost use Rattle.sqlite.specs.Held.{state};
 ghost use Rattle.office_tables.specs.Step.{InTransaction};
 
 use crate::offices::{new_office, told};
-use crate::parents::put_all;
+use crate::parents::{FOREST, Place, put_all};
 use catalogue_store::{LinkPlaces, Places, StoreFault};
 use integrity_checks::CheckedPlaces;
 use nested_sets::SpanPlaces;
@@ -101,15 +101,16 @@ fn answer<P: CheckedPlaces, S: Alter>(
     Ok(shown(alloc, &units)?)
 }
 
-/// The answer in a new office with the forest, when these changes are done.
+/// The answer in a new office with a forest, when these changes are done.
 fn told_of<P: CheckedPlaces>(
     alloc: Global,
+    forest: &[Place],
     changes: &[Change],
     question: Question,
 ) -> Result<String, Fail> {
     let mut conn = Connection::open_in_memory(alloc)?;
     new_office::<P, _>(alloc, &mut conn)?;
-    put_all::<P, _>(alloc, &mut conn)?;
+    put_all::<P, _>(alloc, &mut conn, forest)?;
     change_all::<P, _>(alloc, &mut conn, changes)?;
     answer::<P, _>(alloc, &mut conn, question)
 }
@@ -117,11 +118,11 @@ fn told_of<P: CheckedPlaces>(
 /// Changes, a question, and its answer in either version.
 type Case = (&'static [Change], Question, &'static str);
 
-fn see(rt: &impl Abort, alloc: Global, cases: &[Case]) -> Result<(), Fail> {
+fn see(rt: &impl Abort, alloc: Global, forest: &[Place], cases: &[Case]) -> Result<(), Fail> {
     for (at, &(changes, question, wanted)) in cases.iter().enumerate() {
-        let over_links = told_of::<LinkPlaces>(alloc, changes, question)?;
+        let over_links = told_of::<LinkPlaces>(alloc, forest, changes, question)?;
         assert_eq!(rt; over_links.as_str(), wanted, "case {at} over links");
-        let over_spans = told_of::<SpanPlaces>(alloc, changes, question)?;
+        let over_spans = told_of::<SpanPlaces>(alloc, forest, changes, question)?;
         assert_eq!(rt; over_spans.as_str(), wanted, "case {at} over spans");
     }
     Ok(())
@@ -147,7 +148,7 @@ fn a_forest_is_told(rt: HostRuntime) -> Result<(), Fail> {
         (&[], Question::IsBelow(8, 7), "false"),
         (&[], Question::IsBelow(99, 99), "false"),
     ];
-    see(&rt, rt.alloc(), &cases)
+    see(&rt, rt.alloc(), &FOREST, &cases)
 }
 
 /// A branch comes last below its new parent, or last of the tops, in the order that it has; one that comes back does not
@@ -184,5 +185,81 @@ fn branches_move_and_go(rt: HostRuntime) -> Result<(), Fail> {
             "1 2 3 4 6 7 8 9 10 to 5;",
         ),
     ];
-    see(&rt, rt.alloc(), &cases)
+    see(&rt, rt.alloc(), &FOREST, &cases)
+}
+
+/// Six tops, the other units below the first.
+fn wide_forest(alloc: Global) -> Result<Vec<Place>, AllocError> {
+    let mut forest = Vec::new(alloc);
+    for unit in 1..31 {
+        forest.push((unit, if unit > 6 { Some(1) } else { None }))?;
+    }
+    Ok(forest)
+}
+
+/// The units by their numbers, of which none lies lower than the second level.
+const WHOLE: &str =
+    "1 2 3 4 5 6 7 8 9 10 11 12 13 14 15 16 17 18 19 20 21 22 23 24 25 26 27 28 29 30 to 2;";
+
+/// Nested sets look for the rows of few numbers otherwise than for those of many. Few go down and up, past the next
+/// sibling and into it; many go down and up, with a branch of one unit and with the branch of most units.
+#[test]
+fn few_and_many_numbers_change(rt: HostRuntime) -> Result<(), Fail> {
+    use Change::{Cut, Move};
+    let cases: [Case; 12] = [
+        (&[Move(5, None)], Question::Below(None), "1 2 3 4 6 5 "),
+        (
+            &[Move(2, Some(1)), Move(29, Some(1))],
+            Question::Branch(1),
+            "1 7 8 9 10 11 12 13 14 15 16 17 18 19 20 21 22 23 24 25 26 27 28 30 2 29 ",
+        ),
+        (
+            &[Move(1, None)],
+            Question::All,
+            "2 3 4 5 6 1 7 8 9 10 11 12 13 14 15 16 17 18 19 20 21 22 23 24 25 26 27 28 29 30 ",
+        ),
+        (
+            &[Move(30, Some(6))],
+            Question::All,
+            "1 7 8 9 10 11 12 13 14 15 16 17 18 19 20 21 22 23 24 25 26 27 28 29 2 3 4 5 6 30 ",
+        ),
+        (
+            &[Move(6, Some(1))],
+            Question::All,
+            "1 7 8 9 10 11 12 13 14 15 16 17 18 19 20 21 22 23 24 25 26 27 28 29 30 6 2 3 4 5 ",
+        ),
+        (
+            &[Move(5, None), Move(2, Some(1)), Move(29, Some(1))],
+            Question::Judged,
+            WHOLE,
+        ),
+        (
+            &[Move(1, None), Move(30, Some(6)), Move(6, None)],
+            Question::Judged,
+            WHOLE,
+        ),
+        (
+            &[Move(30, Some(6)), Move(1, None), Move(2, Some(1))],
+            Question::Judged,
+            WHOLE,
+        ),
+        (&[Cut(5), Cut(6)], Question::Below(None), "1 2 3 4 "),
+        (
+            &[Cut(5)],
+            Question::Judged,
+            "1 2 3 4 6 7 8 9 10 11 12 13 14 15 16 17 18 19 20 21 22 23 24 25 26 27 28 29 30 to 2;",
+        ),
+        (
+            &[Cut(7)],
+            Question::Judged,
+            "1 2 3 4 5 6 8 9 10 11 12 13 14 15 16 17 18 19 20 21 22 23 24 25 26 27 28 29 30 to 2;",
+        ),
+        (
+            &[Move(6, Some(2)), Cut(1)],
+            Question::Judged,
+            "2 3 4 5 6 to 2;",
+        ),
+    ];
+    let forest = wide_forest(rt.alloc())?;
+    see(&rt, rt.alloc(), &forest, &cases)
 }

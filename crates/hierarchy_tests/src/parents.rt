@@ -16,10 +16,10 @@ use std::process::Abort;
 use std::test::Fail;
 
 /// A unit, and the one that it comes last below, if any.
-type Place = (u32, Option<u32>);
+pub(crate) type Place = (u32, Option<u32>);
 
 /// A chain of four, of which the second has a sibling; a top alone; three below one top.
-const FOREST: [Place; 10] = [
+pub(crate) const FOREST: [Place; 10] = [
     (7, None),
     (2, Some(7)),
     (3, Some(2)),
@@ -50,15 +50,16 @@ fn put<P: Places, S: Alter>(
     P::add(alloc, conn, parent, u64::from(unit))
 }
 
-/// Puts the units of the forest at their places, one after another.
+/// Puts the units of a forest at their places, one after another.
 pub(crate) fn put_all<P: Places, S: Alter>(
     alloc: Global,
     conn: &mut Connection<S>,
+    forest: &[Place],
 ) -> Result<(), StoreFault>
     requires inside { InTransaction P.version (state S.Store conn.old) }
     ensures inside { OnOk result (InTransaction P.version (state S.Store conn.new)) }
 {
-    for place in &FOREST {
+    for place in forest {
         put::<P, S>(alloc, conn, *place)?;
     }
     Ok(())
@@ -96,7 +97,7 @@ fn told<P: Places, S: Alter>(
 fn told_of<P: Places>(alloc: Global, units: &[u64]) -> Result<String, Fail> {
     let mut conn = Connection::open_in_memory(alloc)?;
     new_office::<P, _>(alloc, &mut conn)?;
-    put_all::<P, _>(alloc, &mut conn)?;
+    put_all::<P, _>(alloc, &mut conn, &FOREST)?;
     told::<P, _>(alloc, &mut conn, units)
 }
 

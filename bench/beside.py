@@ -1,0 +1,200 @@
+#!/usr/bin/env python3
+"""Runs the same load on the built program and on another program of the same words, each over `talk` and a file of its
+own, and prints tables of markdown with the ratio of what they took:
+
+    bench/beside.py [--program PROGRAM] [--room FOLDER] [--cpu N] OTHER [UNITS ..]
+
+UNITS is 2000, 20000, 60000 or 200000; without words the last three. Offices are made as real ones are: files of 20,000
+rows that come by POST, parents first, so that numbers do not rise along the walk, and then some branches are moved.
+Requests go to one program, then the same to the other, one after another: each waits for the answer before. Times are
+the mean of an answer by the clock. --cpu binds both programs to one processor. With several sizes a last table tells how
+many times as long an answer takes in the largest office as in the smallest.
+"""
+import argparse
+import datetime
+import os
+import tempfile
+import time
+
+import measure
+from measure import Archive, Program, Session, get, post
+
+SIZES = [2000, 20000, 60000, 200000]
+EACH_DAY = 50
+PAST = 1000
+FIRST_DAY = datetime.date(2024, 3, 1)
+
+
+class Side:
+    """One of the two programs, with its office and its session."""
+
+    def __init__(self, words, room):
+        self.words = words
+        self.office = Program(words[-1], room)
+        self.office.begin()
+        self.session = Session(self.office.program, self.office.store, words[:-1])
+
+    def ask(self, requests):
+        """The mean seconds of an answer."""
+        start = time.perf_counter()
+        for request in requests:
+            self.session.send(request)
+            self.session.take_answer()
+        return (time.perf_counter() - start) / len(requests)
+
+    def reopen(self):
+        """The seconds from the start to the first answer."""
+        self.session.__exit__(None)
+        start = time.perf_counter()
+        self.session = Session(self.office.program, self.office.store, self.words[:-1])
+        return time.perf_counter() - start
+
+
+class Bench:
+    """Both sides, and what each stage took."""
+
+    def __init__(self, ours, other):
+        self.ours, self.other, self.took = ours, other, {}
+
+    def say(self, stage, wanted, ours, other):
+        self.took[stage] = ours
+        said = f"{1000 * ours:.2f} ms", f"{1000 * other:.2f} ms", f"{ours / other:.1f}"
+        measure.say(stage, *said, "" if wanted is None else f"{wanted}")
+
+    def quietly(self, requests):
+        for side in (self.ours, self.other):
+            side.ask(requests)
+
+    def stage(self, name, wanted, requests):
+        self.say(name, wanted, self.ours.ask(requests), self.other.ask(requests))
+
+    def opening(self, wanted):
+        self.say("opening", wanted, self.ours.reopen(), self.other.reopen())
+
+
+def file_of(archive, file, room):
+    """The request that brings a file."""
+    name = f"{room}/rows.csv"
+    archive.write(file, name)
+    with open(name, "rb") as it:
+        rows = it.read()
+    return b"POST /desk/import/s%d HTTP/1.1\r\nHost: x\r\nContent-Length: %d\r\n\r\n%s" % (file, len(rows), rows)
+
+
+def take_in(bench, archive, room):
+    """Brings all files, the first again as the last, and moves some branches to other files."""
+    names = {0: "a file into nothing", 2: "the third file"}
+    for file in range(archive.files):
+        request = [file_of(archive, file, room)]
+        if file in names:
+            bench.stage(f"{names[file]}, {archive.rows:,} rows", 2.5, request)
+        else:
+            bench.quietly(request)
+    bench.stage("the first file again", 3, [file_of(archive, 0, room)])
+    bench.quietly([move_to_a_file(archive, n, 20) for n in range(20)])
+
+
+def move_to_a_file(archive, nth, count):
+    """The move of a branch of ten units to a top of the next file."""
+    unit = archive.unit_with_nine_below(nth, count)
+    file = (unit - 1) // archive.rows
+    return post("/desk/move", unit=unit, parent=(file + 1) % archive.files * archive.rows + archive.tops)
+
+
+def questions(bench, archive):
+    count = archive.requests
+    bench.stage("a page", 2, [get(f"/public/units/{archive.unit(n, count)}") for n in range(count)])
+    bench.stage("an aid of 10 units", 2, [get(f"/public/aid/{archive.unit_with_nine_below(n, count)}") for n in range(count)])
+    bench.stage(f"the list of {archive.tops * archive.files} fonds", 2, [get("/public/fonds")] * (count // 10))
+
+
+def past_orders(archive):
+    """A thousand orders of the first ticket, each cancelled, fifty a day."""
+    for nth in range(PAST):
+        if nth % EACH_DAY == 0 and nth:
+            yield post("/desk/day", day=f"{FIRST_DAY + datetime.timedelta(nth // EACH_DAY)}")
+        yield post("/public/orders", ticket=1, container=archive.ordered_box(nth % EACH_DAY))
+        yield post("/desk/cancel", order=nth + 1)
+
+
+def desk(bench, archive):
+    """A reading room's day, with changes of the catalogue while boxes are out."""
+    count = archive.requests
+    readers = range(1, count // measure.IN_HANDS + 2)
+    bench.quietly([post("/desk/register", name=f"Reader {n}", until="2024-12-31") for n in readers])
+    bench.quietly(list(past_orders(archive)))
+    bench.stage(f"a reader with {PAST:,} past orders", None, [get("/desk/readers/1")] * 100)
+    bench.quietly([post("/desk/seat", ticket=n) for n in readers])
+    # the first ticket has placed all orders of its day
+    loans = [{"ticket": n // measure.IN_HANDS + 2, "container": archive.ordered_box(n)} for n in range(count)]
+    bench.stage("an order", 1.5, [post("/public/orders", **loan) for loan in loans])
+    bench.stage("a run", 1.5, [post("/desk/run")] * count)
+    bench.stage("an issue", 1.5, [post("/desk/issue", **loan) for loan in loans])
+    units = [archive.leaf_on_the_shelf(n, 200) for n in range(200)]
+    drafts = [post("/desk/status", unit=unit, status="draft", branch=False) for unit in units[::2]]
+    bench.stage(f"a status beside {count:,} containers out", 2, drafts)
+    closures = [post("/desk/closure", unit=unit, until="2030-01-01") for unit in units[1::2]]
+    bench.stage(f"a closure beside {count:,} containers out", 2, closures)
+    bench.quietly([post("/desk/return", container=archive.ordered_box(n)) for n in range(count)])
+
+
+def placings(bench, archive):
+    branches = [archive.unit_with_nine_below(2 * n + 1, 40) for n in range(20)]
+    bench.stage("a move of ten units to the tops", 3, [post("/desk/move", unit=unit, parent=None) for unit in branches])
+    if archive.files > 1:
+        bench.stage("a move of ten units to another file", 3, [move_to_a_file(archive, 3 * n + 1, 60) for n in range(20)])
+    units = [archive.leaf(3 * n + 1, 60) for n in range(20)]
+    bench.stage("a removal", 3, [post("/desk/remove", unit=unit) for unit in units])
+
+
+def beside(ours, other, room, units):
+    """Both programs in offices of so many units, and what ours took."""
+    archive = Archive(units)
+    print(f"\n### {units:,} units, {time.strftime('%Y-%m-%d %H:%M')}, load {os.getloadavg()[0]:.1f}\n")
+    with tempfile.TemporaryDirectory(dir=room) as folder:
+        rooms = [f"{folder}/ours", f"{folder}/other"]
+        for it in rooms:
+            os.mkdir(it)
+        bench = Bench(Side(ours, rooms[0]), Side(other, rooms[1]))
+        measure.say("What", "Ours", "Other", "Ratio", "Wanted")
+        measure.say(*["---"] * 5)
+        take_in(bench, archive, folder)
+        bench.opening(None)
+        questions(bench, archive)
+        desk(bench, archive)
+        placings(bench, archive)
+        for side in (bench.ours, bench.other):
+            side.session.__exit__(None)
+        bench.ours.office.check()
+    return bench.took
+
+
+def tell_growth(first, last, few, many):
+    print(f"\n### Growth: {many / few:g} times the units\n")
+    measure.say("What", f"{few:,}", f"{many:,}", "Times")
+    measure.say(*["---"] * 4)
+    for stage in [it for it in first if it in last]:
+        ours = f"{1000 * first[stage]:.2f} ms", f"{1000 * last[stage]:.2f} ms"
+        measure.say(stage, *ours, f"{last[stage] / first[stage]:.1f}")
+
+
+def main():
+    words = argparse.ArgumentParser(description=__doc__, formatter_class=argparse.RawDescriptionHelpFormatter)
+    words.add_argument("--program", default=measure.BUILT)
+    words.add_argument("--room")
+    words.add_argument("--cpu")
+    words.add_argument("other", metavar="OTHER")
+    words.add_argument("units", nargs="*", type=int, metavar="UNITS")
+    told = words.parse_args()
+    if not set(told.units) <= set(SIZES):
+        words.error(f"UNITS is one of {SIZES}")
+    bound = ["taskset", "-c", told.cpu] if told.cpu else []
+    ours, other = [[*bound, os.path.realpath(it)] for it in (told.program, told.other)]
+    sizes = sorted(told.units) or SIZES[1:]
+    took = [beside(ours, other, told.room, units) for units in sizes]
+    if len(sizes) > 1:
+        tell_growth(took[0], took[-1], sizes[0], sizes[-1])
+
+
+if __name__ == "__main__":
+    main()
