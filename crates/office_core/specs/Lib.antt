@@ -17,6 +17,9 @@ pub mod Imported
 pub mod WorkedDesk
 pub mod WorkedCatalogue
 pub mod WorkedShown
+pub mod WorkedChecks
+pub mod WorkedSettings
+pub mod WorkedImports
 pub mod MixedRuns
 pub mod SettingsFaults
 pub mod ImportedByRow

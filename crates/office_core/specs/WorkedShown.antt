@@ -1,12 +1,13 @@
 -- What is answered where more than one thing could be listed, and of what is closed, expired or of an earlier day. Each
 -- expected text was written by hand.
 use Rattle.std.specs.Prelude.{[], ◌∷◌, codes}
+use Rattle.isad_core.specs.Texts.{Bytes}
 use Rattle.desk_core.specs.declared.refusal.Refusal.TheVariants.{UnknownUnit}
 use Rattle.office_core.specs.declared.command.Command.TheVariants.{OpenDay, TakeSeat, Order, Run, Issue, Permit}
 use Rattle.office_core.specs.declared.query.Query.TheVariants.{Fonds, Aid, Page, ReaderOrders, Queue, RunSlip, IssuedNow, ReaderPermits}
 use Rattle.office_core.specs.declared.query.Answer.TheVariants.{Text, Json, Unknown}
 use Rattle.office_core.specs.WorkedAnswers.{Says}
-use Rattle.office_core.specs.Worked.{import, close, ann, bob, march_1, march_2, march_31, year_2030, docks, boxes, lock_gates}
+use Rattle.office_core.specs.Worked.{import, close, ann, bob, february_1, march_1, march_2, march_31, year_2030, docks, boxes, lock_gates}
 
 -- a closed unit is shown, by its head line alone: among the tops, on its parent's page, and by an aid of its own
 pub record ClosedShown : Type 0 where
@@ -33,3 +34,19 @@ pub record Lists : Type 0 where
       (Json (codes "[{\"container\":1,\"order\":2,\"ticket\":2},{\"container\":2,\"order\":1,\"ticket\":1}]"))
   pub expired_permits : Says (import lock_gates ∷ ann ∷ Permit 1 2 march_1 ∷ Permit 1 1 march_31 ∷ OpenDay march_2 ∷ []) (ReaderPermits 1)
       (Json (codes "[{\"unit\":1,\"until\":\"2024-03-31\"},{\"unit\":2,\"until\":\"2024-03-01\"}]"))
+
+-- a permit keeps its later day, though it is past
+abbrev pub PermitKept : Type 0
+PermitKept =
+    Says (import lock_gates ∷ ann ∷ Permit 1 2 march_1 ∷ OpenDay march_2 ∷ Permit 1 2 february_1 ∷ []) (ReaderPermits 1)
+    (Json (codes "[{\"unit\":2,\"until\":\"2024-03-01\"}]"))
+
+-- a fonds and its series with a creator and a container each, and a file below the series that has neither
+abbrev pub smith_and_jones : Bytes
+smith_and_jones =
+    codes "legacyId,parentId,identifier,title,levelOfDescription,publicationStatus,eventActors,physicalObjectName\n1,,HUL,Docks,Fonds,Published,Smith,Box 1\n2,1,1,Minutes,Series,Published,Jones,Box 2\n3,2,7,1901,File,Published,,\n"
+
+-- of two units above that have a value, or a container, the nearer is shown
+pub record NearestAbove : Type 0 where
+  pub file : Says (import smith_and_jones ∷ []) (Page 3) (Text (codes "GB 0999 HUL/1/7 [File] 1901\n  3.2.1 Name of creator(s): Jones (from GB 0999 HUL/1)\n  Container 2: Box 2 (from GB 0999 HUL/1)\n"))
+  pub series : Says (import smith_and_jones ∷ []) (Page 2) (Text (codes "GB 0999 HUL/1 [Series] Minutes\n  3.2.1 Name of creator(s): Jones\n  Container 2: Box 2\n  Unit 3: GB 0999 HUL/1/7 [File] 1901\n"))

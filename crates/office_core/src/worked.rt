@@ -5,6 +5,9 @@ ghost use Rattle.office_core.specs.WorkedAnswers as answers;
 ghost use Rattle.office_core.specs.WorkedDesk as desk;
 ghost use Rattle.office_core.specs.WorkedCatalogue as catalogue;
 ghost use Rattle.office_core.specs.WorkedShown as shown;
+ghost use Rattle.office_core.specs.WorkedChecks as turn;
+ghost use Rattle.office_core.specs.WorkedSettings as settings;
+ghost use Rattle.office_core.specs.WorkedImports as imports;
 ghost use Rattle.office_core.specs.Soundness.{IsSound};
 ghost use Rattle.office_core.specs.Worked.{one_number_left};
 
@@ -60,6 +63,10 @@ pub fn worked_desk_rows()
     ensures hands_full_and_closed { desk.HandsFullAndClosed }
     ensures ordered_and_closed { desk.OrderedAndClosed }
     ensures unknown_ticket_and_unit { desk.UnknownTicketAndUnit }
+    ensures run_for_full_hands { desk.RunForFullHands }
+    ensures expired_holder { desk.ExpiredHolder }
+    ensures permits_of_the_expired { desk.PermitsOfTheExpired }
+    ensures permit_of_an_earlier_day { desk.PermitOfAnEarlierDay }
 {}
 
 /// What imports, moves and statuses tell, and what is then shown, is that of the rows.
@@ -79,6 +86,35 @@ pub fn worked_shown_rows()
     ensures closed_shown { shown.ClosedShown }
     ensures old_slips { shown.OldSlips }
     ensures lists { shown.Lists }
+    ensures permit_kept { shown.PermitKept }
+    ensures nearest_above { shown.NearestAbove }
+{}
+
+/// Of several refusals that hold at once, the first of the command's list is told.
+pub fn worked_checks()
+    ensures order_in_turn { turn.OrderInTurn }
+    ensures issue_in_turn { turn.IssueInTurn }
+    ensures seats_in_turn { turn.SeatsInTurn }
+    ensures permit_in_turn { turn.PermitInTurn }
+    ensures name_before_file { turn.NameBeforeFile }
+{}
+
+/// The replies of offices with the least settings, some between, and the most are those of the rows.
+pub fn worked_settings()
+    ensures one_of_each { settings.OneOfEach }
+    ensures some_of_each { settings.SomeOfEach }
+    ensures most_of_each { settings.MostOfEach }
+{}
+
+/// What imports and moves tell and make is that of the rows: remarks, what counts as a change, new units below drafts and
+/// closed ones, closures that are past, a branch that is too deep.
+pub fn worked_imports()
+    ensures levels_without_rank { imports.LevelsWithoutRank }
+    ensures one_missing { imports.OneMissing }
+    ensures changed_alone { imports.ChangedAlone }
+    ensures new_below { imports.NewBelow }
+    ensures closures_kept { imports.ClosuresKept }
+    ensures too_deep_before_the_gate { imports.TooDeepBeforeTheGate }
 {}
 
 /// The office that has one unit number left, of which a row of the catalogue tells, is sound.

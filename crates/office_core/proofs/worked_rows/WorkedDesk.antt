@@ -8,7 +8,7 @@ use Rattle.atom_csv.specs.Columns.{columns}
 use Rattle.atom_csv.specs.Values.{described}
 use Rattle.catalogue_core.specs.Housing.{is_open}
 use Rattle.catalogue_core.specs.Intake.{take}
-use Rattle.office_core.specs.WorkedDesk.{RenewedAlone, RegisteredTooLate, RunForAnExpiredTicket, ReshelvedInOrder, NotFirstAndExpired, HandsFullAndClosed, OrderedAndClosed, UnknownTicketAndUnit}
+use Rattle.office_core.specs.WorkedDesk.{RenewedAlone, RegisteredTooLate, RunForAnExpiredTicket, ReshelvedInOrder, NotFirstAndExpired, HandsFullAndClosed, OrderedAndClosed, UnknownTicketAndUnit, RunForFullHands, ExpiredHolder, PermitsOfTheExpired, PermitOfAnEarlierDay}
 
 pub renewed_alone : RenewedAlone
 unfolding is_open take is_utf8 chars encode records_from strip_bom next_record columns described
@@ -41,3 +41,19 @@ ordered_and_closed = refl
 pub unknown_ticket_and_unit : UnknownTicketAndUnit
 unfolding is_open take is_utf8 chars encode records_from strip_bom next_record columns described
 unknown_ticket_and_unit = refl
+
+pub run_for_full_hands : RunForFullHands
+unfolding is_open take is_utf8 chars encode records_from strip_bom next_record columns described
+run_for_full_hands = refl
+
+pub expired_holder : ExpiredHolder
+unfolding is_open take is_utf8 chars encode records_from strip_bom next_record columns described
+expired_holder = refl
+
+pub permits_of_the_expired : PermitsOfTheExpired
+unfolding is_open take is_utf8 chars encode records_from strip_bom next_record columns described
+permits_of_the_expired = refl
+
+pub permit_of_an_earlier_day : PermitOfAnEarlierDay
+unfolding is_open take is_utf8 chars encode records_from strip_bom next_record columns described
+permit_of_an_earlier_day = refl

@@ -11,7 +11,7 @@ use Rattle.atom_csv.specs.Columns.{columns}
 use Rattle.atom_csv.specs.Values.{described}
 use Rattle.catalogue_core.specs.Housing.{is_open}
 use Rattle.catalogue_core.specs.Intake.{take}
-use Rattle.office_core.specs.WorkedShown.{ClosedShown, OldSlips, Lists}
+use Rattle.office_core.specs.WorkedShown.{ClosedShown, OldSlips, Lists, PermitKept, NearestAbove}
 
 pub closed_shown : ClosedShown
 unfolding is_open take is_utf8 chars encode records_from strip_bom next_record columns described digits day_text
@@ -24,3 +24,11 @@ old_slips = record { first = refl; second = refl }
 pub lists : Lists
 unfolding is_open take is_utf8 chars encode records_from strip_bom next_record columns described digits day_text serde_json_on_literals
 lists = record { queue_of_two = refl; orders_of_a_reader = refl; two_issued = refl; expired_permits = refl }
+
+pub permit_kept : PermitKept
+unfolding is_open take is_utf8 chars encode records_from strip_bom next_record columns described digits day_text serde_json_on_literals
+permit_kept = refl
+
+pub nearest_above : NearestAbove
+unfolding is_open take is_utf8 chars encode records_from strip_bom next_record columns described digits day_text
+nearest_above = record { file = refl; series = refl }

@@ -24,3 +24,15 @@ returns-clause-ordered_and_closed c = row.ordered_and_closed
 
 pub returns-clause-unknown_ticket_and_unit : goal.returns-clause-unknown_ticket_and_unit
 returns-clause-unknown_ticket_and_unit c = row.unknown_ticket_and_unit
+
+pub returns-clause-run_for_full_hands : goal.returns-clause-run_for_full_hands
+returns-clause-run_for_full_hands c = row.run_for_full_hands
+
+pub returns-clause-expired_holder : goal.returns-clause-expired_holder
+returns-clause-expired_holder c = row.expired_holder
+
+pub returns-clause-permits_of_the_expired : goal.returns-clause-permits_of_the_expired
+returns-clause-permits_of_the_expired c = row.permits_of_the_expired
+
+pub returns-clause-permit_of_an_earlier_day : goal.returns-clause-permit_of_an_earlier_day
+returns-clause-permit_of_an_earlier_day c = row.permit_of_an_earlier_day

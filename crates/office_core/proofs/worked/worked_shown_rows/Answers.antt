@@ -9,3 +9,9 @@ returns-clause-old_slips c = row.old_slips
 
 pub returns-clause-lists : goal.returns-clause-lists
 returns-clause-lists c = row.lists
+
+pub returns-clause-permit_kept : goal.returns-clause-permit_kept
+returns-clause-permit_kept c = row.permit_kept
+
+pub returns-clause-nearest_above : goal.returns-clause-nearest_above
+returns-clause-nearest_above c = row.nearest_above

@@ -1,0 +1,71 @@
+-- Of several refusals that hold at once, the first of the command's list is told. In each row the refusal that is told and all
+-- behind it hold.
+use Rattle.std.specs.Prelude.{◌≡◌, true, false, [], ◌∷◌, Option, Some, None, codes}
+use Rattle.desk_core.specs.Checks.{OrderFacts, order_checks, IssueFacts, issue_checks, TakeSeatFacts, take_seat_checks, LeaveSeatFacts, leave_seat_checks}
+use Rattle.desk_core.specs.Refusals.{first_that_holds}
+use Rattle.desk_core.specs.declared.refusal.Refusal.{Refusal}
+use Rattle.desk_core.specs.declared.refusal.Refusal.TheVariants.{UnknownUnit, UnknownTicket, UnknownContainer, TicketExpired, NotAvailable, AlreadyOrdered, DailyLimit, NoSeatFree, AlreadySeated, NotSeated, HoldsContainers, NotAtDesk, NotFirst, HandsFull, BadName, Full}
+use Rattle.office_core.specs.declared.command.Command.TheVariants.{Import, Permit}
+use Rattle.office_core.specs.Rules.{replies}
+use Rattle.office_core.specs.Worked.{Answers, refused, hundred_permits, april_1}
+
+-- ---- an order
+
+abbrev pub order_refused : OrderFacts → Option Refusal
+order_refused facts = first_that_holds (order_checks facts)
+
+pub record OrderInTurn : Type 0 where
+  pub ticket : order_refused (record { known = false; expired = true; available = false; ordered = true; placed = 3; daily = 3; orders = 10000000 }) ≡ Some UnknownTicket
+  pub expired : order_refused (record { known = true; expired = true; available = false; ordered = true; placed = 3; daily = 3; orders = 10000000 }) ≡ Some TicketExpired
+  pub withheld : order_refused (record { known = true; expired = false; available = false; ordered = true; placed = 3; daily = 3; orders = 10000000 }) ≡ Some NotAvailable
+  pub ordered : order_refused (record { known = true; expired = false; available = true; ordered = true; placed = 3; daily = 3; orders = 10000000 }) ≡ Some AlreadyOrdered
+  pub day : order_refused (record { known = true; expired = false; available = true; ordered = false; placed = 3; daily = 3; orders = 10000000 }) ≡ Some DailyLimit
+  pub full : order_refused (record { known = true; expired = false; available = true; ordered = false; placed = 2; daily = 3; orders = 10000000 }) ≡ Some Full
+  pub last : order_refused (record { known = true; expired = false; available = true; ordered = false; placed = 2; daily = 3; orders = 9999999 }) ≡ None
+
+-- ---- an issue
+
+abbrev pub issue_refused : IssueFacts → Option Refusal
+issue_refused facts = first_that_holds (issue_checks facts)
+
+pub record IssueInTurn : Type 0 where
+  pub container : issue_refused (record { known = false; at_desk = false; first = false; expired = true; seated = false; held = 2; hands = 2; available = false }) ≡ Some UnknownContainer
+  pub elsewhere : issue_refused (record { known = true; at_desk = false; first = false; expired = true; seated = false; held = 2; hands = 2; available = false }) ≡ Some NotAtDesk
+  pub another : issue_refused (record { known = true; at_desk = true; first = false; expired = true; seated = false; held = 2; hands = 2; available = false }) ≡ Some NotFirst
+  pub expired : issue_refused (record { known = true; at_desk = true; first = true; expired = true; seated = false; held = 2; hands = 2; available = false }) ≡ Some TicketExpired
+  pub standing : issue_refused (record { known = true; at_desk = true; first = true; expired = false; seated = false; held = 2; hands = 2; available = false }) ≡ Some NotSeated
+  pub full_hands : issue_refused (record { known = true; at_desk = true; first = true; expired = false; seated = true; held = 2; hands = 2; available = false }) ≡ Some HandsFull
+  pub withheld : issue_refused (record { known = true; at_desk = true; first = true; expired = false; seated = true; held = 1; hands = 2; available = false }) ≡ Some NotAvailable
+  pub given : issue_refused (record { known = true; at_desk = true; first = true; expired = false; seated = true; held = 1; hands = 2; available = true }) ≡ None
+  pub standing_and_withheld : issue_refused (record { known = true; at_desk = true; first = true; expired = false; seated = false; held = 0; hands = 2; available = false }) ≡ Some NotSeated
+
+-- ---- seats
+
+abbrev pub seat_refused : TakeSeatFacts → Option Refusal
+seat_refused facts = first_that_holds (take_seat_checks facts)
+
+abbrev pub leaving_refused : LeaveSeatFacts → Option Refusal
+leaving_refused facts = first_that_holds (leave_seat_checks facts)
+
+pub record SeatsInTurn : Type 0 where
+  pub ticket : seat_refused (record { known = false; expired = true; seated = true; free = None }) ≡ Some UnknownTicket
+  pub expired : seat_refused (record { known = true; expired = true; seated = true; free = None }) ≡ Some TicketExpired
+  pub seated : seat_refused (record { known = true; expired = false; seated = true; free = None }) ≡ Some AlreadySeated
+  pub none_free : seat_refused (record { known = true; expired = false; seated = false; free = None }) ≡ Some NoSeatFree
+  pub taken : seat_refused (record { known = true; expired = false; seated = false; free = Some 2 }) ≡ None
+  pub leaving_ticket : leaving_refused (record { known = false; seated = false; held = 1 }) ≡ Some UnknownTicket
+  pub standing : leaving_refused (record { known = true; seated = false; held = 1 }) ≡ Some NotSeated
+  pub holding : leaving_refused (record { known = true; seated = true; held = 1 }) ≡ Some HoldsContainers
+  pub left : leaving_refused (record { known = true; seated = true; held = 0 }) ≡ None
+
+-- ---- permits and imports
+
+-- a hundred and first permit, for a unit that is not there, and of a ticket that was not given
+abbrev pub PermitInTurn : Type 0
+PermitInTurn =
+    replies hundred_permits (Permit 9 999 april_1 ∷ Permit 1 999 april_1 ∷ Permit 1 101 april_1 ∷ [])
+    ≡ refused UnknownTicket ∷ refused UnknownUnit ∷ refused Full ∷ []
+
+-- a file that cannot be read, from a source that has no name
+abbrev pub NameBeforeFile : Type 0
+NameBeforeFile = Answers (Import [] [] ∷ Import (codes "a b") (codes "title\n") ∷ []) (refused BadName ∷ refused BadName ∷ [])

@@ -1,0 +1,92 @@
+-- What imports and moves tell and make, where a wrong rule would show in a small catalogue alone. Each expected reply and text
+-- was found by the rules as they are told, by hand.
+use Rattle.std.specs.Prelude.{◌≡◌, ℤ, List, [], ◌∷◌, None, Option, Some, Ok, codes, map}
+use Rattle.isad_core.specs.Texts.{Bytes}
+use Rattle.tree_core.specs.Forest.{nodes}
+use Rattle.desk_core.specs.declared.refusal.Refusal.TheVariants.{WithReader, TooDeep}
+use Rattle.catalogue_core.specs.Units.{Unit}
+use Rattle.office_core.specs.declared.command.Command.{Command}
+use Rattle.office_core.specs.declared.command.Command.TheVariants.{Import, SetClosure, Move, TakeSeat, Order, Run, Issue, Return}
+use Rattle.office_core.specs.declared.query.Query.TheVariants.{Aid, Page}
+use Rattle.office_core.specs.declared.query.Answer.TheVariants.{Text}
+use Rattle.office_core.specs.declared.done.Done.TheVariants as done
+use Rattle.office_core.specs.declared.done.Remark.TheVariants.{LacksEssential}
+use Rattle.office_core.specs.Rules.{state_after}
+use Rattle.office_core.specs.WorkedAnswers.{Says}
+use Rattle.office_core.specs.Worked.{Answers, office, import, publish, draft, close, ann, order, issued, refused, rows, february_1, march_1, year_2030, docks, docks_and_mersey, lock_gates, chain}
+
+-- ---- remarks
+
+-- a fonds in a bundle in a series: a bundle has no rank
+abbrev pub fonds_in_a_bundle : Bytes
+fonds_in_a_bundle = codes "legacyId,parentId,title,levelOfDescription\n1,,Top,Series\n2,1,Mid,Bundle\n3,2,Low,Fonds\n"
+
+-- a level without a rank is held against nothing, and nothing against it
+abbrev pub LevelsWithoutRank : Type 0
+LevelsWithoutRank = Answers (import fonds_in_a_bundle ∷ []) (rows 0 3 0 0 (LacksEssential 2 ∷ []) ∷ [])
+
+-- a fonds with all six elements, six that lack one each, and a unit below the first that lacks all
+abbrev pub one_missing : Bytes
+one_missing =
+    codes "legacyId,parentId,identifier,title,eventActors,eventDates,extentAndMedium,levelOfDescription\n1,,A,Plans,Smith,1901,3 boxes,Fonds\n2,,,Plans,Smith,1901,3 boxes,Fonds\n3,,A,,Smith,1901,3 boxes,Fonds\n4,,A,Plans,,1901,3 boxes,Fonds\n5,,A,Plans,Smith,,3 boxes,Fonds\n6,,A,Plans,Smith,1901,,Fonds\n7,,A,Plans,Smith,1901,3 boxes,\n8,1,,,,,,\n"
+
+-- each of the six is looked for, in tops alone
+abbrev pub OneMissing : Type 0
+OneMissing =
+    Answers (import one_missing ∷ [])
+    (rows 0 8 0 0 (LacksEssential 3 ∷ LacksEssential 4 ∷ LacksEssential 5 ∷ LacksEssential 6 ∷ LacksEssential 7 ∷ LacksEssential 8 ∷ []) ∷ [])
+
+-- ---- what counts as a change
+
+-- the fonds and its series, which has another level
+abbrev pub docks_of_another_level : Bytes
+docks_of_another_level =
+    codes "legacyId,parentId,identifier,title,levelOfDescription,publicationStatus\n1,,HUL,Hull Dock Company,Fonds,Published\n2,1,1,Minutes,Sub-series,Published\n"
+
+-- the fonds and its series, which has another reference code
+abbrev pub docks_of_another_code : Bytes
+docks_of_another_code =
+    codes "legacyId,parentId,identifier,title,levelOfDescription,publicationStatus\n1,,HUL,Hull Dock Company,Fonds,Published\n2,1,7,Minutes,Series,Published\n"
+
+-- a level alone is a change, and so is a reference code; a status is none
+abbrev pub ChangedAlone : Type 0
+ChangedAlone =
+    Answers
+    (import docks ∷ import docks_of_another_level ∷ import docks_of_another_level ∷ import docks ∷ import docks_of_another_code ∷ import docks_of_another_code ∷ [])
+    (rows 0 2 0 0 (LacksEssential 2 ∷ []) ∷ rows 1 0 1 0 (LacksEssential 2 ∷ []) ∷ rows 0 0 2 0 (LacksEssential 2 ∷ []) ∷ rows 1 0 1 0 (LacksEssential 2 ∷ []) ∷ rows 1 0 1 0 (LacksEssential 2 ∷ []) ∷ rows 0 0 2 0 (LacksEssential 2 ∷ []) ∷ [])
+
+-- ---- new units below drafts and closed units
+
+-- the fonds and its series, the fonds a draft
+abbrev pub docks_in_draft : Bytes
+docks_in_draft =
+    codes "legacyId,parentId,identifier,title,levelOfDescription,publicationStatus\n1,,HUL,Hull Dock Company,Fonds,Draft\n2,1,1,Minutes,Series,Published\n"
+
+-- a new unit has the status of its own row and no closure, whatever the unit above it has
+pub record NewBelow : Type 0 where
+  pub known_draft : Says (import docks ∷ draft 1 ∷ import docks_and_mersey ∷ publish 1 ∷ []) (Page 1) (Text (codes "GB 0999 HUL [Fonds] Hull Dock Company\n  Unit 2: GB 0999 HUL/1 [Series] Minutes\n  Unit 3: GB 0999 HUL/2 [Series] Plans\n"))
+  pub new_draft : Says (import docks_in_draft ∷ publish 1 ∷ []) (Aid 1) (Text (codes "GB 0999 HUL [Fonds] Hull Dock Company\n  GB 0999 HUL/1 [Series] Minutes\n"))
+  pub closed : Says (import docks ∷ close 1 year_2030 ∷ import docks_and_mersey ∷ SetClosure 1 None ∷ []) (Page 1) (Text (codes "GB 0999 HUL [Fonds] Hull Dock Company\n  Unit 2: GB 0999 HUL/1 [Series] Minutes\n  Unit 3: GB 0999 HUL/2 [Series] Plans\n"))
+
+-- ---- closures
+
+-- until when each unit is closed, in walk order
+abbrev pub closures_after : List Command → List (Option ℤ)
+closures_after asked = map (λ (unit : Unit). unit.until) (nodes (state_after office asked).catalogue.forest)
+
+-- a closure until a day that is not later is kept, and takes the place of another
+pub record ClosuresKept : Type 0 where
+  pub past : closures_after (import docks ∷ close 2 february_1 ∷ []) ≡ None ∷ Some february_1 ∷ []
+  pub today : closures_after (import docks ∷ close 2 march_1 ∷ []) ≡ None ∷ Some march_1 ∷ []
+  pub shortened : closures_after (import docks ∷ close 2 year_2030 ∷ close 2 february_1 ∷ []) ≡ None ∷ Some february_1 ∷ []
+  pub shown : Says (import docks ∷ close 2 year_2030 ∷ close 2 february_1 ∷ []) (Aid 2) (Text (codes "GB 0999 HUL/1 [Series] Minutes\n"))
+
+-- ---- moves
+
+-- a branch that would lie too deep, below drafts, while a reader has its container: it is too deep, and one unit further up
+-- its container would be withheld
+abbrev pub TooDeepBeforeTheGate : Type 0
+TooDeepBeforeTheGate =
+    Answers
+    (import (chain 63) ∷ Import (codes "b") lock_gates ∷ ann ∷ Order 1 1 ∷ Run ∷ TakeSeat 1 ∷ Issue 1 1 ∷ Move 64 (Some 63) ∷ Move 64 (Some 62) ∷ Return 1 ∷ Move 64 (Some 63) ∷ Move 64 (Some 62) ∷ [])
+    (rows 0 63 0 0 (LacksEssential 2 ∷ []) ∷ rows 0 2 0 0 (LacksEssential 2 ∷ []) ∷ Ok (done.Register 1) ∷ order 1 ∷ Ok (done.Run 1 1) ∷ Ok (done.TakeSeat 1) ∷ issued 1 ∷ refused TooDeep ∷ refused (WithReader 1) ∷ Ok (done.Return 1) ∷ refused TooDeep ∷ Ok (done.Move 64) ∷ [])

@@ -1,0 +1,59 @@
+-- What the rules make of offices with other settings: the least that may be set, some between, and the most. Each expected
+-- reply was found by the rules as they are told, by hand.
+use Rattle.std.specs.Prelude.{◌≡◌, ◌++◌, ℕ, zero, suc, List, [], ◌∷◌, Ok, codes, decimal, replicate}
+use Rattle.isad_core.specs.Texts.{Bytes}
+use Rattle.desk_core.specs.declared.refusal.Refusal.TheVariants.{DailyLimit, NoSeatFree, HandsFull, NothingToMove}
+use Rattle.office_core.specs.declared.command.Command.TheVariants.{OpenDay, TakeSeat, Order, Cancel, Run, Issue, Return}
+use Rattle.office_core.specs.declared.done.Done.TheVariants as done
+use Rattle.office_core.specs.State.{State, start}
+use Rattle.office_core.specs.Rules.{Reply, replies, state_after}
+use Rattle.office_core.specs.WorkedReplies.{four_new}
+use Rattle.office_core.specs.Worked.{import, ann, bob, order, issued, refused, march_1, march_2, boxes}
+
+-- a new office with these settings
+abbrev pub office_of : (seats daily hands run_size : ℕ) → State
+office_of seats daily hands run_size =
+    start (record { country = codes "GB"; repo = codes "0999"; seats = seats; daily = daily; hands = hands; run_size = run_size }) march_1
+
+-- one seat, one order a day, one container in hand, runs of one
+abbrev pub OneOfEach : Type 0
+OneOfEach =
+    replies (office_of 1 1 1 1)
+    (import boxes ∷ ann ∷ bob ∷ TakeSeat 1 ∷ TakeSeat 2 ∷ Order 1 1 ∷ Order 1 2 ∷ Order 2 2 ∷ Run ∷ Run ∷ Run ∷ OpenDay march_2 ∷ Order 1 3 ∷ Order 1 4 ∷ Run ∷ TakeSeat 1 ∷ Issue 1 1 ∷ Issue 3 1 ∷ Return 1 ∷ Issue 3 1 ∷ [])
+    ≡ four_new ∷ Ok (done.Register 1) ∷ Ok (done.Register 2) ∷ Ok (done.TakeSeat 1) ∷ refused NoSeatFree ∷ order 1 ∷ refused DailyLimit ∷ order 2 ∷ Ok (done.Run 1 1) ∷ Ok (done.Run 2 1) ∷ refused NothingToMove ∷ Ok (done.OpenDay march_2) ∷ order 3 ∷ refused DailyLimit ∷ Ok (done.Run 3 1) ∷ Ok (done.TakeSeat 1) ∷ issued 1 ∷ refused HandsFull ∷ Ok (done.Return 1) ∷ issued 3 ∷ []
+
+-- three seats, four orders a day, two containers in hand, runs of three
+abbrev pub SomeOfEach : Type 0
+SomeOfEach =
+    replies (office_of 3 4 2 3)
+    (import boxes ∷ ann ∷ bob ∷ ann ∷ ann ∷ TakeSeat 1 ∷ TakeSeat 2 ∷ TakeSeat 3 ∷ TakeSeat 4 ∷ Order 1 1 ∷ Order 1 2 ∷ Order 1 3 ∷ Order 1 4 ∷ Cancel 4 ∷ Order 1 4 ∷ Order 2 4 ∷ Run ∷ Run ∷ Issue 1 1 ∷ Issue 2 1 ∷ Issue 3 1 ∷ Return 2 ∷ Issue 3 1 ∷ [])
+    ≡ four_new ∷ Ok (done.Register 1) ∷ Ok (done.Register 2) ∷ Ok (done.Register 3) ∷ Ok (done.Register 4) ∷ Ok (done.TakeSeat 1) ∷ Ok (done.TakeSeat 2) ∷ Ok (done.TakeSeat 3) ∷ refused NoSeatFree ∷ order 1 ∷ order 2 ∷ order 3 ∷ order 4 ∷ Ok (done.Cancel 4) ∷ refused DailyLimit ∷ order 5 ∷ Ok (done.Run 1 3) ∷ Ok (done.Run 2 1) ∷ issued 1 ∷ issued 2 ∷ refused HandsFull ∷ Ok (done.Return 2) ∷ issued 3 ∷ []
+
+-- ---- 200 seats, 50 orders a day, 10 containers in hand, runs of 100
+
+-- n units side by side, each in a container of its own
+abbrev pub crates : ℕ → Bytes
+crates n = codes "legacyId,publicationStatus,physicalObjectName\n" ++ lines n
+  where
+    lines : ℕ → Bytes
+    lines zero = []
+    lines (suc n) = lines n ++ (decimal (suc n) ++ (codes ",Published,Box " ++ (decimal (suc n) ++ 10 ∷ [])))
+
+-- what is asked of n numbers in turn, and what is told of them
+abbrev pub each_from : {X : Type 0} → (ℕ → X) → (first n : ℕ) → List X
+each_from ask first zero = []
+each_from ask first (suc n) = ask first ∷ each_from ask (suc first) n
+
+abbrev pub seat : ℕ → Reply
+seat n = Ok (done.TakeSeat n)
+
+-- an office with the most of each, 101 containers and 201 readers
+abbrev pub most : State
+most = state_after (office_of 200 50 10 100) (import (crates 101) ∷ replicate 201 ann)
+
+pub record MostOfEach : Type 0 where
+  -- a two hundred and first reader finds no seat
+  pub seats : replies most (each_from TakeSeat 1 201) ≡ each_from seat 1 200 ++ refused NoSeatFree ∷ []
+  -- a ticket's fifty-first order is refused; a run takes 100 of 101; a ticket holds ten and not eleven
+  pub desk : replies most (each_from (Order 1) 1 51 ++ (each_from (Order 2) 51 50 ++ (Order 3 101 ∷ Run ∷ Run ∷ Run ∷ TakeSeat 1 ∷ each_from (λ c. Issue c 1) 1 11)))
+      ≡ each_from order 1 50 ++ (refused DailyLimit ∷ each_from order 51 50 ++ (order 101 ∷ Ok (done.Run 1 100) ∷ Ok (done.Run 2 1) ∷ refused NothingToMove ∷ Ok (done.TakeSeat 1) ∷ each_from issued 1 10 ++ refused HandsFull ∷ []))
