@@ -53,8 +53,8 @@ pub fn change_closure<P: Places, S: Alter>(
     until: Option<Day>,
 ) -> Result<Result<Done, Refusal>, StoreFault>
     requires inside { InTransaction P.version (state S.Store conn.old) }
-    ensures { CarriesOut P.represents P.version (λ s. today ≡ s.day) (command.SetClosure unit until) (state S.Store conn.old)
-        (state S.Store conn.new) result }
+    ensures { CarriesOut P.represents P.version (λ s. today ≡ s.day) (command.SetClosure unit until)
+        (state S.Store conn.old) (state S.Store conn.new) result }
 {
     if !is_unit::<P, S>(alloc, conn, unit)? {
         return Ok(Err(Refusal::UnknownUnit));

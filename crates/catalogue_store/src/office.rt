@@ -74,8 +74,8 @@ pub fn office_row<P: Places, S: Alter>(
     conn: &mut Connection<S>,
 ) -> Result<Office, StoreFault>
     requires inside { InTransaction P.version (state S.Store conn.old) }
-    ensures tells { Answers S.Store (RepresentsSettings P.represents P.version) AreLegibleSettings conn.old conn.new result (λ _. ⊤)
-        (λ c o office. office ≡ told_office c o) }
+    ensures tells { Answers S.Store (RepresentsSettings P.represents P.version) AreLegibleSettings conn.old conn.new
+        result (λ _. ⊤) (λ c o office. office ≡ told_office c o) }
 {
     let mut rows = office_rows(alloc, conn)?;
     let units = count_units(alloc, conn)?;
@@ -96,8 +96,8 @@ pub fn settings<P: Places, S: Alter>(
     conn: &mut Connection<S>,
 ) -> Result<OfficeRow, StoreFault>
     requires inside { InTransaction P.version (state S.Store conn.old) }
-    ensures tells { Answers S.Store (RepresentsSettings P.represents P.version) AreLegibleSettings conn.old conn.new result (λ _. ⊤)
-        (λ _ o row. row ≡ o) }
+    ensures tells { Answers S.Store (RepresentsSettings P.represents P.version) AreLegibleSettings conn.old conn.new
+        result (λ _. ⊤) (λ _ o row. row ≡ o) }
 {
     let mut rows = office_rows(alloc, conn)?;
     let Some(row) = rows.pop() else {

@@ -46,8 +46,8 @@ fn has_room<P: Places, S: Alter>(
     new: u64,
 ) -> Result<bool, StoreFault>
     requires inside { InTransaction P.version (state S.Store conn.old) }
-    ensures tells { Answers S.Store (RepresentsSettings P.represents P.version) AreLegibleSettings conn.old conn.new result (λ _. ⊤)
-        (λ c _ room. room ≡ spec.has_room new c) }
+    ensures tells { Answers S.Store (RepresentsSettings P.represents P.version) AreLegibleSettings conn.old conn.new
+        result (λ _. ⊤) (λ c _ room. room ≡ spec.has_room new c) }
 {
     let office = office_row::<P, S>(alloc, conn)?;
     Ok(has_space(&office, new))
@@ -59,8 +59,8 @@ fn has_many_containers<P: Places, S: Alter>(
     conn: &mut Connection<S>,
 ) -> Result<bool, StoreFault>
     requires inside { InTransaction P.version (state S.Store conn.old) }
-    ensures tells { Answers S.Store (RepresentsSettings P.represents P.version) AreLegibleSettings conn.old conn.new result (λ _. ⊤)
-        (λ c _ many. many ≡ nat_lt most_containers (length c.containers)) }
+    ensures tells { Answers S.Store (RepresentsSettings P.represents P.version) AreLegibleSettings conn.old conn.new
+        result (λ _. ⊤) (λ c _ many. many ≡ nat_lt most_containers (length c.containers)) }
 {
     let office = office_row::<P, S>(alloc, conn)?;
     Ok(office.containers > MOST_CONTAINERS)
@@ -76,8 +76,8 @@ fn judge<P: Places, S: Alter>(
     counts: Counts,
 ) -> Result<Result<Done, Refusal>, StoreFault>
     requires inside { InTransaction P.version (state S.Store conn.old) }
-    ensures tells { Answers S.Store (RepresentsWhole P.represents P.version) (HasImported source.now file.now) conn.old conn.new
-        result (λ _. ⊤) (λ _ s reply. HasImported source.now file.now s → today ≡ s.day
+    ensures tells { Answers S.Store (RepresentsWhole P.represents P.version) (HasImported source.now file.now)
+        conn.old conn.new result (λ _. ⊤) (λ _ s reply. HasImported source.now file.now s → today ≡ s.day
         → reply ≡ judged s (told_of source.now file.now counts s)) }
 {
     if has_many_containers::<P, S>(alloc, conn)? {

@@ -128,8 +128,8 @@ fn remark_on<P: Places, S: Alter>(
     row: &Row,
 ) -> Result<Option<Remark>, StoreFault>
     requires inside { InTransaction P.version (state S.Store conn.old) }
-    ensures tells { (source : Bytes) → Answers S.Store (Represents P.represents P.version) IsKept conn.old conn.new result
-        (HasParent source row.now parent) (λ _ c told. HasParent source row.now parent c
+    ensures tells { (source : Bytes) → Answers S.Store (Represents P.represents P.version) IsKept conn.old conn.new
+        result (HasParent source row.now parent) (λ _ c told. HasParent source row.now parent c
         → option_to_list told ≡ reply.remark_on row.now.row (path (is_from source row.now.legacy) c.forest)) }
 {
     match parent {
@@ -169,8 +169,8 @@ fn remarks_below<P: Places, S: Alter>(
     rows: &[Row],
 ) -> Result<List<Remark>, StoreFault>
     requires inside { InTransaction P.version (state S.Store conn.old) }
-    ensures tells { (source : Bytes) → Answers S.Store (Represents P.represents P.version) IsKept conn.old conn.new result
-        (HaveParents source rows.now parents.now) (λ _ c told. HaveParents source rows.now parents.now c
+    ensures tells { (source : Bytes) → Answers S.Store (Represents P.represents P.version) IsKept conn.old conn.new
+        result (HaveParents source rows.now parents.now) (λ _ c told. HaveParents source rows.now parents.now c
         → told ≡ reply.remarks c.forest source rows.now) }
 {
     let mut told = List::new(alloc);

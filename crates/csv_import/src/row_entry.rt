@@ -194,8 +194,8 @@ fn next_number<P: Places, S: Alter>(
     conn: &mut Connection<S>,
 ) -> Result<u64, StoreFault>
     requires inside { InTransaction P.version (state S.Store conn.old) }
-    ensures tells { Answers S.Store (RepresentsLegible P.represents P.version) (λ _. ⊤) conn.old conn.new result (λ _. ⊤)
-        (λ _ c next. next ≡ c.next) }
+    ensures tells { Answers S.Store (RepresentsLegible P.represents P.version) (λ _. ⊤) conn.old conn.new result
+        (λ _. ⊤) (λ _ c next. next ≡ c.next) }
 {
     let mut found = office_rows(alloc, conn)?;
     let Some(office) = found.pop() else {

@@ -30,8 +30,8 @@ fn end_waiting<P: Places, S: Alter>(
 ) -> Result<Result<Done, Refusal>, StoreFault>
     requires inside { InTransaction P.version (state S.Store conn.old) }
     requires number { IsNumber order }
-    ensures { CarriesOut P.represents P.version (λ s. waits s order ≡ true) (command.Cancel order) (state S.Store conn.old)
-        (state S.Store conn.new) result }
+    ensures { CarriesOut P.represents P.version (λ s. waits s order ≡ true) (command.Cancel order)
+        (state S.Store conn.old) (state S.Store conn.new) result }
 {
     end_order(conn, order, OrderState::Cancelled)?;
     Ok(Ok(Done::Cancel { order }))

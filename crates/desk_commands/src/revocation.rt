@@ -31,8 +31,8 @@ fn take_back<P: Places, S: Alter>(
     requires inside { InTransaction P.version (state S.Store conn.old) }
     requires small { IsNumber ticket }
     requires known { IsNumber unit }
-    ensures { CarriesOut P.represents P.version (λ s. (today ≡ s.day) × HasPermit s ticket unit) (command.Revoke ticket unit)
-        (state S.Store conn.old) (state S.Store conn.new) result }
+    ensures { CarriesOut P.represents P.version (λ s. (today ≡ s.day) × HasPermit s ticket unit)
+        (command.Revoke ticket unit) (state S.Store conn.old) (state S.Store conn.new) result }
 {
     revoke(conn, ticket, unit)?;
     pass_near::<P, S>(alloc, conn, today, unit, Done::Revoke { unit })

@@ -35,8 +35,8 @@ fn due<P: Places, S: Alter>(
     waiting: &[FirstOrder],
 ) -> Result<Vec<FirstOrder>, StoreFault>
     requires inside { InTransaction P.version (state S.Store conn.old) }
-    ensures tells { Answers S.Store (RepresentsWhole P.represents P.version) CanBeJudged conn.old conn.new result (λ _. ⊤)
-        (λ _ s due. CanBeJudged s → today ≡ s.day → due.items ≡ due_of s most waiting.now) }
+    ensures tells { Answers S.Store (RepresentsWhole P.represents P.version) CanBeJudged conn.old conn.new result
+        (λ _. ⊤) (λ _ s due. CanBeJudged s → today ≡ s.day → due.items ≡ due_of s most waiting.now) }
 {
     let mut due = Vec::new(alloc);
     for order in waiting {

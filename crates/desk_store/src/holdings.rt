@@ -95,8 +95,8 @@ pub fn set_place<S: Alter>(
     requires inside { InOffice (state S.Store conn.old) }
     requires number { IsNumber container }
     requires known { IfSome (by_order place) IsNumber }
-    ensures makes { Updates S.Store RepresentsDeskAlone IsLegible conn.old conn.new result (λ _. ⊤) (with_place container place)
-        (tables.holding.tree ∷ []) }
+    ensures makes { Updates S.Store RepresentsDeskAlone IsLegible conn.old conn.new result (λ _. ⊤)
+        (with_place container place) (tables.holding.tree ∷ []) }
 {
     clear_holding(conn, container)?;
     match place {

@@ -169,8 +169,8 @@ pub fn revoke<S: Alter>(conn: &mut Connection<S>, ticket: u64, unit: u64) -> Res
     requires inside { InOffice (state S.Store conn.old) }
     requires small { IsNumber ticket }
     requires known { IsNumber unit }
-    ensures makes { Updates S.Store RepresentsDeskAlone IsLegible conn.old conn.new result (λ _. ⊤) (revoked ticket unit)
-        (tables.permit.tree ∷ []) }
+    ensures makes { Updates S.Store RepresentsDeskAlone IsLegible conn.old conn.new result (λ _. ⊤)
+        (revoked ticket unit) (tables.permit.tree ∷ []) }
 {
     clear_permit(conn, ticket, unit)
 }

@@ -154,8 +154,8 @@ fn set_last_day<S: Alter>(
 pub fn renew<S: Alter>(conn: &mut Connection<S>, ticket: u64, until: Day) -> Result<(), StoreFault>
     requires inside { InOffice (state S.Store conn.old) }
     requires small { IsNumber ticket }
-    ensures makes { Updates S.Store RepresentsDeskAlone IsLegible conn.old conn.new result (λ _. ⊤) (with_last_day ticket until)
-        (tables.reader.tree ∷ []) }
+    ensures makes { Updates S.Store RepresentsDeskAlone IsLegible conn.old conn.new result (λ _. ⊤)
+        (with_last_day ticket until) (tables.reader.tree ∷ []) }
 {
     set_last_day(conn, ticket, until)
 }

@@ -98,7 +98,8 @@ fn carry_out<P: Places, S: Alter>(
 ) -> Result<Result<Done, Refusal>, StoreFault>
     requires inside { InTransaction P.version (state S.Store conn.old) }
     requires named { misnamed command.now ≡ None }
-    ensures { CarriesOut P.represents P.version (λ _. ⊤) command.now (state S.Store conn.old) (state S.Store conn.new) result }
+    ensures { CarriesOut P.represents P.version (λ _. ⊤) command.now (state S.Store conn.old) (state S.Store conn.new)
+        result }
 {
     let row = own_row::<P, S>(alloc, conn)?;
     if let Some(why) = refused_by_day(row.day, command) {
@@ -133,7 +134,8 @@ fn reply_to<P: Places, S: Alter>(
     ensures bytes { IfOk result (λ reply. reply.json ≡ reply_text reply.done) }
     ensures goes { OnOk result (Goes (state S.Store conn.old) (state S.Store conn.new)) }
     ensures cut { OnErr result (IsAborted (state S.Store conn.old) (state S.Store conn.new)) }
-    ensures faults { (s : State) → IsSoundOffice s → RepresentsState P.represents P.version (state S.Store conn.old).now s
+    ensures faults { (s : State) → IsSoundOffice s
+        → RepresentsState P.represents P.version (state S.Store conn.old).now s
         → FaultsHaveCause (state S.Store conn.old) (state S.Store conn.new) result }
 {
     let done = carry_out::<P, S>(alloc, conn, command)?;

@@ -22,8 +22,8 @@ pub(crate) fn own_row<P: Places, S: Alter>(
     conn: &mut Connection<S>,
 ) -> Result<OfficeRow, StoreFault>
     requires inside { InTransaction P.version (state S.Store conn.old) }
-    ensures tells { Answers S.Store (RepresentsWhole P.represents P.version) IsSoundOffice conn.old conn.new result (λ _. ⊤)
-        (λ _ s row. row ≡ office_of s) }
+    ensures tells { Answers S.Store (RepresentsWhole P.represents P.version) IsSoundOffice conn.old conn.new result
+        (λ _. ⊤) (λ _ s row. row ≡ office_of s) }
 {
     settings::<P, S>(alloc, conn)
 }

@@ -111,7 +111,8 @@ impl<P: Places, S: Alter> Office<P, S> {
     pub fn apply(&mut self, alloc: Global, command: &Command) -> Result<Reply, Busy>
         ensures steps { HasCleanDisk (state S.Store self.new)
             → (s : State) → IsSoundOffice s → IsIn P.represents P.version s (state S.Store self.old)
-            → IfOk result (λ reply. TakesStep P.represents P.version s command.now reply.done (state S.Store self.new)) }
+            → IfOk result (λ reply. TakesStep P.represents P.version s command.now reply.done
+            (state S.Store self.new)) }
         ensures sound { (s : State) → IsSoundOffice s → IsSoundOffice (step s command.now).0 }
         ensures kept { HasCleanDisk (state S.Store self.new)
             → IfOk result (λ reply. IsOk reply.done → IsTrue (state S.Store self.new).is_open) }

@@ -41,12 +41,14 @@ pub trait Machine {
         ensures step { IfOk result (λ reply. is_intact self.new → (s : State) → represents self.old s →
             represents self.new (step s command).0 × (reply.done ≡ (step s command).1)
             × (reply.json ≡ reply_text (step s command).1)) }
-        ensures busy { OnErr result (is_intact self.new → (s : State) → represents self.old s → represents self.new s) };
+        ensures busy { OnErr result (is_intact self.new → (s : State) → represents self.old s
+            → represents self.new s) };
 
     /// Answers one question.
     fn ask(&mut self, alloc: Global, query: Query) -> Result<Answer, Busy>
         ensures intact { is_intact self.new → is_intact self.old }
         ensures answer { IfOk result (λ told. is_intact self.new → (s : State) → represents self.old s →
             represents self.new s × (told ≡ answer s query)) }
-        ensures busy { OnErr result (is_intact self.new → (s : State) → represents self.old s → represents self.new s) };
+        ensures busy { OnErr result (is_intact self.new → (s : State) → represents self.old s
+            → represents self.new s) };
 }

@@ -66,7 +66,7 @@ reader = keyed (codes "reader") 0 (nullable (codes "ticket") ∷ words (codes "n
 abbrev pub seat : Table
 seat = keyed (codes "seat") 1 (nullable (codes "seat") ∷ number (codes "ticket") ∷ []) ((2 ∷ []) ∷ [])
 
--- Those that wait are few among those of the past. Each of these columns holds the number of the order, so no order is refused.
+-- Those that wait are few among those of the past. Each of these keys holds the number of the order, so it refuses none.
 abbrev pub waiting_key : List ℕ
 waiting_key = 5 ∷ 3 ∷ 0 ∷ 2 ∷ []
 

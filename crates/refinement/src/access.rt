@@ -103,8 +103,8 @@ pub fn is_open_to<P: Places, S: Alter>(
     today: Day,
 ) -> Result<bool, StoreFault>
     requires inside { InTransaction P.version (state S.Store conn.old) }
-    ensures tells { Answers S.Store (RepresentsWhole P.represents P.version) CanBeJudged conn.old conn.new result (λ _. ⊤)
-        (λ _ s yes. CanBeJudged s → today ≡ s.day → yes ≡ opens s ticket container) }
+    ensures tells { Answers S.Store (RepresentsWhole P.represents P.version) CanBeJudged conn.old conn.new result
+        (λ _. ⊤) (λ _ s yes. CanBeJudged s → today ≡ s.day → yes ≡ opens s ticket container) }
 {
     if container >= NO_NUMBER {
         return Ok(false);

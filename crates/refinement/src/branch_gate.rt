@@ -157,8 +157,8 @@ fn containers_near<P: Places, S: Alter>(
 ) -> Result<Vec<u64>, StoreFault>
     requires inside { InTransaction P.version (state S.Store conn.old) }
     requires small { IsNumber unit }
-    ensures tells { Answers S.Store (RepresentsWhole P.represents P.version) CanBeJudged conn.old conn.new result (λ _. ⊤)
-        (λ _ s found. AreNear unit s found.items) }
+    ensures tells { Answers S.Store (RepresentsWhole P.represents P.version) CanBeJudged conn.old conn.new result
+        (λ _. ⊤) (λ _ s found. AreNear unit s found.items) }
 {
     let path = P::path(alloc, conn, unit)?;
     let boxed = last_with_containers(alloc, conn, &path)?;
@@ -199,8 +199,8 @@ fn loans_to_ask<P: Places, S: Alter>(
 ) -> Result<Vec<Loan>, StoreFault>
     requires inside { InTransaction P.version (state S.Store conn.old) }
     requires small { IsNumber unit }
-    ensures tells { Answers S.Store (RepresentsWhole P.represents P.version) CanBeJudged conn.old conn.new result (λ _. ⊤)
-        (λ _ s found. AreAsked unit s loans.items found.items) }
+    ensures tells { Answers S.Store (RepresentsWhole P.represents P.version) CanBeJudged conn.old conn.new result
+        (λ _. ⊤) (λ _ s found. AreAsked unit s loans.items found.items) }
 {
     if loans.len() <= FEW {
         return Ok(loans);
@@ -218,8 +218,8 @@ pub fn loans_near<P: Places, S: Alter>(
 ) -> Result<Vec<Loan>, StoreFault>
     requires inside { InTransaction P.version (state S.Store conn.old) }
     requires small { IsNumber unit }
-    ensures tells { Answers S.Store (RepresentsWhole P.represents P.version) CanBeJudged conn.old conn.new result (λ _. ⊤)
-        (λ _ s found. AreAsked unit s (issued_of (tables_of P.version s).desk) found.items) }
+    ensures tells { Answers S.Store (RepresentsWhole P.represents P.version) CanBeJudged conn.old conn.new result
+        (λ _. ⊤) (λ _ s found. AreAsked unit s (issued_of (tables_of P.version s).desk) found.items) }
 {
     let loans = issued(alloc, conn)?;
     loans_to_ask::<P, S>(alloc, conn, unit, loans)
@@ -234,8 +234,8 @@ pub fn pass_of<P: Places, S: Alter>(
     done: Done,
 ) -> Result<Result<Done, Refusal>, StoreFault>
     requires inside { InTransaction P.version (state S.Store conn.old) }
-    ensures tells { Answers S.Store (RepresentsWhole P.represents P.version) CanBeJudged conn.old conn.new result (λ _. ⊤)
-        (λ _ s reply. CanBeJudged s → today ≡ s.day → AreEnough loans.now s → reply ≡ gated s done) }
+    ensures tells { Answers S.Store (RepresentsWhole P.represents P.version) CanBeJudged conn.old conn.new result
+        (λ _. ⊤) (λ _ s reply. CanBeJudged s → today ≡ s.day → AreEnough loans.now s → reply ≡ gated s done) }
 {
     match first_closed::<P, S>(alloc, conn, loans, today)? {
         Some(container) => Ok(Err(Refusal::WithReader { container })),
@@ -254,8 +254,8 @@ pub fn pass_near<P: Places, S: Alter>(
 ) -> Result<Result<Done, Refusal>, StoreFault>
     requires inside { InTransaction P.version (state S.Store conn.old) }
     requires small { IsNumber unit }
-    ensures tells { Answers S.Store (RepresentsWhole P.represents P.version) CanBeJudged conn.old conn.new result (λ _. ⊤)
-        (λ _ s reply. CanBeJudged s → today ≡ s.day → OthersAreOpen unit s → reply ≡ gated s done) }
+    ensures tells { Answers S.Store (RepresentsWhole P.represents P.version) CanBeJudged conn.old conn.new result
+        (λ _. ⊤) (λ _ s reply. CanBeJudged s → today ≡ s.day → OthersAreOpen unit s → reply ≡ gated s done) }
 {
     let loans = loans_near::<P, S>(alloc, conn, unit)?;
     pass_of::<P, S>(alloc, conn, today, &loans, done)

@@ -93,8 +93,8 @@ fn are_against_rules<P: Places, S: Alter>(
     today: Day,
 ) -> Result<bool, StoreFault>
     requires inside { InTransaction P.version (state S.Store conn.old) }
-    ensures tells { Answers S.Store (RepresentsWhole P.represents P.version) CanBeJudged conn.old conn.new result (λ _. ⊤)
-        (λ _ s broken. CanBeJudged s → today ≡ s.day → hands ≡ s.settings.hands
+    ensures tells { Answers S.Store (RepresentsWhole P.represents P.version) CanBeJudged conn.old conn.new result
+        (λ _. ⊤) (λ _ s broken. CanBeJudged s → today ≡ s.day → hands ≡ s.settings.hands
         → broken ≡ are_against_rules_of s loans.now) }
 {
     if are_too_many(alloc, loans, hands)? {
@@ -115,7 +115,8 @@ pub fn breaks_day_rules<P: Places, S: Alter>(
     today: Day,
 ) -> Result<bool, StoreFault>
     requires inside { InTransaction P.version (state S.Store conn.old) }
-    ensures tells { Answers S.Store (RepresentsWhole P.represents P.version) CanBeJudged conn.old conn.new result (λ _. ⊤)
+    ensures tells { Answers S.Store (RepresentsWhole P.represents P.version) CanBeJudged conn.old conn.new result
+        (λ _. ⊤)
         (λ _ s broken. CanBeJudged s → today ≡ s.day → hands ≡ s.settings.hands → broken ≡ breaks_day_rules s) }
 {
     let loans = issued(alloc, conn)?;

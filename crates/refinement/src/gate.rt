@@ -25,8 +25,8 @@ pub(crate) fn first_closed<P: Places, S: Alter>(
     today: Day,
 ) -> Result<Option<u64>, StoreFault>
     requires inside { InTransaction P.version (state S.Store conn.old) }
-    ensures tells { Answers S.Store (RepresentsWhole P.represents P.version) CanBeJudged conn.old conn.new result (λ _. ⊤)
-        (λ _ s found. CanBeJudged s → today ≡ s.day → found ≡ first_closed_of s loans.now) }
+    ensures tells { Answers S.Store (RepresentsWhole P.represents P.version) CanBeJudged conn.old conn.new result
+        (λ _. ⊤) (λ _ s found. CanBeJudged s → today ≡ s.day → found ≡ first_closed_of s loans.now) }
 {
     for loan in loans {
         let loan = *loan;
@@ -44,8 +44,8 @@ pub fn kept_back<P: Places, S: Alter>(
     today: Day,
 ) -> Result<Option<u64>, StoreFault>
     requires inside { InTransaction P.version (state S.Store conn.old) }
-    ensures tells { Answers S.Store (RepresentsWhole P.represents P.version) CanBeJudged conn.old conn.new result (λ _. ⊤)
-        (λ _ s found. CanBeJudged s → today ≡ s.day → found ≡ kept s) }
+    ensures tells { Answers S.Store (RepresentsWhole P.represents P.version) CanBeJudged conn.old conn.new result
+        (λ _. ⊤) (λ _ s found. CanBeJudged s → today ≡ s.day → found ≡ kept s) }
 {
     let loans = issued(alloc, conn)?;
     first_closed::<P, S>(alloc, conn, &loans, today)
@@ -59,8 +59,8 @@ pub fn pass<P: Places, S: Alter>(
     done: Done,
 ) -> Result<Result<Done, Refusal>, StoreFault>
     requires inside { InTransaction P.version (state S.Store conn.old) }
-    ensures tells { Answers S.Store (RepresentsWhole P.represents P.version) CanBeJudged conn.old conn.new result (λ _. ⊤)
-        (λ _ s reply. CanBeJudged s → today ≡ s.day → reply ≡ gated s done) }
+    ensures tells { Answers S.Store (RepresentsWhole P.represents P.version) CanBeJudged conn.old conn.new result
+        (λ _. ⊤) (λ _ s reply. CanBeJudged s → today ≡ s.day → reply ≡ gated s done) }
 {
     match kept_back::<P, S>(alloc, conn, today)? {
         Some(container) => Ok(Err(Refusal::WithReader { container })),
