@@ -48,8 +48,8 @@ module _ {X : Type 0} (read : Row → Option X) (id : X → ℕ) (keyed : (row :
 unit_keyed : (row : Row) (x : UnitRow) → read_unit row ≡ Some x → read_number row ≡ Some x.id
 unit_keyed row x h =
     let a = from_first (number_in (column row 0)) _ x h in
-    let b = from_first (flag_in (column row 5)) _ x a.2 in
-    let c = from_first (or_null_in whole_in (column row 6)) _ x b.2 in
+    let b = from_first (flag_in (column row 6)) _ x a.2 in
+    let c = from_first (or_null_in whole_in (column row 5)) _ x b.2 in
     let d = from_first (text_in (column row 2)) _ x c.2 in
     let e = from_first (text_in (column row 3)) _ x d.2 in
     let f = from_first (text_in (column row 4)) _ x e.2 in

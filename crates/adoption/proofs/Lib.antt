@@ -2,7 +2,7 @@ pub mod DeskChecked
 pub mod catalogue
 pub mod tables
 pub mod desk
-pub mod WholeTables
+pub mod OrderedTables
 pub mod Asked
 pub mod VersionLemmas
 pub mod Alike

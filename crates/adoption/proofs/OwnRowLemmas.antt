@@ -24,7 +24,7 @@ use Rattle.sqlite.proofs.Callers.{IsPlain, one_permutation}
 use Rattle.sqlite.specs.Effect.{Database}
 use Rattle.sqlite.specs.Schema.{Schema}
 use Rattle.sqlite.specs.Table.{Table}
-use Rattle.adoption.specs.WholeTables.{IsWholeTable, AreWholeTables}
+use Rattle.adoption.specs.OrderedTables.{StandsInOrder, StandInOrder}
 use Rattle.sqlite_tied.specs.Compute.{everything}
 use Rattle.sqlite_value.specs.Order.{value_cmp}
 use Rattle.std.specs.declared.cmp.Ordering.TheVariants.{Less, Equal}
@@ -229,9 +229,9 @@ pub own_plain : (v : Version) (old : State) → old.now.schema ≡ schema v → 
 own_plain v old has = subst (λ s. IsPlain (understood s own_text)) (sym has) (own_means v).plain
 
 -- the row numbers of the office's table rise
-pub office_risen : (v : Version) (db : Database) → db.schema ≡ schema v → AreWholeTables db → IsTable (db.trees 13)
-office_risen v db has whole =
-    let all = subst (λ (s : Schema). AllByRecursion (λ (table : Table). IsWholeTable table (db.trees table.tree)) s.tables) has whole in
+pub office_risen : (v : Version) (db : Database) → db.schema ≡ schema v → StandInOrder db → IsTable (db.trees 14)
+office_risen v db has ordered =
+    let all = subst (λ (s : Schema). AllByRecursion (λ (table : Table). StandsInOrder (db.trees table.tree)) s.tables) has ordered in
     all.1.1.1.1.1.1.1.0.rise
 
 abbrev shown_office : Row → Row
@@ -239,9 +239,9 @@ shown_office row =
     column row 0 ∷ column row 2 ∷ column row 5 ∷ column row 6 ∷ column row 7 ∷ column row 8 ∷ column row 9 ∷ column row 10 ∷ column row 3 ∷ column row 4 ∷ []
 
 pub scanned_office : (old new : State) (rows : List Row) (v : Version) → old.now.schema ≡ schema v → Shown own_text [] old new rows
-    → (ys : List Row) × IsPermutation (old.now.trees 13) ys × (rows ≡ map shown_office ys)
+    → (ys : List Row) × IsPermutation (old.now.trees 14) ys × (rows ≡ map shown_office ys)
 scanned_office old new rows v has shown =
-    let table = old.now.trees 13 in
+    let table = old.now.trees 14 in
     let got = select_rows v office own_text [] own_terms by_one own_names [] (own_means v) old new has (λ (r : Row). r) table (same_rows table) (λ _. true) (λ _. refl)
     shown_office (λ (r : Row). column r 0 ∷ []) (λ _. refl) by_rowid (λ _. refl) (λ a b. then-Equal _) rows shown in
     (got.0, subst (λ l. IsPermutation l got.0) (kept_all table) got.1.0, got.2)

@@ -1,5 +1,5 @@
 pub mod DeskChecked
-pub mod WholeTables
+pub mod OrderedTables
 pub mod Found
 pub mod Catalogue
 pub mod Desk

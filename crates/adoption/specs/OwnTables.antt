@@ -6,8 +6,8 @@ use Rattle.tree_core.specs.Forest.{Forest}
 use Rattle.tree_core.specs.Versions.{Version}
 use Rattle.office_core.specs.State.{State}
 use Rattle.refinement.specs.Represents.{RepresentsState}
-use Rattle.adoption.specs.WholeTables.{AreWholeTables}
+use Rattle.adoption.specs.OrderedTables.{StandInOrder}
 
--- tables that show a state are whole
-abbrev pub ShownTablesAreWhole : (Trees → Forest ℕ → Type 0) → Version → Database → State → Type 0
-ShownTablesAreWhole places version db s = RepresentsState places version db s → AreWholeTables db
+-- the rows of tables that show a state stand in order
+abbrev pub ShownTablesStandInOrder : (Trees → Forest ℕ → Type 0) → Version → Database → State → Type 0
+ShownTablesStandInOrder places version db s = RepresentsState places version db s → StandInOrder db

@@ -5,7 +5,7 @@ use Rattle.sqlite.specs.Effect.{Database}
 use Rattle.tree_core.specs.Versions.{Version, Links, Spans}
 use Rattle.state_encoding.specs.CellCauses.{cell_cause}
 use Rattle.office_tables.specs.Schema.{schema}
-use Rattle.adoption.specs.WholeTables.{AreWholeTables}
+use Rattle.adoption.specs.OrderedTables.{StandInOrder}
 use Rattle.adoption.specs.Versions.{HasNoOffice, IsToldVersion, TellsNoOther}
 use Rattle.adoption.specs.declared.verdict.Verdict.{Verdict}
 use Rattle.adoption.specs.declared.verdict.Verdict.TheVariants as verdict
@@ -26,8 +26,8 @@ IsVerdict Spans db verdict.OldVersion = IsToldVersion Links db
 IsVerdict Links db verdict.NewVersion = IsToldVersion Spans db
 IsVerdict Spans db verdict.NewVersion = ⊥
 IsVerdict version db verdict.OtherTables = AreOthers version db
-IsVerdict version db (verdict.Unsound cause) = AreOurs version db × (AreWholeTables db → cell_cause version db.trees ≡ Some cause)
-IsVerdict version db verdict.Sound = AreOurs version db × (AreWholeTables db → cell_cause version db.trees ≡ None)
+IsVerdict version db (verdict.Unsound cause) = AreOurs version db × (StandInOrder db → cell_cause version db.trees ≡ Some cause)
+IsVerdict version db verdict.Sound = AreOurs version db × (StandInOrder db → cell_cause version db.trees ≡ None)
 
 -- ---- by the version alone
 

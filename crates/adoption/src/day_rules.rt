@@ -10,7 +10,7 @@ ghost use Rattle.office_tables.specs.Faults.{FaultsHaveCause};
 ghost use Rattle.office_tables.specs.Step.{InTransaction};
 ghost use Rattle.adoption.specs.Causes.{HasNoEarlierCause};
 ghost use Rattle.adoption.specs.OwnRows.{own_row_of};
-ghost use Rattle.adoption.specs.WholeTables.{AreWholeTables};
+ghost use Rattle.adoption.specs.OrderedTables.{StandInOrder};
 
 use crate::own_row::OwnRow;
 use integrity_checks::CheckedPlaces;
@@ -28,11 +28,11 @@ pub(crate) fn breaks_day_rules<P: CheckedPlaces, S: Alter>(
     requires inside { InTransaction P.version (state S.Store conn.old) }
     ensures reads { Reads (state S.Store conn.old) (state S.Store conn.new) result }
     ensures tells { HasCleanDisk (state S.Store conn.new) → IsTrue (state S.Store conn.old).is_open
-        → AreWholeTables (state S.Store conn.old).now
+        → StandInOrder (state S.Store conn.old).now
         → own_row_of P.version (state S.Store conn.old).now.trees ≡ Some own.now
         → HasNoEarlierCause P.version (state S.Store conn.old).now.trees
         → IfOk result (λ broken. broken ≡ day_is_broken (rows_in P.version (state S.Store conn.old).now.trees)) }
-    ensures faults { IsTrue (state S.Store conn.old).is_open → AreWholeTables (state S.Store conn.old).now
+    ensures faults { IsTrue (state S.Store conn.old).is_open → StandInOrder (state S.Store conn.old).now
         → HasNoEarlierCause P.version (state S.Store conn.old).now.trees
         → FaultsHaveCause (state S.Store conn.old) (state S.Store conn.new) result }
 {

@@ -4,7 +4,7 @@ ghost use Rattle.catalogue_statements.specs.Represents.{RepresentsLinkRows};
 ghost use Rattle.office_core.specs.State.{State};
 ghost use Rattle.adoption.specs.Catalogue.{RowsShowTheCatalogue};
 ghost use Rattle.adoption.specs.Desk.{RowsShowTheDesk};
-ghost use Rattle.adoption.specs.OwnTables.{ShownTablesAreWhole};
+ghost use Rattle.adoption.specs.OwnTables.{ShownTablesStandInOrder};
 ghost use Rattle.adoption.specs.Tables.{GoodTablesShowTheirState, SoundTablesShowTheirState};
 ghost use Rattle.nested_sets.specs.Represents.{RepresentsSpanRows};
 ghost use Rattle.sqlite.specs.Effect.{Database};
@@ -12,7 +12,7 @@ ghost use Rattle.tree_core.specs.Versions.{Links, Spans, Version};
 
 use integrity_checks::CheckedPlaces;
 
-/// Tables that a live connection has, whole and with none of the causes 1 to 9 against them, show the catalogue that
+/// Tables that a live connection has, in order and with none of the causes 1 to 9 against them, show the catalogue that
 /// their rows say, for each way of keeping the places; and these rows have their keys.
 pub fn catalogue_rows_show_the_catalogue<P: CheckedPlaces>()
     ensures { (db : Database) → RowsShowTheCatalogue P.represents P.version db }
@@ -28,18 +28,18 @@ pub fn good_tables_show_their_state<P: CheckedPlaces>()
     ensures { (db : Database) → GoodTablesShowTheirState P.represents P.version db }
 {}
 
-/// Tables that a live connection has, whole and without a cause against them, show the state that their rows say, which
+/// Tables that a live connection has, in order and without a cause against them, show the state that their rows say, which
 /// is sound, for each way of keeping the places.
 pub fn sound_tables_show_their_state<P: CheckedPlaces>()
     ensures { (db : Database) → SoundTablesShowTheirState P.represents P.version db }
 {}
 
 /// What is asked of tables that are opened, the tables of an office of version 1 have.
-pub fn tables_of_links_are_whole()
-    ensures { (db : Database) (s : State) → ShownTablesAreWhole RepresentsLinkRows Links db s }
+pub fn tables_of_links_stand_in_order()
+    ensures { (db : Database) (s : State) → ShownTablesStandInOrder RepresentsLinkRows Links db s }
 {}
 
 /// What is asked of tables that are opened, the tables of an office of version 2 have.
-pub fn tables_of_spans_are_whole()
-    ensures { (db : Database) (s : State) → ShownTablesAreWhole RepresentsSpanRows Spans db s }
+pub fn tables_of_spans_stand_in_order()
+    ensures { (db : Database) (s : State) → ShownTablesStandInOrder RepresentsSpanRows Spans db s }
 {}

@@ -14,7 +14,7 @@ ghost use Rattle.office_tables.specs.Asking.{Reads};
 ghost use Rattle.office_tables.specs.Faults.{FaultsHaveCause};
 ghost use Rattle.office_tables.specs.Step.{InTransaction};
 ghost use Rattle.adoption.specs.OwnRows.{are_good_numbers, are_good_texts, numbers_said, numbers_told, own_from as own_of_numbers, own_judged, own_row_of};
-ghost use Rattle.adoption.specs.WholeTables.{AreWholeTables};
+ghost use Rattle.adoption.specs.OrderedTables.{StandInOrder};
 
 use catalogue_store::Places;
 use desk_core::Limits;
@@ -201,7 +201,7 @@ pub(crate) fn own_row<P: Places, S: Alter>(
 ) -> Result<Option<OwnRow>, StoreFault>
     requires inside { InTransaction P.version (state S.Store conn.old) }
     ensures reads { Reads (state S.Store conn.old) (state S.Store conn.new) result }
-    ensures tells { HasCleanDisk (state S.Store conn.new) → AreWholeTables (state S.Store conn.old).now
+    ensures tells { HasCleanDisk (state S.Store conn.new) → StandInOrder (state S.Store conn.old).now
         → IfOk result (λ found. found ≡ own_row_of P.version (state S.Store conn.old).now.trees) }
     ensures opened { HasCleanDisk (state S.Store conn.new)
         → IfOk result (λ _. IsTrue (state S.Store conn.old).is_open) }

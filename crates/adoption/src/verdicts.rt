@@ -10,7 +10,7 @@ ghost use Rattle.office_tables.specs.Step.{InTransaction};
 ghost use Rattle.adoption.specs.DeskChecked.{catalogue_cell_cause};
 ghost use Rattle.adoption.specs.OwnRows.{own_row_of};
 ghost use Rattle.adoption.specs.Verdicts.{IsVerdict};
-ghost use Rattle.adoption.specs.WholeTables.{AreWholeTables};
+ghost use Rattle.adoption.specs.OrderedTables.{StandInOrder};
 
 use crate::day_rules::breaks_day_rules;
 use crate::own_row::{OwnRow, own_row};
@@ -31,11 +31,11 @@ fn desk_cause<P: CheckedPlaces, S: Alter>(
     requires inside { InTransaction P.version (state S.Store conn.old) }
     ensures reads { Reads (state S.Store conn.old) (state S.Store conn.new) result }
     ensures tells { HasCleanDisk (state S.Store conn.new) → IsTrue (state S.Store conn.old).is_open
-        → AreWholeTables (state S.Store conn.old).now
+        → StandInOrder (state S.Store conn.old).now
         → own_row_of P.version (state S.Store conn.old).now.trees ≡ Some own.now
         → catalogue_cell_cause P.version (state S.Store conn.old).now.trees ≡ None
         → IfOk result (λ cause. cause ≡ cell_cause P.version (state S.Store conn.old).now.trees) }
-    ensures faults { IsTrue (state S.Store conn.old).is_open → AreWholeTables (state S.Store conn.old).now
+    ensures faults { IsTrue (state S.Store conn.old).is_open → StandInOrder (state S.Store conn.old).now
         → own_row_of P.version (state S.Store conn.old).now.trees ≡ Some own.now
         → catalogue_cell_cause P.version (state S.Store conn.old).now.trees ≡ None
         → FaultsHaveCause (state S.Store conn.old) (state S.Store conn.new) result }
@@ -56,9 +56,9 @@ fn least_cause<P: CheckedPlaces, S: Alter>(
 ) -> Result<Option<u8>, StoreFault>
     requires inside { InTransaction P.version (state S.Store conn.old) }
     ensures reads { Reads (state S.Store conn.old) (state S.Store conn.new) result }
-    ensures tells { HasCleanDisk (state S.Store conn.new) → AreWholeTables (state S.Store conn.old).now
+    ensures tells { HasCleanDisk (state S.Store conn.new) → StandInOrder (state S.Store conn.old).now
         → IfOk result (λ cause. cause ≡ cell_cause P.version (state S.Store conn.old).now.trees) }
-    ensures faults { AreWholeTables (state S.Store conn.old).now
+    ensures faults { StandInOrder (state S.Store conn.old).now
         → FaultsHaveCause (state S.Store conn.old) (state S.Store conn.new) result }
 {
     let Some(own) = own_row::<P, S>(conn)? else {
@@ -80,7 +80,7 @@ pub fn judge<P: CheckedPlaces, S: Alter>(
     ensures reads { Reads (state S.Store conn.old) (state S.Store conn.new) result }
     ensures tells { HasCleanDisk (state S.Store conn.new)
         → IfOk result (IsVerdict P.version (state S.Store conn.old).now) }
-    ensures faults { AreWholeTables (state S.Store conn.old).now
+    ensures faults { StandInOrder (state S.Store conn.old).now
         → FaultsHaveCause (state S.Store conn.old) (state S.Store conn.new) result }
 {
     if let Some(verdict) = judge_version::<P, S>(conn)? {

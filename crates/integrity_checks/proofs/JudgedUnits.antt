@@ -41,7 +41,7 @@ abbrev pub units_text : List ℕ
 units_text = codes "SELECT id, source, legacy, level, draft, until FROM unit"
 
 abbrev pub units_terms : List Term
-units_terms = col 1 0 ∷ col 1 2 ∷ col 1 3 ∷ col 1 4 ∷ col 1 5 ∷ col 1 6 ∷ []
+units_terms = col 1 0 ∷ col 1 2 ∷ col 1 3 ∷ col 1 4 ∷ col 1 6 ∷ col 1 5 ∷ []
 
 abbrev pub units_names : List (List ℕ)
 units_names = codes "id" ∷ codes "source" ∷ codes "legacy" ∷ codes "level" ∷ codes "draft" ∷ codes "until" ∷ []

@@ -31,8 +31,8 @@ use Rattle.row_decoding.proofs.ToldCells.{is_number}
 unit_key : (row : Row) (u : UnitRow) → read_unit row ≡ Some u → column row 0 ≡ Int (pos u.id)
 unit_key row u h =
     let a = from_first (number_in (column row 0)) _ u h in
-    let b = from_first (flag_in (column row 5)) _ u a.2 in
-    let c = from_first (or_null_in whole_in (column row 6)) _ u b.2 in
+    let b = from_first (flag_in (column row 6)) _ u a.2 in
+    let c = from_first (or_null_in whole_in (column row 5)) _ u b.2 in
     let d = from_first (text_in (column row 2)) _ u c.2 in
     let e = from_first (text_in (column row 3)) _ u d.2 in
     let f = from_first (text_in (column row 4)) _ u e.2 in

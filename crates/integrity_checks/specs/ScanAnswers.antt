@@ -39,7 +39,7 @@ is_described_answer cells =
 
 abbrev pub said_described : Row → Option ℕ
 said_described cells =
-    read_described (column cells 0 ∷ Null ∷ column cells 1 ∷ column cells 2 ∷ column cells 3 ∷ column cells 4 ∷ column cells 5 ∷ [])
+    read_described (column cells 0 ∷ Null ∷ column cells 1 ∷ column cells 2 ∷ column cells 3 ∷ column cells 5 ∷ column cells 4 ∷ [])
 
 -- ---- elements
 

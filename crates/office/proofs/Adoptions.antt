@@ -12,7 +12,7 @@ use Rattle.adoption.specs.declared.verdict.Verdict.TheVariants as verdict
 use Rattle.office_core.specs.SoundOffice.{IsSoundOffice}
 use Rattle.adoption.specs.Found.{AreSoundTables}
 use Rattle.adoption.specs.Tables.{SoundTablesShowTheirState}
-use Rattle.adoption.specs.WholeTables.{AreWholeTables}
+use Rattle.adoption.specs.OrderedTables.{StandInOrder}
 use Rattle.office.specs.Adopting.{IsAdopted, refusal_of, state_in}
 use Rattle.office.specs.Resting.{IsAsBefore, IsIn}
 use Rattle.refinement.specs.Represents.{RepresentsState}
@@ -33,18 +33,18 @@ module _ (version : Version) (old new : store.State) (told : Verdict) (none : re
   pub adopted : IsAdopted version old new
   adopted = record { sound = are_sound; same = back.now }
 
-  sound_tables : IsLive old → IsTrue new.is_open → AreWholeTables old.now → AreSoundTables version old.now
-  sound_tables live opened whole = record {
+  sound_tables : IsLive old → IsTrue new.is_open → StandInOrder old.now → AreSoundTables version old.now
+  sound_tables live opened ordered = record {
     schema_is = are_sound.0.schema_is;
     live = (live (back.was_open opened)).0;
-    whole = whole;
-    causeless = are_sound.1 whole;
+    ordered = ordered;
+    causeless = are_sound.1 ordered;
   }
 
   module _ (places : Trees → Forest ℕ → Type 0) (law : (db : Database) → SoundTablesShowTheirState places version db) (live : IsLive old) where
-    pub adopted_sound : IsTrue new.is_open → AreWholeTables old.now → IsSoundOffice (state_in version old.now.trees)
-    adopted_sound opened whole = (law old.now (sound_tables live opened whole)).sound
+    pub adopted_sound : IsTrue new.is_open → StandInOrder old.now → IsSoundOffice (state_in version old.now.trees)
+    adopted_sound opened ordered = (law old.now (sound_tables live opened ordered)).sound
 
-    pub adopted_shown : AreWholeTables old.now → IsIn places version (state_in version old.now.trees) new
-    adopted_shown whole opened =
-        subst (λ (db : Database). RepresentsState places version db (state_in version old.now.trees)) (sym (back.now opened)) (law old.now (sound_tables live opened whole)).represents
+    pub adopted_shown : StandInOrder old.now → IsIn places version (state_in version old.now.trees) new
+    adopted_shown ordered opened =
+        subst (λ (db : Database). RepresentsState places version db (state_in version old.now.trees)) (sym (back.now opened)) (law old.now (sound_tables live opened ordered)).represents

@@ -19,7 +19,7 @@ use Rattle.adoption.proofs.catalogue.Shown.{catalogue_shown}
 use Rattle.adoption.proofs.tables.ShownTables.{sound_are_good, sound_state}
 use Rattle.adoption.specs.Found.{AreSoundTables}
 use Rattle.adoption.specs.Tables.{RepresentsItsState}
-use Rattle.adoption.specs.WholeTables.{AreWholeTables}
+use Rattle.adoption.specs.OrderedTables.{StandInOrder}
 use Rattle.office.specs.Adopting.{HasAdoptCause, refusal_of, state_in}
 use Rattle.office.specs.Migrating.{IsMigrated}
 use Rattle.office.specs.Opening.{open_fault_of}
@@ -35,42 +35,42 @@ module _ (db : Database) (told : Verdict) (none : refusal_of told ≡ None) (is 
   judged_sound = subst (IsVerdict Links db) (none_refused told none) is
 
   module _ (live : IsDatabase db) where
-    -- if they are whole, they show the state that their rows say
-    pub shows_its_state : AreWholeTables db → RepresentsItsState RepresentsLinkRows Links db
-    shows_its_state whole =
-        let tables : AreSoundTables Links db = record { schema_is = judged_sound.0.schema_is; live = live; whole = whole; causeless = judged_sound.1 whole } in
+    -- if they are ordered, they show the state that their rows say
+    pub shows_its_state : StandInOrder db → RepresentsItsState RepresentsLinkRows Links db
+    shows_its_state ordered =
+        let tables : AreSoundTables Links db = record { schema_is = judged_sound.0.schema_is; live = live; ordered = ordered; causeless = judged_sound.1 ordered } in
         sound_state RepresentsLinkRows Links db tables (catalogue_shown Links db (sound_are_good Links db tables) RepresentsLinkRows links_show)
 
     pub migrated : (new : Database) → ((s : office.State) → RepresentsState RepresentsLinkRows Links db s → RepresentsState RepresentsSpanRows Spans new s)
         → OnlyTouches (tables.office.tree ∷ tables.link.tree ∷ []) db new → IsMigrated db new
     migrated new brings only = record {
       judged = judged_sound;
-      sound = λ whole. (shows_its_state whole).sound;
-      represents = λ whole. brings (state_in Links db.trees) (shows_its_state whole).represents;
+      sound = λ ordered. (shows_its_state ordered).sound;
+      represents = λ ordered. brings (state_in Links db.trees) (shows_its_state ordered).represents;
       only = only;
     }
 
 -- ---- why not
 
--- a call that follows the judging fails only for want of memory or by the disk, where the tables are whole
-pub cause_of_call : (old mid new : State) (f : StoreFault) → (AreWholeTables old.now → HasCause mid new f) → old.faults ≤ mid.faults → mid.is_open ≡ old.is_open
+-- a call that follows the judging fails only for want of memory or by the disk, where the tables are ordered
+pub cause_of_call : (old mid new : State) (f : StoreFault) → (StandInOrder old.now → HasCause mid new f) → old.faults ≤ mid.faults → mid.is_open ≡ old.is_open
     → HasAdoptCause Links old new (open_fault_of f)
 cause_of_call old mid new store.Memory why counts opened = tt
-cause_of_call old mid new store.Disk why counts opened = λ whole. elim (why whole) [
+cause_of_call old mid new store.Disk why counts opened = λ ordered. elim (why ordered) [
   | inl more ↦ inl (omega arith)
   | inr shut ↦ inr (sym opened ∙ shut)
 ]
-cause_of_call old mid new store.Schema why counts opened = λ whole. absurd (why whole)
+cause_of_call old mid new store.Schema why counts opened = λ ordered. absurd (why ordered)
 
 -- what was the cause inside the transaction is one of the whole call
 module _ (before old new after : State) (counts : before.faults ≤ old.faults) (counts_after : new.faults ≤ after.faults) (same : old.now ≡ before.now) (opened : IsTrue old.is_open) where
   pub cause_outside : (f : OpenFault) → HasAdoptCause Links old new f → HasAdoptCause Links before after f
   cause_outside fault.Memory why = tt
-  cause_outside fault.Disk why = λ whole. elim (why (subst AreWholeTables (sym same) whole)) [
+  cause_outside fault.Disk why = λ ordered. elim (why (subst StandInOrder (sym same) ordered)) [
     | inl more ↦ inl (omega arith)
     | inr shut ↦ absurd cc
   ]
-  cause_outside fault.Schema why = λ whole. subst (λ (db : Database). IsVerdict Links db verdict.OtherTables) same (why (subst AreWholeTables (sym same) whole))
+  cause_outside fault.Schema why = λ ordered. subst (λ (db : Database). IsVerdict Links db verdict.OtherTables) same (why (subst StandInOrder (sym same) ordered))
   cause_outside fault.NoOffice why = subst (λ (db : Database). IsVerdict Links db verdict.NoOffice) same why
   cause_outside fault.OldVersion why = why
   cause_outside fault.NewVersion why = subst (λ (db : Database). IsVerdict Links db verdict.NewVersion) same why

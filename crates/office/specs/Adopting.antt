@@ -3,7 +3,7 @@ use Rattle.std.specs.Prelude.{◌≡◌, IsTrue, Option, Some, None}
 use Rattle.sqlite.specs.State as store
 use Rattle.sqlite.specs.Tree.{Trees}
 use Rattle.tree_core.specs.Versions.{Version}
-use Rattle.adoption.specs.WholeTables.{AreWholeTables}
+use Rattle.adoption.specs.OrderedTables.{StandInOrder}
 use Rattle.adoption.specs.Verdicts.{IsVerdict}
 use Rattle.adoption.specs.declared.verdict.Verdict.{Verdict}
 use Rattle.adoption.specs.declared.verdict.Verdict.TheVariants as verdict
@@ -24,12 +24,12 @@ refusal_of verdict.NewVersion = Some fault.NewVersion
 refusal_of verdict.OtherTables = Some fault.Schema
 refusal_of (verdict.Unsound n) = Some (fault.Unsound n)
 
--- The tables are such; or memory was wanting, which may be at any time; or the disk failed, or was shut before. Of tables that
--- are not whole it is not told what was to blame.
+-- The tables are such; or memory was wanting, which may be at any time; or the disk failed, or was shut before. Of tables whose
+-- rows do not stand in order it is not told what was to blame.
 abbrev pub HasAdoptCause : Version → store.State → store.State → OpenFault → Type 0
 HasAdoptCause version old new fault.Memory = HasCause old new cause.Memory
-HasAdoptCause version old new fault.Disk = AreWholeTables old.now → HasCause old new cause.Disk
-HasAdoptCause version old new fault.Schema = AreWholeTables old.now → IsVerdict version old.now verdict.OtherTables
+HasAdoptCause version old new fault.Disk = StandInOrder old.now → HasCause old new cause.Disk
+HasAdoptCause version old new fault.Schema = StandInOrder old.now → IsVerdict version old.now verdict.OtherTables
 HasAdoptCause version old new fault.NoOffice = IsVerdict version old.now verdict.NoOffice
 HasAdoptCause version old new fault.OldVersion = IsVerdict version old.now verdict.OldVersion
 HasAdoptCause version old new fault.NewVersion = IsVerdict version old.now verdict.NewVersion

@@ -12,7 +12,7 @@ use Rattle.office_core.specs.State.{State}
 use Rattle.office_tables.specs.Schema as tables
 use Rattle.office_tables.specs.Schema.{schema}
 use Rattle.office_tables.specs.Step.{OnlyTouches}
-use Rattle.adoption.specs.WholeTables.{AreWholeTables}
+use Rattle.adoption.specs.OrderedTables.{StandInOrder}
 use Rattle.office.specs.Adopting.{state_in}
 use Rattle.office.specs.Resting.{IsIn}
 use Rattle.refinement.specs.Represents.{RepresentsState}
@@ -30,8 +30,8 @@ MayFindSpans old db = (s : State) → IsIn RepresentsLinkRows Links s old → Re
 -- given way to that of nested sets, the office's row tells the version, and no other table has other rows.
 pub record IsMigrated (old new : Database) : Type 0 where
   pub judged : IsVerdict Links old verdict.Sound
-  pub sound : AreWholeTables old → IsSoundOffice (state_in Links old.trees)
-  pub represents : AreWholeTables old → RepresentsState RepresentsSpanRows Spans new (state_in Links old.trees)
+  pub sound : StandInOrder old → IsSoundOffice (state_in Links old.trees)
+  pub represents : StandInOrder old → RepresentsState RepresentsSpanRows Spans new (state_in Links old.trees)
   pub only : OnlyTouches (tables.office.tree ∷ tables.link.tree ∷ []) old new
 
 -- beside what it might have found before: all of that

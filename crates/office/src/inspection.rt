@@ -3,7 +3,7 @@
 ghost use Rattle.std.specs.Prelude.{◌≡◌, false, IfErr, IfOk};
 ghost use Rattle.sqlite.specs.Held.{state};
 ghost use Rattle.sqlite.specs.State.{HasCleanDisk, Survives};
-ghost use Rattle.adoption.specs.WholeTables.{AreWholeTables};
+ghost use Rattle.adoption.specs.OrderedTables.{StandInOrder};
 ghost use Rattle.adoption.specs.Verdicts.{IsVerdict};
 ghost use Rattle.office_tables.specs.Faults.{HasCause, IsUnlimited};
 ghost use Rattle.office.specs.Resting.{IsAsBefore};
@@ -26,7 +26,7 @@ pub(crate) fn look_over<P: CheckedPlaces, S: Alter>(
         → IfOk result (IsVerdict P.version (state S.Store conn.old).now) }
     ensures back { HasCleanDisk (state S.Store conn.new)
         → IsAsBefore (state S.Store conn.old) (state S.Store conn.new) }
-    ensures faults { HasCleanDisk (state S.Store conn.new) → AreWholeTables (state S.Store conn.old).now
+    ensures faults { HasCleanDisk (state S.Store conn.new) → StandInOrder (state S.Store conn.old).now
         → IfErr result (HasCause (state S.Store conn.old) (state S.Store conn.new)) }
     ensures crash { Survives (state S.Store conn.old) (state S.Store conn.new) (λ _. ⊥) }
 {

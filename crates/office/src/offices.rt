@@ -10,7 +10,7 @@ ghost use Rattle.office_core.specs.Queries.{answer};
 ghost use Rattle.office_core.specs.Rules.{step};
 ghost use Rattle.office_core.specs.SoundOffice.{IsSoundOffice};
 ghost use Rattle.office_core.specs.State.{State};
-ghost use Rattle.adoption.specs.WholeTables.{AreWholeTables};
+ghost use Rattle.adoption.specs.OrderedTables.{StandInOrder};
 ghost use Rattle.office_tables.specs.Faults.{IsUnlimited};
 ghost use Rattle.office_tables.specs.Schema.{no_schema, schema};
 ghost use Rattle.office.specs.Adopting.{HasAdoptCause, IsAdopted, state_in};
@@ -220,10 +220,10 @@ impl<P: CheckedPlaces, S: Alter> Office<P, S> {
         ensures opens { IfOk result (λ office. HasCleanDisk (state S.Store office)
             → IsAdopted P.version (state S.Store conn) (state S.Store office)) }
         ensures sound { IfOk result (λ office. HasCleanDisk (state S.Store office)
-            → IsTrue (state S.Store office).is_open → AreWholeTables (state S.Store conn).now
+            → IsTrue (state S.Store office).is_open → StandInOrder (state S.Store conn).now
             → IsSoundOffice (state_in P.version (state S.Store conn).now.trees)) }
         ensures represents { IfOk result (λ office. HasCleanDisk (state S.Store office)
-            → AreWholeTables (state S.Store conn).now
+            → StandInOrder (state S.Store conn).now
             → IsIn P.represents P.version (state_in P.version (state S.Store conn).now.trees) (state S.Store office)) }
         ensures back { IfErr result (λ e. HasCleanDisk (state S.Store e.1)
             → IsAsBefore (state S.Store conn) (state S.Store e.1)) }

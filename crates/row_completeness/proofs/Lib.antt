@@ -1,3 +1,4 @@
+pub mod FullRows
 pub mod KeptRows
 pub mod KeptPlaces
 pub mod UniqueRows

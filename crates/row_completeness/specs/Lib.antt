@@ -1,2 +1,3 @@
+pub mod OrderedRows
 pub mod WholeRows
 pub mod WholePlaces

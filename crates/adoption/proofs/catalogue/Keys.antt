@@ -25,7 +25,7 @@ use Rattle.office_tables.specs.CatalogueCells.{read_unit, read_link, read_span, 
 use Rattle.office_tables.specs.Order.{Rises}
 use Rattle.office_tables.specs.Schema as tables
 use Rattle.office_tables.specs.Schema.{schema}
-use Rattle.office_tables.proofs.Tests.{both, same_number, same_bytes}
+use Rattle.office_tables.proofs.Tests.{both, either_first, same_number, same_bytes}
 use Rattle.row_decoding.specs.TableRows.{by, then_by, places_in}
 use Rattle.state_encoding.specs.CellCauses.{rows_in}
 use Rattle.state_encoding.proofs.shown_cells.OtherOrders.{flips}
@@ -87,7 +87,7 @@ place_key a b x y is said =
     let m = q.ord in
     rw (s, t, l, m) (both (same_number x.unit y.unit ∙ eqb_comm y.unit x.unit) (same_number x.ord y.ord ∙ eqb_comm y.ord x.ord))
 
-once_key : (a b : Row) (x y : HousingRow) → read_housing a ≡ Some x → read_housing b ≡ Some y → agree plain (1 ∷ 3 ∷ []) a (1 ∷ 3 ∷ []) b ≡ is_housed_alike x y
+once_key : (a b : Row) (x y : HousingRow) → read_housing a ≡ Some x → read_housing b ≡ Some y → agree plain (3 ∷ 1 ∷ []) a (3 ∷ 1 ∷ []) b ≡ is_housed_alike x y
 unfolding first_key
 once_key a b x y is said =
     let p = housing_parts a x is in
@@ -96,7 +96,8 @@ once_key a b x y is said =
     let t = q.unit in
     let l = p.container in
     let m = q.container in
-    rw (s, t, l, m) (both (same_number x.unit y.unit ∙ eqb_comm y.unit x.unit) (same_number x.container y.container ∙ eqb_comm y.container x.container))
+    rw (s, t, l, m) (both (same_number x.container y.container ∙ eqb_comm y.container x.container) (same_number x.unit y.unit ∙ eqb_comm y.unit x.unit)
+    ∙ either_first (nat_eq x.container y.container) (nat_eq x.unit y.unit))
 
 -- no two rows that are read have one key
 apart : {X : Type 0} (read : Row → Option X) (alike : X → X → Bool) (places : List ℕ) → ((a b : Row) (x y : X) → read a ≡ Some x → read b ≡ Some y → agree plain places a places b ≡ alike x y)
@@ -151,7 +152,7 @@ module _ (v : Version) (db : Database) (it : AreGoodTables v db) where
   OwnPlaces row = clashes plain (1 ∷ 2 ∷ []) (db.trees tables.housing.tree) row ≡ false
 
   abbrev HousedOnce : Row → Type 0
-  HousedOnce row = clashes plain (1 ∷ 3 ∷ []) (db.trees tables.housing.tree) row ≡ false
+  HousedOnce row = clashes plain (3 ∷ 1 ∷ []) (db.trees tables.housing.tree) row ≡ false
 
   place_own : AllByRecursion OwnPlaces (db.trees tables.housing.tree)
   place_own =
@@ -161,7 +162,7 @@ module _ (v : Version) (db : Database) (it : AreGoodTables v db) where
   once_own : AllByRecursion HousedOnce (db.trees tables.housing.tree)
   once_own =
       all_weaker (λ row. passes Unique (schema v) db.trees tables.housing row ≡ true) HousedOnce
-      (λ row h. not-true _ (and_parts (not (clashes plain (1 ∷ 3 ∷ []) (db.trees tables.housing.tree) row)) _ (and_parts (not (clashes plain (1 ∷ 2 ∷ []) (db.trees tables.housing.tree) row)) _ h).1).0) (db.trees tables.housing.tree) ((live v db it).obeys.rules Unique).1.1.1.1.1.1.1.1.1.1.1.0
+      (λ row h. not-true _ (and_parts (not (clashes plain (3 ∷ 1 ∷ []) (db.trees tables.housing.tree) row)) _ (and_parts (not (clashes plain (1 ∷ 2 ∷ []) (db.trees tables.housing.tree) row)) _ h).1).0) (db.trees tables.housing.tree) ((live v db it).obeys.rules Unique).1.1.1.1.1.1.1.1.1.1.1.0
 
   -- the rows in the order of their numbers
 
@@ -208,5 +209,5 @@ module _ (v : Version) (db : Database) (it : AreGoodTables v db) where
     housings = IsDistinct-IsPermutation is_same_place (flips (λ (l : HousingRow). l.unit) (λ (l : HousingRow). l.ord)) housings (in_order by_place housings) (in_order-permutation by_place housings)
         (apart read_housing is_same_place (1 ∷ 2 ∷ []) place_key tables.housing (db.trees tables.housing.tree) (housing_whole v db it) place_own);
     housed_once = IsDistinct-IsPermutation is_housed_alike (flips (λ (l : HousingRow). l.unit) (λ (l : HousingRow). l.container)) housings (in_order by_place housings) (in_order-permutation by_place housings)
-        (apart read_housing is_housed_alike (1 ∷ 3 ∷ []) once_key tables.housing (db.trees tables.housing.tree) (housing_whole v db it) once_own);
+        (apart read_housing is_housed_alike (3 ∷ 1 ∷ []) once_key tables.housing (db.trees tables.housing.tree) (housing_whole v db it) once_own);
   }

@@ -31,14 +31,14 @@ pub record UnitCells (row : Row) (u : UnitRow) : Type 0 where
   pub source : column row 2 ≡ Text u.source
   pub legacy : column row 3 ≡ Text u.legacy
   pub level : column row 4 ≡ Text u.level
-  pub draft : column row 5 ≡ Int (flag u.draft)
-  pub until : column row 6 ≡ or_null Int u.until
+  pub draft : column row 6 ≡ Int (flag u.draft)
+  pub until : column row 5 ≡ or_null Int u.until
 
 pub unit_parts : (row : Row) (u : UnitRow) → read_unit row ≡ Some u → UnitCells row u
 unit_parts row u h =
     let a = from_first (number_in (column row 0)) _ u h in
-    let b = from_first (flag_in (column row 5)) _ u a.2 in
-    let c = from_first (or_null_in whole_in (column row 6)) _ u b.2 in
+    let b = from_first (flag_in (column row 6)) _ u a.2 in
+    let c = from_first (or_null_in whole_in (column row 5)) _ u b.2 in
     let d = from_first (text_in (column row 2)) _ u c.2 in
     let e = from_first (text_in (column row 3)) _ u d.2 in
     let f = from_first (text_in (column row 4)) _ u e.2 in
@@ -48,8 +48,8 @@ unit_parts row u h =
       source = is_text (column row 2) d.0 d.1 ∙ ap (λ (x : UnitRow). Text x.source) made;
       legacy = is_text (column row 3) e.0 e.1 ∙ ap (λ (x : UnitRow). Text x.legacy) made;
       level = is_text (column row 4) f.0 f.1 ∙ ap (λ (x : UnitRow). Text x.level) made;
-      draft = is_flag (column row 5) b.0 b.1 ∙ ap (λ (x : UnitRow). Int (flag x.draft)) made;
-      until = is_day (column row 6) c.0 c.1 ∙ ap (λ (x : UnitRow). or_null Int x.until) made;
+      draft = is_flag (column row 6) b.0 b.1 ∙ ap (λ (x : UnitRow). Int (flag x.draft)) made;
+      until = is_day (column row 5) c.0 c.1 ∙ ap (λ (x : UnitRow). or_null Int x.until) made;
     }
 
 pub is_unit : (row : Row) (u : UnitRow) → read_unit row ≡ Some u → IsKeyed 7 row → row ≡ unit_cells u

@@ -15,7 +15,9 @@ use Rattle.sqlite_trees.specs.View.{is_int}
 use Rattle.tree_core.specs.Versions.{Version}
 use Rattle.office_tables.specs.Schema as tables
 use Rattle.office_tables.specs.Schema.{schema}
+use Rattle.row_completeness.proofs.FullRows.{whole_tables}
 use Rattle.row_completeness.specs.WholeRows.{IsWholeTable, AreWholeTables}
+use Rattle.adoption.specs.OrderedTables.{StandInOrder}
 use Rattle.adoption.specs.Found.{AreGoodTables}
 
 -- ---- a row of a table
@@ -56,7 +58,7 @@ module _ (v : Version) (db : Database) (it : AreGoodTables v db) where
   live = subst (λ k. IsDatabase (record { schema = k; trees = db.trees })) it.schema_is it.live
 
   whole : AreWholeTables (record { schema = schema v; trees = db.trees })
-  whole = subst (λ k. AreWholeTables (record { schema = k; trees = db.trees })) it.schema_is it.whole
+  whole = whole_tables v (record { schema = schema v; trees = db.trees }) refl live (subst (λ k. StandInOrder (record { schema = k; trees = db.trees })) it.schema_is it.ordered)
 
   pub office_whole : IsWholeTable tables.office (db.trees tables.office.tree)
   office_whole = whole.1.1.1.1.1.1.1.0

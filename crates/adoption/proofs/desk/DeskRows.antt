@@ -61,12 +61,12 @@ order_is row r h whole =
 pub holding_is : (row : Row) (r : HoldingRow) → read_holding row ≡ Some r → IsKeyed 4 row → row ≡ holding_cells r
 holding_is row r h whole =
     let a = from_first (number_in (column row 0)) _ r h in
-    let b = from_first (number_in (column row 2)) _ r a.2 in
-    let c = from_first (or_null_in number_in (column row 3)) _ r b.2 in
+    let b = from_first (number_in (column row 3)) _ r a.2 in
+    let c = from_first (or_null_in number_in (column row 2)) _ r b.2 in
     let made : HoldingRow = record { container = a.0; place = b.0; held_by = c.0 } in
     let same : made ≡ r = cc in
     whole_row 4 row whole.0
-    ∙ and_then (is_number _ a.0 a.1) (and_then whole.1 (and_then (is_number _ b.0 b.1) (and_then (is_or_null number_in pos is_number _ c.0 c.1) refl)))
+    ∙ and_then (is_number _ a.0 a.1) (and_then whole.1 (and_then (is_or_null number_in pos is_number _ c.0 c.1) (and_then (is_number _ b.0 b.1) refl)))
     ∙ ap holding_cells same
 
 pub run_is : (row : Row) (r : RunRow) → read_run row ≡ Some r → IsKeyed 3 row → row ≡ run_cells r

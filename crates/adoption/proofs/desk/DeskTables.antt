@@ -1,4 +1,4 @@
--- The desk's tables of a live connection, whole and with none of the causes 1 to 9 against them.
+-- The desk's tables of a live connection, whose rows stand in order, with none of the causes 1 to 9 against them.
 use Rattle.std.proofs.Common.{subst}
 use Rattle.std.specs.List.{AllByRecursion}
 use Rattle.sqlite.specs.Effect.{Database}
@@ -9,6 +9,7 @@ use Rattle.tree_core.specs.Versions.{Version}
 use Rattle.office_tables.specs.Schema.{schema}
 use Rattle.adoption.specs.Desk.{RowsShowTheDesk}
 use Rattle.adoption.specs.Found.{AreGoodTables}
+use Rattle.row_completeness.proofs.FullRows.{whole_tables}
 use Rattle.row_completeness.specs.WholeRows.{IsWholeTable}
 use Rattle.adoption.proofs.desk.KeptDesk.{keys}
 use Rattle.adoption.proofs.desk.ShownDesk.{shows_desk}
@@ -22,7 +23,7 @@ module _ (version : Version) (db : Database) (good : AreGoodTables version db) w
   obeys = subst (λ (s : Schema). Obeys s db.trees) good.schema_is good.live.obeys
 
   whole : AllByRecursion (λ (table : Table). IsWholeTable table (db.trees table.tree)) (schema version).tables
-  whole = subst (λ (s : Schema). AllByRecursion (λ (table : Table). IsWholeTable table (db.trees table.tree)) s.tables) good.schema_is good.whole
+  whole = subst (λ (s : Schema). AllByRecursion (λ (table : Table). IsWholeTable table (db.trees table.tree)) s.tables) good.schema_is (whole_tables version db good.schema_is good.live good.ordered)
 
 pub desk_shown : (version : Version) (db : Database) → RowsShowTheDesk version db
 desk_shown version db good =

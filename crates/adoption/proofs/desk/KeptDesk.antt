@@ -115,14 +115,14 @@ module _ (version : Version) (db : Trees) (obeys : Obeys (schema version) db) (w
   unique_lines = record {
     rise = lines_whole.rise;
     numbers = lines_whole.numbers;
-    apart = guarded tables.run_line (automatic tables.run_line 0 (1 ∷ 2 ∷ []) 9) (db tables.run_line.tree) (inr (inr (inr (inl refl)))) refl (obeys.rules Unique).1.1.1.1.1.0;
+    apart = guarded tables.run_line (automatic tables.run_line 0 (1 ∷ 2 ∷ []) 10) (db tables.run_line.tree) (inr (inr (inr (inr (inl refl))))) refl (obeys.rules Unique).1.1.1.1.1.0;
   }
 
   unique_permits : AreUnique (1 ∷ 2 ∷ []) (db tables.permit.tree)
   unique_permits = record {
     rise = permits_whole.rise;
     numbers = permits_whole.numbers;
-    apart = guarded tables.permit (automatic tables.permit 0 (1 ∷ 2 ∷ []) 11) (db tables.permit.tree) (inr (inr (inr (inr (inl refl))))) refl (obeys.rules Unique).1.1.1.1.1.1.0;
+    apart = guarded tables.permit (automatic tables.permit 0 (1 ∷ 2 ∷ []) 12) (db tables.permit.tree) (inr (inr (inr (inr (inr (inl refl)))))) refl (obeys.rules Unique).1.1.1.1.1.1.0;
   }
 
   -- ---- keys

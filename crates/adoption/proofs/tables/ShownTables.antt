@@ -27,7 +27,7 @@ pub sound_are_good : (version : Version) (db : Database) → AreSoundTables vers
 sound_are_good version db sound = record {
   schema_is = sound.schema_is;
   live = sound.live;
-  whole = sound.whole;
+  ordered = sound.ordered;
   catalogue = first_five version db.trees sound.causeless;
   desk = ap of_desk sound.causeless;
 }

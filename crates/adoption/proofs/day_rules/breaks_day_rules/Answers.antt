@@ -14,8 +14,8 @@ returns g c =
     let told = c.breaks_day_rules.ensures.tells in
     record {
       reads = day_read places v g.S.Store c.args.conn.now c.breaks_day_rules.new.conn c.breaks_day_rules.result c.args.own.now told;
-      tells = λ clean opened whole mine none.
-          day_told places v g.S.Store c.args.conn.now c.breaks_day_rules.new.conn c.breaks_day_rules.result c.args.own.now law c.requires.inside c.schema.ensures.live told opened whole none clean mine;
-      faults = λ opened whole none.
-          day_excused places v g.S.Store c.args.conn.now c.breaks_day_rules.new.conn c.breaks_day_rules.result c.args.own.now law c.requires.inside c.schema.ensures.live told opened whole none;
+      tells = λ clean opened ordered mine none.
+          day_told places v g.S.Store c.args.conn.now c.breaks_day_rules.new.conn c.breaks_day_rules.result c.args.own.now law c.requires.inside c.schema.ensures.live told opened ordered none clean mine;
+      faults = λ opened ordered none.
+          day_excused places v g.S.Store c.args.conn.now c.breaks_day_rules.new.conn c.breaks_day_rules.result c.args.own.now law c.requires.inside c.schema.ensures.live told opened ordered none;
     }

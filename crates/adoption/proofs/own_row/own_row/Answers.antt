@@ -21,7 +21,7 @@ returns-in_err-all-clause-faults g c clean free =
     search (rules, why)
 
 pub returns-then-all-ne1-clause-tells : goal.returns-then-all-ne1-clause-tells
-returns-then-all-ne1-clause-tells g c clean whole =
+returns-then-all-ne1-clause-tells g c clean ordered =
     let v = g.P.Places.version in
     let old = state g.S.Store c.args.conn.now in
     let new = state g.S.Store c.gather.new.conn in
@@ -30,8 +30,8 @@ returns-then-all-ne1-clause-tells g c clean whole =
     let all = c.in_ok-all.ensures.gathers clean in
     let got = scanned_office old new all.rows v at.0 all.shown in
     let same = keeps own_text [] old new all.rows (own_plain v old at.0) all.shown in
-    let risen = office_risen v old.now at.0 whole in
-    judged_not_one v got.0 all.rows c.in_ok-all.all.count c.in_ok-all.all.told got.2 all.holds (old.now.trees 13) got.1 risen c.if-all-ne1.true
+    let risen = office_risen v old.now at.0 ordered in
+    judged_not_one v got.0 all.rows c.in_ok-all.all.count c.in_ok-all.all.told got.2 all.holds (old.now.trees 14) got.1 risen c.if-all-ne1.true
 
 pub returns-clause-tells : goal.returns-clause-tells
 returns-clause-tells g c clean _ =
@@ -41,7 +41,7 @@ returns-clause-tells g c clean _ =
     let at = c.requires.inside (early old new _ c.in_ok-all.ensures.reads.crash clean) in
     let all = c.in_ok-all.ensures.gathers clean in
     let got = scanned_office old new all.rows v at.0 all.shown in
-    let one = judged_one v got.0 all.rows c.in_ok-all.all.count c.in_ok-all.all.told got.2 all.holds (old.now.trees 13) got.1 c.if-all-ne1.false in
+    let one = judged_one v got.0 all.rows c.in_ok-all.all.count c.in_ok-all.all.told got.2 all.holds (old.now.trees 14) got.1 c.if-all-ne1.false in
     search (rules, one)
 
 pub returns-then-all-ne1-clause-opened : goal.returns-then-all-ne1-clause-opened

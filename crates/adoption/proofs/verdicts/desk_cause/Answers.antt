@@ -10,7 +10,7 @@ use Rattle.office_tables.proofs.Calls.{office_of, looks_then, cut_then}
 use Rattle.row_decoding.proofs.ReadCalls.{before, reads_well}
 use Rattle.adoption.specs.Causes.{HasNoEarlierCause}
 use Rattle.adoption.specs.OwnRows.{own_row_of}
-use Rattle.adoption.specs.WholeTables.{AreWholeTables}
+use Rattle.adoption.specs.OrderedTables.{StandInOrder}
 use Rattle.adoption.proofs.CauseLemmas.{told_desk, fine_desk, broken_day, kept_day}
 use Rattle.adoption.proofs.DayRules.{opened_then}
 use Rattle.adoption.proofs.verdicts.desk_cause.Goals as goal
@@ -19,7 +19,7 @@ pub load_check_desk-requires : goal.load_check_desk-requires
 load_check_desk-requires g c = record { inside = office_of g.P.Places.version (state g.S.Store c.args.conn.now) c.requires.inside }
 
 pub returns-in-Some-clause-tells : goal.returns-in-Some-clause-tells
-returns-in-Some-clause-tells g c clean opened whole own catalogue =
+returns-in-Some-clause-tells g c clean opened ordered own catalogue =
     let db = (state g.S.Store c.args.conn.now).now.trees in
     ap Some c.cause.ensures
     ∙ sym (told_desk g.P.Places.version db c.args.own.now (sym own) catalogue c.in-Some.doubt (sym c.in-Some.is ∙ c.in_ok-doubt.ensures.tells clean))
@@ -37,14 +37,14 @@ returns-then-branch-clause-reads g c =
     reads_well old new (Some 10) (looks_then old (state g.S.Store c.load_check_desk.new.conn) new c.in_ok-doubt.ensures.reads.looks c.in_ok-breaks_day_rules.ensures.reads.looks)
 
 pub returns-then-branch-clause-tells : goal.returns-then-branch-clause-tells
-returns-then-branch-clause-tells g c clean opened whole own catalogue =
+returns-then-branch-clause-tells g c clean opened ordered own catalogue =
     let v = g.P.Places.version in
     let old = state g.S.Store c.args.conn.now in
     let mid = state g.S.Store c.load_check_desk.new.conn in
     let clean_mid = before mid (state g.S.Store c.breaks_day_rules.new.conn) c.in_ok-breaks_day_rules.ensures.reads.looks clean in
     let none = fine_desk v old.now.trees c.args.own.now (sym own) catalogue (sym c.in_default.is ∙ c.in_ok-doubt.ensures.tells clean_mid) in
-    let told = subst (λ (db : Database). AreWholeTables db → own_row_of v db.trees ≡ Some c.args.own.now → HasNoEarlierCause v db.trees → c.in_ok-breaks_day_rules.field-0 ≡ day_is_broken (rows_in v db.trees))
-    (c.in_ok-doubt.ensures.reads.looks.same clean_mid) (c.in_ok-breaks_day_rules.ensures.tells clean (opened_then old mid c.in_ok-doubt.ensures.reads.looks clean_mid opened)) whole own none in
+    let told = subst (λ (db : Database). StandInOrder db → own_row_of v db.trees ≡ Some c.args.own.now → HasNoEarlierCause v db.trees → c.in_ok-breaks_day_rules.field-0 ≡ day_is_broken (rows_in v db.trees))
+    (c.in_ok-doubt.ensures.reads.looks.same clean_mid) (c.in_ok-breaks_day_rules.ensures.tells clean (opened_then old mid c.in_ok-doubt.ensures.reads.looks clean_mid opened)) ordered own none in
     sym (broken_day v old.now.trees none (sym told ∙ c.if-branch.true))
 
 pub returns-clause-reads : goal.returns-clause-reads
@@ -54,18 +54,18 @@ returns-clause-reads g c =
     reads_well old new None (looks_then old (state g.S.Store c.load_check_desk.new.conn) new c.in_ok-doubt.ensures.reads.looks c.in_ok-breaks_day_rules.ensures.reads.looks)
 
 pub returns-clause-tells : goal.returns-clause-tells
-returns-clause-tells g c clean opened whole own catalogue =
+returns-clause-tells g c clean opened ordered own catalogue =
     let v = g.P.Places.version in
     let old = state g.S.Store c.args.conn.now in
     let mid = state g.S.Store c.load_check_desk.new.conn in
     let clean_mid = before mid (state g.S.Store c.breaks_day_rules.new.conn) c.in_ok-breaks_day_rules.ensures.reads.looks clean in
     let none = fine_desk v old.now.trees c.args.own.now (sym own) catalogue (sym c.in_default.is ∙ c.in_ok-doubt.ensures.tells clean_mid) in
-    let told = subst (λ (db : Database). AreWholeTables db → own_row_of v db.trees ≡ Some c.args.own.now → HasNoEarlierCause v db.trees → c.in_ok-breaks_day_rules.field-0 ≡ day_is_broken (rows_in v db.trees))
-    (c.in_ok-doubt.ensures.reads.looks.same clean_mid) (c.in_ok-breaks_day_rules.ensures.tells clean (opened_then old mid c.in_ok-doubt.ensures.reads.looks clean_mid opened)) whole own none in
+    let told = subst (λ (db : Database). StandInOrder db → own_row_of v db.trees ≡ Some c.args.own.now → HasNoEarlierCause v db.trees → c.in_ok-breaks_day_rules.field-0 ≡ day_is_broken (rows_in v db.trees))
+    (c.in_ok-doubt.ensures.reads.looks.same clean_mid) (c.in_ok-breaks_day_rules.ensures.tells clean (opened_then old mid c.in_ok-doubt.ensures.reads.looks clean_mid opened)) ordered own none in
     sym (kept_day v old.now.trees none (sym told ∙ c.if-branch.false))
 
 pub returns-in_err-breaks_day_rules-clause-faults : goal.returns-in_err-breaks_day_rules-clause-faults
-returns-in_err-breaks_day_rules-clause-faults g c opened whole own catalogue clean free =
+returns-in_err-breaks_day_rules-clause-faults g c opened ordered own catalogue clean free =
     let v = g.P.Places.version in
     let old = state g.S.Store c.args.conn.now in
     let mid = state g.S.Store c.load_check_desk.new.conn in
@@ -75,6 +75,6 @@ returns-in_err-breaks_day_rules-clause-faults g c opened whole own catalogue cle
     let failed : Result Bool StoreFault = Err c.in_err-breaks_day_rules.field-0.0 in
     let why = excused_then old mid new looked.goes.on failed told.reads.cut (λ clean_mid.
     let none = fine_desk v old.now.trees c.args.own.now (sym own) catalogue (sym c.in_default.is ∙ c.in_ok-doubt.ensures.tells clean_mid) in
-    subst (λ (db : Database). AreWholeTables db → HasNoEarlierCause v db.trees → FaultsHaveCause mid new failed) (looked.same clean_mid) (told.faults (opened_then old mid looked clean_mid opened)) whole none)
+    subst (λ (db : Database). StandInOrder db → HasNoEarlierCause v db.trees → FaultsHaveCause mid new failed) (looked.same clean_mid) (told.faults (opened_then old mid looked clean_mid opened)) ordered none)
     clean free in
     search (rules, why)

@@ -5,7 +5,7 @@ use Rattle.state_encoding.specs.CellCauses.{cell_cause}
 use Rattle.office_tables.proofs.Calls.{looks_then, cut_then}
 use Rattle.row_decoding.proofs.ReadCalls.{before, reads_well}
 use Rattle.adoption.specs.Verdicts.{IsVersionVerdict}
-use Rattle.adoption.specs.WholeTables.{AreWholeTables}
+use Rattle.adoption.specs.OrderedTables.{StandInOrder}
 use Rattle.adoption.specs.declared.verdict.Verdict.TheVariants.{Sound, Unsound}
 use Rattle.adoption.proofs.verdicts.judge.Goals as goal
 
@@ -28,12 +28,12 @@ returns-in-Some-2-clause-tells g c clean =
     let mid = state g.S.Store c.judge_version.new.conn in
     let clean_mid = before mid (state g.S.Store c.least_cause.new.conn) c.in_ok-cause.ensures.reads.looks clean in
     let same = c.in_ok-verdict.ensures.reads.looks.same clean_mid in
-    let told = subst (λ (db : Database). AreWholeTables db → c.in_ok-cause.field-0 ≡ cell_cause v db.trees) same (c.in_ok-cause.ensures.tells clean) in (
+    let told = subst (λ (db : Database). StandInOrder db → c.in_ok-cause.field-0 ≡ cell_cause v db.trees) same (c.in_ok-cause.ensures.tells clean) in (
       record {
         version_is = subst (IsVersionVerdict v old.now) c.in_default.is (c.in_ok-verdict.ensures.tells clean_mid);
         schema_is = ap (λ (db : Database). db.schema) (sym same) ∙ c.in_ok-are_ours.ensures.tells.0 c.if-not-branch.false;
       },
-      λ whole. sym (told whole) ∙ c.in-Some-2.is,
+      λ ordered. sym (told ordered) ∙ c.in-Some-2.is,
     )
 
 pub returns-in-None-clause-reads : goal.returns-in-None-clause-reads
@@ -49,10 +49,10 @@ returns-in-None-clause-tells g c clean =
     let mid = state g.S.Store c.judge_version.new.conn in
     let clean_mid = before mid (state g.S.Store c.least_cause.new.conn) c.in_ok-cause.ensures.reads.looks clean in
     let same = c.in_ok-verdict.ensures.reads.looks.same clean_mid in
-    let told = subst (λ (db : Database). AreWholeTables db → c.in_ok-cause.field-0 ≡ cell_cause v db.trees) same (c.in_ok-cause.ensures.tells clean) in (
+    let told = subst (λ (db : Database). StandInOrder db → c.in_ok-cause.field-0 ≡ cell_cause v db.trees) same (c.in_ok-cause.ensures.tells clean) in (
       record {
         version_is = subst (IsVersionVerdict v old.now) c.in_default.is (c.in_ok-verdict.ensures.tells clean_mid);
         schema_is = ap (λ (db : Database). db.schema) (sym same) ∙ c.in_ok-are_ours.ensures.tells.0 c.if-not-branch.false;
       },
-      λ whole. sym (told whole) ∙ c.in-None.is,
+      λ ordered. sym (told ordered) ∙ c.in-None.is,
     )

@@ -21,9 +21,9 @@ returns-in_err-to_spans-clause-cause g c clean opened =
     let its_state = shows_its_state old.now c.in_ok-verdict.verdict (sym c.refusal.ensures ∙ c.in_default.is) (c.in_ok-verdict.ensures.tells clean_mid) (c.schema.ensures.live opened).0 in
     told_as c.from_residual-in_err-to_spans.result _ (HasAdoptCause Links old new) c.from_residual-in_err-to_spans.ensures.1
     (cause_of_call old mid new _
-    (λ whole.
-    let shown = subst (λ (db : Database). RepresentsState RepresentsLinkRows Links db (state_in Links old.now.trees)) (sym (reads.looks.same clean_mid)) (its_state whole).represents in
-    c.in_err-to_spans.ensures.faults (state_in Links old.now.trees) (its_state whole).sound shown clean (reads.crash.limit ∙ c.requires.unlimited))
+    (λ ordered.
+    let shown = subst (λ (db : Database). RepresentsState RepresentsLinkRows Links db (state_in Links old.now.trees)) (sym (reads.looks.same clean_mid)) (its_state ordered).represents in
+    c.in_err-to_spans.ensures.faults (state_in Links old.now.trees) (its_state ordered).sound shown clean (reads.crash.limit ∙ c.requires.unlimited))
     reads.crash.counts (reads.looks.goes.on.within clean_mid).opened)
 
 pub returns-clause-same : goal.returns-clause-same

@@ -10,13 +10,13 @@ returns-in-None-clause-opens g c clean =
     adopted g.P.Places.version (state g.S.Store c.args.conn) (state g.S.Store c.look_over.new.conn) c.in-Ok.verdict (sym c.refusal.ensures ∙ c.in-None.is) (c.in-Ok.ensures.tells clean) (c.in-Ok.ensures.back clean)
 
 pub returns-in-None-clause-sound : goal.returns-in-None-clause-sound
-returns-in-None-clause-sound g c clean opened whole =
+returns-in-None-clause-sound g c clean opened ordered =
     let v = g.P.Places.version in
     adopted_sound v (state g.S.Store c.args.conn) (state g.S.Store c.look_over.new.conn) c.in-Ok.verdict (sym c.refusal.ensures ∙ c.in-None.is) (c.in-Ok.ensures.tells clean) (c.in-Ok.ensures.back clean) g.P.Places.represents
-    (λ db sound. sound_state g.P.Places.represents v db sound (catalogue_shown v db (sound_are_good v db sound) g.P.Places.represents g.met.P.CheckedPlaces.shows_said)) c.schema.ensures.live opened whole
+    (λ db sound. sound_state g.P.Places.represents v db sound (catalogue_shown v db (sound_are_good v db sound) g.P.Places.represents g.met.P.CheckedPlaces.shows_said)) c.schema.ensures.live opened ordered
 
 pub returns-in-None-clause-represents : goal.returns-in-None-clause-represents
-returns-in-None-clause-represents g c clean whole =
+returns-in-None-clause-represents g c clean ordered =
     let v = g.P.Places.version in
     adopted_shown v (state g.S.Store c.args.conn) (state g.S.Store c.look_over.new.conn) c.in-Ok.verdict (sym c.refusal.ensures ∙ c.in-None.is) (c.in-Ok.ensures.tells clean) (c.in-Ok.ensures.back clean) g.P.Places.represents
-    (λ db sound. sound_state g.P.Places.represents v db sound (catalogue_shown v db (sound_are_good v db sound) g.P.Places.represents g.met.P.CheckedPlaces.shows_said)) c.schema.ensures.live whole
+    (λ db sound. sound_state g.P.Places.represents v db sound (catalogue_shown v db (sound_are_good v db sound) g.P.Places.represents g.met.P.CheckedPlaces.shows_said)) c.schema.ensures.live ordered

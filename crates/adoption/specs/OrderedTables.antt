@@ -1,2 +1,2 @@
 -- What is asked of tables that are opened, beside what SQL itself tells of them.
-pub use Rattle.row_completeness.specs.WholeRows.{IsWholeTable, AreWholeTables}
+pub use Rattle.row_completeness.specs.OrderedRows.{StandsInOrder, StandInOrder}
