@@ -35,5 +35,7 @@ pub mod UnitsAfter
 pub mod OneRule
 pub mod PublicPaths
 pub mod PageUnits
+pub mod NearestValues
+pub mod InPublic
 pub mod ShownUnits
 pub mod BoxPlaces

@@ -21,5 +21,7 @@ pub mod Members
 pub mod Published
 pub mod OneRule
 pub mod Pages
+pub mod NearestValues
+pub mod InPublic
 pub mod LegibleCatalogues
 pub mod RowByRow

@@ -3,6 +3,8 @@
 ghost use Rattle.catalogue_core.specs.OpenMarks.{OpenByMarks, MarksSayClean, NumbersTellNothing};
 ghost use Rattle.catalogue_core.specs.OneRule.{TellsWhatIsOpen, StubsWhatIsClosed};
 ghost use Rattle.catalogue_core.specs.OneRule.{PagesTellTheHousing, NumbersArePlaces};
+ghost use Rattle.catalogue_core.specs.NearestValues.{LinesAreNearest};
+ghost use Rattle.catalogue_core.specs.InPublic.{PublishedInPublic, PublicIsPublished};
 
 /// When a container is open to a reader with his permits, by the marks of the units that name it. The public has none.
 pub fn open_by_marks()
@@ -26,4 +28,16 @@ pub fn pages_tell_the_housing()
 /// The number that is printed of a container is the one by which it is ordered.
 pub fn numbers_are_places()
     ensures { NumbersArePlaces }
+{}
+
+/// Each line of a page has the value of the nearest unit, going up from the page's own, that has one.
+pub fn values_are_of_the_nearest()
+    ensures { LinesAreNearest }
+{}
+
+/// What is published of a unit, by the drafts and closures of its path, is just what stands in the forest that the public
+/// may know.
+pub fn the_published_stands_in_public()
+    ensures published { PublishedInPublic }
+    ensures public { PublicIsPublished }
 {}

@@ -85,7 +85,7 @@ returned_extends s c Shelf = same_lists s s refl refl refl refl refl
 returned_extends s c Desk = same_lists s s refl refl refl refl refl
 returned_extends s c (Out o) = same_lists s (returned s c (Out o)) refl refl refl refl refl
 
-imported_extends : (s : State) (source file : Bytes) (t : Taken) → taken s source file ≡ t → distinct s.catalogue.containers ≡ s.catalogue.containers → Extends s (imported s t)
+pub imported_extends : (s : State) (source file : Bytes) (t : Taken) → taken s source file ≡ t → distinct s.catalogue.containers ≡ s.catalogue.containers → Extends s (imported s t)
 imported_extends s source file (Err fault) e b = same_lists s s refl refl refl refl refl
 imported_extends s source file (Ok intake) e b =
     let x = boxes_after s.catalogue source file intake e b in

@@ -33,4 +33,7 @@ pub mod ImportedByRow
 pub mod ImportedCounts
 pub mod KeptOffices
 pub mod LastNumberSound
+pub mod Withholding
+pub mod Remarking
+pub mod Fullness
 pub mod worked_rows

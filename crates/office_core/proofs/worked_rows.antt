@@ -8,3 +8,4 @@ pub mod WorkedReplies
 pub mod WorkedSettings
 pub mod WorkedShown
 pub mod WorkedSound
+pub mod WorkedTexts

@@ -20,6 +20,11 @@ pub mod WorkedShown
 pub mod WorkedChecks
 pub mod WorkedSettings
 pub mod WorkedImports
+pub mod WorkedTexts
+pub mod Withholding
+pub mod Remarking
+pub mod Fullness
+pub mod InPublic
 pub mod MixedRuns
 pub mod SettingsFaults
 pub mod ImportedByRow

@@ -7,7 +7,7 @@ use Rattle.office_core.specs.declared.command.Command.TheVariants.{OpenDay, Take
 use Rattle.office_core.specs.declared.query.Query.TheVariants.{Fonds, Aid, Page, ReaderOrders, Queue, RunSlip, IssuedNow, ReaderPermits}
 use Rattle.office_core.specs.declared.query.Answer.TheVariants.{Text, Json, Unknown}
 use Rattle.office_core.specs.WorkedAnswers.{Says}
-use Rattle.office_core.specs.Worked.{import, close, ann, bob, february_1, march_1, march_2, march_31, year_2030, docks, boxes, lock_gates}
+use Rattle.office_core.specs.Worked.{import, close, ann, bob, february_1, march_1, march_2, march_31, year_2030, docks, boxes, lock_gates, harbour}
 
 -- a closed unit is shown, by its head line alone: among the tops, on its parent's page, and by an aid of its own
 pub record ClosedShown : Type 0 where
@@ -50,3 +50,9 @@ smith_and_jones =
 pub record NearestAbove : Type 0 where
   pub file : Says (import smith_and_jones ∷ []) (Page 3) (Text (codes "GB 0999 HUL/1/7 [File] 1901\n  3.2.1 Name of creator(s): Jones (from GB 0999 HUL/1)\n  Container 2: Box 2 (from GB 0999 HUL/1)\n"))
   pub series : Says (import smith_and_jones ∷ []) (Page 2) (Text (codes "GB 0999 HUL/1 [Series] Minutes\n  3.2.1 Name of creator(s): Jones\n  Container 2: Box 2\n  Unit 3: GB 0999 HUL/1/7 [File] 1901\n"))
+
+-- a page has its elements in the order of the standard
+abbrev pub LinesInOrder : Type 0
+LinesInOrder =
+    Says (import harbour ∷ []) (Page 1)
+    (Text (codes "GB 0999 HUL [Series] Docks\n  3.3.1 Scope and content: Ships\n  3.4.1 Conditions governing access: Open\n  Unit 2: GB 0999 HUL/1 [Series] Minutes\n"))

@@ -4,6 +4,7 @@
 mod command;
 mod done;
 pub mod laws;
+pub mod laws_of_rules;
 pub mod laws_of_runs;
 pub mod laws_of_texts;
 mod machine;

@@ -8,6 +8,7 @@ ghost use Rattle.office_core.specs.WorkedShown as shown;
 ghost use Rattle.office_core.specs.WorkedChecks as turn;
 ghost use Rattle.office_core.specs.WorkedSettings as settings;
 ghost use Rattle.office_core.specs.WorkedImports as imports;
+ghost use Rattle.office_core.specs.WorkedTexts as texts;
 ghost use Rattle.office_core.specs.Soundness.{IsSound};
 ghost use Rattle.office_core.specs.Worked.{one_number_left};
 
@@ -88,6 +89,7 @@ pub fn worked_shown_rows()
     ensures lists { shown.Lists }
     ensures permit_kept { shown.PermitKept }
     ensures nearest_above { shown.NearestAbove }
+    ensures lines_in_order { shown.LinesInOrder }
 {}
 
 /// Of several refusals that hold at once, the first of the command's list is told.
@@ -115,6 +117,12 @@ pub fn worked_imports()
     ensures new_below { imports.NewBelow }
     ensures closures_kept { imports.ClosuresKept }
     ensures too_deep_before_the_gate { imports.TooDeepBeforeTheGate }
+{}
+
+/// Each reply and each refusal has the text of the rows, to the byte.
+pub fn worked_texts()
+    ensures each_reply { texts.EachReply }
+    ensures each_refusal { texts.EachRefusal }
 {}
 
 /// The office that has one unit number left, of which a row of the catalogue tells, is sound.

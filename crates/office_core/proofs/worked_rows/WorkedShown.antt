@@ -11,7 +11,7 @@ use Rattle.atom_csv.specs.Columns.{columns}
 use Rattle.atom_csv.specs.Values.{described}
 use Rattle.catalogue_core.specs.Housing.{is_open}
 use Rattle.catalogue_core.specs.Intake.{take}
-use Rattle.office_core.specs.WorkedShown.{ClosedShown, OldSlips, Lists, PermitKept, NearestAbove}
+use Rattle.office_core.specs.WorkedShown.{ClosedShown, OldSlips, Lists, PermitKept, NearestAbove, LinesInOrder}
 
 pub closed_shown : ClosedShown
 unfolding is_open take is_utf8 chars encode records_from strip_bom next_record columns described digits day_text
@@ -32,3 +32,7 @@ permit_kept = refl
 pub nearest_above : NearestAbove
 unfolding is_open take is_utf8 chars encode records_from strip_bom next_record columns described digits day_text
 nearest_above = record { file = refl; series = refl }
+
+pub lines_in_order : LinesInOrder
+unfolding is_open take is_utf8 chars encode records_from strip_bom next_record columns described digits day_text
+lines_in_order = refl

@@ -15,3 +15,6 @@ returns-clause-permit_kept c = row.permit_kept
 
 pub returns-clause-nearest_above : goal.returns-clause-nearest_above
 returns-clause-nearest_above c = row.nearest_above
+
+pub returns-clause-lines_in_order : goal.returns-clause-lines_in_order
+returns-clause-lines_in_order c = row.lines_in_order

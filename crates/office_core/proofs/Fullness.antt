@@ -1,0 +1,130 @@
+-- The limits are those of the rules, and what is full is refused.
+use Rattle.std.proofs.Common.{◌≡◌, ℕ, ◌≤◌, Bool, true, false, not, ◌&&◌, ◌||◌, [], ◌∷◌, length, Some, None, refl, ◌∙◌}
+use Rattle.std.specs.Prelude.{nat_lt, nat_le}
+use Rattle.std.proofs.lemmas.Bool.{and_parts, leb-true, le-leb, lt-ltb, le-ltb, lt-leb}
+use Rattle.tree_core.specs.Forest.{size}
+use Rattle.catalogue_core.specs.Finding.{has_unit}
+use Rattle.catalogue_core.specs.Sources.{is_between}
+use Rattle.desk_core.specs.Names.{is_name}
+use Rattle.desk_core.specs.Refusals.{when, unless, first_that_holds}
+use Rattle.desk_core.specs.declared.refusal.Refusal.TheVariants.{UnknownUnit, UnknownTicket, TicketExpired, NotAvailable, AlreadyOrdered, DailyLimit, Full, NothingToMove, BadName}
+use Rattle.office_core.specs.Words.{is_empty}
+use Rattle.office_core.specs.State.{State, is_ticket, is_expired, opens, has_ordered, placed, picked, has_permit}
+use Rattle.office_core.specs.Fullness.{HasItsLimits, HasItsSettings, IsFullExactly, RefusesTickets, RefusesRuns, RefusesOrders, RefusesPermits, MayOrder, RefusesWhereFull}
+
+pub its_limits : HasItsLimits
+its_limits = record { units = refl; unit_numbers = refl; containers = refl; tickets = refl; orders = refl; runs = refl; permits = refl; deep = refl; bytes = refl; last_row = refl; late_row = refl }
+
+-- ---- settings
+
+between : (low high n : ℕ) → is_between low high n ≡ true → (low ≤ n) × (n ≤ high)
+between low high n h = let k = and_parts (nat_le low n) (nat_le n high) h in (leb-true low n k.0, leb-true n high k.1)
+
+is_within : (low high n : ℕ) → low ≤ n → n ≤ high → is_between low high n ≡ true
+is_within low high n l u = rw (le-leb low n l, le-leb n high u) refl
+
+pub its_settings : HasItsSettings
+its_settings =
+    record {
+      only = λ it good. record {
+        seats = between 1 200 it.seats good.seats;
+        daily = between 1 50 it.daily good.daily;
+        hands = between 1 10 it.hands good.hands;
+        run_size = between 1 100 it.run_size good.run_size;
+      };
+      all = λ it h. record {
+        country = refl;
+        repo = refl;
+        seats = is_within 1 200 it.seats h.seats.0 h.seats.1;
+        daily = is_within 1 50 it.daily h.daily.0 h.daily.1;
+        hands = is_within 1 10 it.hands h.hands.0 h.hands.1;
+        run_size = is_within 1 100 it.run_size h.run_size.0 h.run_size.1;
+      };
+    }
+
+-- ---- imports
+
+or_true : (a b : Bool) → b ≡ true → (a || b) ≡ true
+or_true true b h = refl
+or_true false b h = h
+
+pub is_full_exactly : IsFullExactly
+is_full_exactly =
+    record {
+      room = λ c u n k. rw (le-ltb 200000 (size c.forest) u, le-ltb 100000001 c.next n, le-ltb 100000 (length c.containers) k) refl;
+      units = λ c u. rw (lt-ltb 200000 (size c.forest) u) refl;
+      numbers = λ c n. or_true (nat_lt 200000 (size c.forest)) _ (rw (lt-ltb 100000001 c.next n) refl);
+      containers = λ c k. or_true (nat_lt 200000 (size c.forest)) _ (or_true (nat_lt 100000001 c.next) _ (lt-ltb 100000 (length c.containers) k));
+    }
+
+-- ---- the desk
+
+last_told : (b : Bool) → first_that_holds (when b Full ∷ []) ≡ when b Full
+last_told true = refl
+last_told false = refl
+
+named : (n f : Bool) → n ≡ true → first_that_holds (unless n BadName ∷ when f Full ∷ []) ≡ when f Full
+named n f h = rw h (last_told f)
+
+unnamed : (n f : Bool) → n ≡ false → first_that_holds (unless n BadName ∷ when f Full ∷ []) ≡ Some BadName
+unnamed n f h = rw h refl
+
+tickets : (s : State) → RefusesTickets s
+tickets s =
+    record {
+      full = λ name until h. named (is_name name) (nat_le 1000000 (length s.readers)) h;
+      bad_name = λ name until h. unnamed (is_name name) (nat_le 1000000 (length s.readers)) h;
+    }
+
+fetching : (n f : Bool) → n ≡ false → first_that_holds (when n NothingToMove ∷ when f Full ∷ []) ≡ when f Full
+fetching n f h = rw h (last_told f)
+
+idle : (n f : Bool) → n ≡ true → first_that_holds (when n NothingToMove ∷ when f Full ∷ []) ≡ Some NothingToMove
+idle n f h = rw h refl
+
+runs : (s : State) → RefusesRuns s
+runs s =
+    record {
+      full = λ h. fetching (is_empty (picked s)) (nat_le 1000000 (length s.runs)) h;
+      nothing = λ h. idle (is_empty (picked s)) (nat_le 1000000 (length s.runs)) h;
+    }
+
+ordering : (k e a o d f : Bool) → k ≡ true → e ≡ false → a ≡ true → o ≡ false → first_that_holds (unless k UnknownTicket ∷ when e TicketExpired ∷ unless a NotAvailable ∷ when o AlreadyOrdered ∷ when d DailyLimit ∷ when f Full ∷ []) ≡ first_that_holds (when d DailyLimit ∷ when f Full ∷ [])
+ordering k e a o d f hk he ha ho = rw (hk, he, ha, ho) refl
+
+limited : (d f : Bool) → d ≡ true → first_that_holds (when d DailyLimit ∷ when f Full ∷ []) ≡ Some DailyLimit
+limited d f h = rw h refl
+
+in_time : (d f : Bool) → d ≡ false → first_that_holds (when d DailyLimit ∷ when f Full ∷ []) ≡ when f Full
+in_time d f h = rw h (last_told f)
+
+orders : (s : State) (t c : ℕ) → MayOrder s t c → RefusesOrders s t c
+orders s t c m =
+    let daily : Bool = nat_le s.settings.daily (placed s t s.day) in
+    let all : Bool = nat_le 10000000 (length s.orders) in
+    let at = ordering (is_ticket s t) (is_expired s t) (opens s t c) (has_ordered s t c) daily all m.ticket m.valid m.available m.not_yet in
+    record {
+      full = λ l. at ∙ in_time daily all (lt-leb s.settings.daily (placed s t s.day) l);
+      day = λ l. at ∙ limited daily all (le-leb s.settings.daily (placed s t s.day) l);
+    }
+
+permitting : (k u h f : Bool) → k ≡ true → u ≡ true → h ≡ false → first_that_holds (unless k UnknownTicket ∷ unless u UnknownUnit ∷ when (not h && f) Full ∷ []) ≡ when f Full
+permitting k u h f ek eu eh = rw (ek, eu, eh) (last_told f)
+
+prolonging : (k u h f : Bool) → k ≡ true → u ≡ true → h ≡ true → first_that_holds (unless k UnknownTicket ∷ unless u UnknownUnit ∷ when (not h && f) Full ∷ []) ≡ None
+prolonging k u h f ek eu eh = rw (ek, eu, eh) refl
+
+unknown_unit : (k u h f : Bool) → k ≡ true → u ≡ false → first_that_holds (unless k UnknownTicket ∷ unless u UnknownUnit ∷ when (not h && f) Full ∷ []) ≡ Some UnknownUnit
+unknown_unit k u h f ek eu = rw (ek, eu) refl
+
+permits : (s : State) (t : ℕ) → is_ticket s t ≡ true → RefusesPermits s t
+permits s t k =
+    let all : Bool = nat_le 100 (length (s.permits t)) in
+    record {
+      full = λ u until h p. permitting (is_ticket s t) (has_unit s.catalogue.forest u) (has_permit s t u) all k h p;
+      later = λ u until h p. prolonging (is_ticket s t) (has_unit s.catalogue.forest u) (has_permit s t u) all k h p;
+      unknown = λ u until h. unknown_unit (is_ticket s t) (has_unit s.catalogue.forest u) (has_permit s t u) all k h;
+    }
+
+pub refuses_where_full : (s : State) → RefusesWhereFull s
+refuses_where_full s = record { tickets = tickets s; runs = runs s; orders = orders s; permits = permits s }
