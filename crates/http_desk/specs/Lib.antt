@@ -1,6 +1,7 @@
 pub mod Messages
 pub mod Session
 pub mod Laws
+pub mod Streams
 pub mod Sending
 pub mod Parts
 pub mod Quiet
