@@ -9,6 +9,7 @@ pub mod Gathering
 pub mod Talking
 pub mod Runs
 pub mod Headline
+pub mod PublicSessions
 pub mod Worked
 pub mod WorkedSessions
 pub mod WorkedRuns
