@@ -2,6 +2,7 @@ pub mod Places
 pub mod Cutting
 pub mod Courses
 pub mod Public
+pub mod PublicAsks
 pub mod Leaks
 pub mod Fills
 pub mod Sends

@@ -3,7 +3,7 @@ use Rattle.std.proofs.Common.{◌≡◌, List, [], ◌∷◌, ◌++◌, refl, sy
 use Rattle.std.specs.List.{AllByRecursion}
 use Rattle.catalogue_core.proofs.EachOf.{all_append, all_split}
 use Rattle.office_core.specs.declared.command.Command.{Command}
-use Rattle.office_core.specs.MixedRuns.{ToDo, ToTell, Replied, Answered}
+use Rattle.office_core.specs.MixedRuns.{ToDo, ToTell}
 use Rattle.office_core.specs.Rules.{state_after, step}
 use Rattle.office_core.specs.SoundOffice.{NamesTexts}
 use Rattle.office_core.specs.Soundness.{IsSound, NamesDays}
@@ -14,7 +14,7 @@ use Rattle.office_core.proofs.SoundDesk.{open_to_holders}
 use Rattle.office_core.proofs.StaysSound.{always_sound}
 use Rattle.office_core.proofs.Texts.{always_sound_office}
 use Rattle.http_desk.specs.Headline.{KeepsTheRules, IsOneRun, MakeVisits}
-use Rattle.http_desk.specs.Runs.{Visit, ByHttp, Directly, Happens, AllHappen, CallsNameDays, CallsNameTexts, AreVisits, Brings, AllBring}
+use Rattle.http_desk.specs.Runs.{Visit, ByHttp, Directly, Replied, Answered, Happens, AllHappen, CallsNameDays, CallsNameTexts, AreVisits, Brings, AllBring}
 use Rattle.http_desk.proofs.Meanings.{runs_the_machine}
 
 keeps_the_rules : (s : State) → IsSound s → KeepsTheRules s
@@ -104,7 +104,7 @@ module _ {M : Type 0} (represents : M → State → Type 0) (is_intact : M → T
         (read, written, consumed, appended, record { intact = intact; happens = through });
     apply = λ old new command reply intact step. record {
       intact = intact;
-      happens = λ i s is. let (shown, done, json) = step i s is in (_, shown, (ap Replied done, refl));
+      happens = λ i s is. let (shown, done, json) = step i s is in (_, shown, (λ j. Replied (done j) (json j), refl));
     };
     ask = λ old new query told intact answers. record {
       intact = intact;

@@ -8,6 +8,7 @@ use Rattle.office_core.specs.State.{State}
 use Rattle.office_core.specs.Secrecy.{AnswersAlike}
 use Rattle.office_core.specs.declared.query.Query.{Query}
 use Rattle.office_core.specs.declared.query.Query.TheVariants as query
+use Rattle.http_messages.specs.declared.body_form.Form.TheVariants as form
 use Rattle.http_messages.specs.Heads.{Request, is_head}
 use Rattle.http_messages.specs.Targets.{path_of}
 use Rattle.http_messages.specs.Routes.{Route, Asks, Does, TakesFile, TakesForm, plain, ending, or_else, after, plain_route, ending_route, route_of}
@@ -18,16 +19,17 @@ use Rattle.http_desk.specs.Laws.{IsPublicGet}
 
 -- ---- routes below /public
 
--- a question that the route asks is the public's
-abbrev IsOpen : Option Route → Type 0
+-- the route is the public's: one of its questions, or an order
+abbrev pub IsOpen : Option Route → Type 0
 IsOpen None = Unit {0}
 IsOpen (Some (Asks query.Fonds)) = Unit {0}
 IsOpen (Some (Asks (query.Aid u))) = Unit {0}
 IsOpen (Some (Asks (query.Page u))) = Unit {0}
 IsOpen (Some (Asks _)) = ⊥
-IsOpen (Some (Does asked)) = Unit {0}
-IsOpen (Some (TakesFile source)) = Unit {0}
-IsOpen (Some (TakesForm asked)) = Unit {0}
+IsOpen (Some (Does asked)) = ⊥
+IsOpen (Some (TakesFile source)) = ⊥
+IsOpen (Some (TakesForm form.Order)) = Unit {0}
+IsOpen (Some (TakesForm _)) = ⊥
 
 either_open : (a b : Option Route) → IsOpen a → IsOpen b → IsOpen (or_else a b)
 either_open None b x y = y
@@ -55,14 +57,14 @@ map_open asks (Some n) h = h n
 
 public_plain : (x : Bytes) → IsOpen (plain_route plain (codes "/public/" ++ x))
 public_plain x =
-    plain_open plain (codes "/public/" ++ x) (inr tt, (inr tt, (inr tt, (inl refl, (inr tt, (inr tt, (inr tt, (inr tt, (inr tt, (inr tt, (inr tt, (inr tt, (inr tt, (inr tt, (inr tt, (inr tt, (inr tt, (inr tt, (inr tt, tt)))))))))))))))))))
+    plain_open plain (codes "/public/" ++ x) (inl refl, (inl refl, (inl refl, (inl refl, (inl refl, (inl refl, (inl refl, (inl refl, (inl refl, (inl refl, (inl refl, (inl refl, (inl refl, (inl refl, (inl refl, (inl refl, (inl refl, (inr tt, (inr tt, tt)))))))))))))))))))
 
 public_ending : (x : Bytes) → IsOpen (ending_route ending (codes "/public/" ++ x))
 public_ending x =
     ending_open ending (codes "/public/" ++ x)
     (inl refl, (inl refl, (inl refl, (inl refl, (inl refl, (inr (λ y. map_open query.Aid _ (λ n. tt)), (inr (λ y. map_open query.Page _ (λ n. tt)), tt)))))))
 
-public_routes : (x : Bytes) → IsOpen (route_of (codes "/public/" ++ x))
+pub public_routes : (x : Bytes) → IsOpen (route_of (codes "/public/" ++ x))
 public_routes x = either_open (plain_route plain (codes "/public/" ++ x)) (ending_route ending (codes "/public/" ++ x)) (public_plain x) (public_ending x)
 
 -- ---- one message
@@ -84,8 +86,8 @@ get_alike s t request body (Some (Asks (query.Queue u))) same e o = absurd o
 get_alike s t request body (Some (Asks (query.RunSlip u))) same e o = absurd o
 get_alike s t request body (Some (Asks query.IssuedNow)) same e o = absurd o
 get_alike s t request body (Some (Asks (query.ReaderPermits u))) same e o = absurd o
-get_alike s t request body (Some (Does asked)) same e o = rw e (record { answers = refl; kept = refl; kept_too = refl })
-get_alike s t request body (Some (TakesFile source)) same e o = rw e (record { answers = refl; kept = refl; kept_too = refl })
+get_alike s t request body (Some (Does asked)) same e o = absurd o
+get_alike s t request body (Some (TakesFile source)) same e o = absurd o
 get_alike s t request body (Some (TakesForm asked)) same e o = rw e (record { answers = refl; kept = refl; kept_too = refl })
 
 pub message_alike : (s t : State) (m : Message) → AnswersAlike s t → IsPublicGet m → IsAlike s t (answered s m.request m.body) (answered t m.request m.body)

@@ -21,7 +21,7 @@ use Rattle.http_messages.specs.Answers.{Answer, error, answer_text, answered}
 use Rattle.http_desk.specs.Messages.{longest_head, HasHead, Message, Begins, Last, Nothing, HeadCut, BodyCut, Answers, Fails, Stands, MayFail, IsBlank, IsHeadCut}
 use Rattle.http_desk.specs.Session.{IsFront, Stops, IsClosing, closes, leave_if, refusal, message_text, state_after, last_text, state_after_last}
 use Rattle.http_desk.specs.Sending.{Sends}
-use Rattle.http_desk.specs.Talking.{Turn, Through, Exchange, AtEndIf, Refused, after_sending}
+use Rattle.http_desk.specs.Talking.{Turn, Through, Exchange, AtEndIf, Refused, Replies, after_sending}
 use Rattle.http_messages.proofs.Scans.{scan_take_more}
 
 -- ---- heads
@@ -142,8 +142,8 @@ module _ {M : Type 0} (represents : M → State → Type 0) (is_intact : M → T
         complete = omega (arith, length-take ((size + n) - size) (drop size items), length-drop size items);
       }
 
-  -- the office answered, and its answer was sent
-  pub acted_closing : (number : ℕ) (old new : M) (items : Bytes) (size n : ℕ) (request : Request) (told : Answer) (bare : Bool) (rest : Bytes) (a b : Option Bytes) (sent : Sent) (next : Next)
+  -- the same, where the answer closes
+  acted_closing : (number : ℕ) (old new : M) (items : Bytes) (size n : ℕ) (request : Request) (told : Answer) (bare : Bool) (rest : Bytes) (a b : Option Bytes) (sent : Sent) (next : Next)
       → HasHead items (take size items) (Accepted request) (drop size items) → size + n ≤ length items → n ≡ body_length request → rest ≡ drop (size + n) items
       → bare ≡ is_head request.method → (request.closes || nat_eq number 10000) ≡ true → next ≡ after_sending sent (Ends Closed)
       → Sends a b (answer_text bare true told) sent
@@ -166,7 +166,7 @@ module _ {M : Type 0} (represents : M → State → Type 0) (is_intact : M → T
             ),
       )
 
-  pub acted_open : (number : ℕ) (old new : M) (items : Bytes) (size n : ℕ) (request : Request) (told : Answer) (bare : Bool) (rest : Bytes) (a b : Option Bytes) (sent : Sent) (next : Next)
+  acted_open : (number : ℕ) (old new : M) (items : Bytes) (size n : ℕ) (request : Request) (told : Answer) (bare : Bool) (rest : Bytes) (a b : Option Bytes) (sent : Sent) (next : Next)
       → HasHead items (take size items) (Accepted request) (drop size items) → size + n ≤ length items → n ≡ body_length request → rest ≡ drop (size + n) items
       → bare ≡ is_head request.method → (request.closes || nat_eq number 10000) ≡ false → next ≡ after_sending sent Goes
       → Sends a b (answer_text bare false told) sent
@@ -188,6 +188,17 @@ module _ {M : Type 0} (represents : M → State → Type 0) (is_intact : M → T
                   (open_turn number s items (leave_if request.waits) (answer_text bare false told) written rest (state_after s message) message sent begins closing says refl is),
             ),
       )
+
+  -- the office answered, and its answer was sent
+  pub acted : (number : ℕ) (old new : M) (items : Bytes) (size n : ℕ) (request : Request) (told : Answer) (bare : Bool) (rest : Bytes) (a b : Option Bytes) (closing : Bool) (next : Next)
+      → HasHead items (take size items) (Accepted request) (drop size items) → size + n ≤ length items → n ≡ body_length request → rest ≡ drop (size + n) items
+      → bare ≡ is_head request.method → (request.closes || nat_eq number 10000) ≡ closing → Replies a b closing (answer_text bare closing told) next
+      → (is_intact new → (s : State) → represents old s → represents new (answered s request (body_at items size n)).1 × (told ≡ (answered s request (body_at items size n)).0))
+      → (written : Bytes) × Appends a b written × Through represents is_intact old new (λ s t. Turn number s items next (leave_if request.waits ++ written) t rest)
+  acted number old new items size n request told bare rest a b true next h within e r is_bare closes (sent, sends, ends) answers =
+      acted_closing number old new items size n request told bare rest a b sent next h within e r is_bare closes ends sends answers
+  acted number old new items size n request told bare rest a b false next h within e r is_bare closes (sent, sends, ends) answers =
+      acted_open number old new items size n request told bare rest a b sent next h within e r is_bare closes ends sends answers
 
   -- the leave to send a body was broken off
   pub leave_broken : (number : ℕ) (office : M) (items block more : Bytes) (request : Request) (a b c : Option Bytes) (sent : Sent) (next result : Next)

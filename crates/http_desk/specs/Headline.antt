@@ -8,7 +8,7 @@ use Rattle.office_core.specs.declared.machine.Reply.{Reply}
 use Rattle.office_core.specs.declared.query.Answer.{Answer}
 use Rattle.office_core.specs.declared.query.Query.{Query}
 use Rattle.office_core.specs.Json.{reply_text}
-use Rattle.office_core.specs.MixedRuns.{Asked, ToDo, ToTell, Replied, Answered}
+use Rattle.office_core.specs.MixedRuns.{Asked, ToDo, ToTell}
 use Rattle.office_core.specs.Queries.{answer}
 use Rattle.office_core.specs.Laws.{OutApart, IssuesTheFirst, OpenToHolders}
 use Rattle.office_core.specs.Rules as machine
@@ -17,7 +17,7 @@ use Rattle.office_core.specs.SoundOffice.{IsSoundOffice, NamesTexts}
 use Rattle.office_core.specs.Soundness.{IsSound, NamesDays}
 use Rattle.office_core.specs.State.{State}
 use Rattle.http_desk.specs.declared.session_end.Ended.{Ended}
-use Rattle.http_desk.specs.Runs.{HasCarriedOut, Visit, ByHttp, Directly, CallsNameDays, CallsNameTexts}
+use Rattle.http_desk.specs.Runs.{HasCarriedOut, Visit, ByHttp, Directly, Replied, Answered, CallsNameDays, CallsNameTexts}
 use Rattle.http_desk.specs.Runs.{AllHappen, AllBring, IsVisited, AreVisits}
 use Rattle.http_desk.specs.Session.{Session}
 use Rattle.http_desk.specs.Talking.{Talks}
@@ -41,7 +41,7 @@ pub record MakeVisits {M : Type 0} (represents : M → State → Type 0) (is_int
   pub apply : (old new : M) (command : Command) (reply : Reply) → (is_intact new → is_intact old)
       → (is_intact new → (s : State) → represents old s → represents new (machine.step s command).0
       × (reply.done ≡ (machine.step s command).1) × (reply.json ≡ reply_text (machine.step s command).1))
-      → IsVisited represents is_intact old new (Directly (ToDo command) (Some (Replied reply.done)))
+      → IsVisited represents is_intact old new (Directly (ToDo command) (Some (Replied reply.done reply.json)))
   pub ask : (old new : M) (query : Query) (told : Answer) → (is_intact new → is_intact old)
       → (is_intact new → (s : State) → represents old s → represents new s × (told ≡ answer s query))
       → IsVisited represents is_intact old new (Directly (ToTell query) (Some (Answered told)))

@@ -1,6 +1,7 @@
 pub mod Messages
 pub mod Session
 pub mod Laws
+pub mod Streams
 pub mod Sending
 pub mod Parts
 pub mod Quiet
@@ -8,6 +9,7 @@ pub mod Gathering
 pub mod Talking
 pub mod Runs
 pub mod Headline
+pub mod PublicSessions
 pub mod Worked
 pub mod WorkedSessions
 pub mod WorkedRuns

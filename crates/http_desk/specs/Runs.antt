@@ -3,7 +3,9 @@ use Rattle.std.specs.Prelude.{◌≡◌, ◌++◌, List, [], ◌∷◌, Option, 
 use Rattle.std.specs.List.{AllByRecursion}
 use Rattle.isad_core.specs.Texts.{Bytes}
 use Rattle.office_core.specs.declared.command.Command.{Command}
-use Rattle.office_core.specs.MixedRuns.{Asked, ToDo, ToTell, Told, next_state, told_of}
+use Rattle.office_core.specs.declared.query.Answer.{Answer as Told}
+use Rattle.office_core.specs.Json.{reply_text}
+use Rattle.office_core.specs.MixedRuns.{Asked, ToDo, ToTell, next_state}
 use Rattle.office_core.specs.Queries.{answer}
 use Rattle.office_core.specs.Rules as machine
 use Rattle.office_core.specs.SoundOffice.{NamesTexts}
@@ -87,15 +89,24 @@ pub record HasCarriedOut {s new : State} {input output : Bytes} {end : Ended}
 
 -- ---- sessions and calls, one after the other
 
+-- what a call is told
+pub data Heard : Type 0 where
+  Replied : machine.Reply → Bytes → Heard  -- the reply to a command, and its JSON
+  Answered : Told → Heard  -- the answer to a question
+
+abbrev pub heard_of : State → Asked → Heard
+heard_of s (ToDo command) = Replied (machine.step s command).1 (reply_text (machine.step s command).1)
+heard_of s (ToTell query) = Answered (answer s query)
+
 -- how an office is come to
 pub data Visit : Type 0 where
   ByHttp : (input output : Bytes) → Ended → Visit  -- by a peer, with these bytes
-  Directly : Asked → Option Told → Visit  -- by a call; it is told nothing where the office is busy
+  Directly : Asked → Option Heard → Visit  -- by a call; it is told nothing where the office is busy
 
 -- what comes of it
 abbrev pub Happens : State → Visit → State → Type 0
 Happens s (ByHttp input output end) new = Session s input output end new
-Happens s (Directly asked (Some told)) new = (told ≡ told_of s asked) × (new ≡ next_state s asked)
+Happens s (Directly asked (Some heard)) new = (heard ≡ heard_of s asked) × (new ≡ next_state s asked)
 Happens s (Directly asked None) new = new ≡ s
 
 -- of all of them, one after the other

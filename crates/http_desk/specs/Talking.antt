@@ -1,10 +1,10 @@
 -- What each part of a session's code says of one message's place.
-use Rattle.std.specs.Prelude.{◌≡◌, ℕ, ◌++◌, Bool, false, Option, IfSome}
+use Rattle.std.specs.Prelude.{◌≡◌, ℕ, ◌++◌, Bool, true, false, Option, IfSome}
 use Rattle.std.specs.Io.KnownBytes.{Consumes, Appends, IsAtEnd}
 use Rattle.isad_core.specs.Texts.{Bytes}
 use Rattle.office_core.specs.State.{State}
 use Rattle.http_desk.specs.declared.session_end.Ended.{Ended}
-use Rattle.http_desk.specs.declared.session_end.Ended.TheVariants.{End, Closed, Cut, WriteFault, Bound}
+use Rattle.http_desk.specs.declared.session_end.Ended.TheVariants.{End, Closed, Cut, ReadFault, WriteFault, Bound}
 use Rattle.http_desk.specs.declared.session_end.Next.{Next}
 use Rattle.http_desk.specs.declared.session_end.Next.TheVariants.{Goes, Ends}
 use Rattle.http_desk.specs.declared.output.Sent.{Sent}
@@ -58,16 +58,27 @@ after_sending All next = next
 after_sending Failed next = Ends WriteFault
 after_sending OutOfTurns next = Ends Bound
 
--- neither is the end of the input
+-- the writer had the last word: the input has not ended, and no read has failed
 abbrev pub IsNoEnd : Next → Type 0
 IsNoEnd (Ends End) = ⊥
 IsNoEnd (Ends Cut) = ⊥
+IsNoEnd (Ends ReadFault) = ⊥
 IsNoEnd _ = Unit {0}
 
 -- an answer that closes was sent
 abbrev pub Refused : Option Bytes → Option Bytes → Bool → Status → Next → Type 0
 Refused held held_after bare status next = (sent : Sent) × Sends held held_after (refusal bare (error status)) sent
     × (next ≡ after_sending sent (Ends Closed))
+
+-- what comes after an answer that was sent
+abbrev pub after_answer : Bool → Next
+after_answer true = Ends Closed
+after_answer false = Goes
+
+-- an answer was sent
+abbrev pub Replies : Option Bytes → Option Bytes → Bool → Bytes → Next → Type 0
+Replies held held_after closing text next = (sent : Sent) × Sends held held_after text sent
+    × (next ≡ after_sending sent (after_answer closing))
 
 -- the session of the whole input that a reader had
 abbrev pub TalksWhole : {M : Type 0} → (M → State → Type 0) → (M → Type 0) → Option Bytes → Option Bytes

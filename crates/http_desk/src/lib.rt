@@ -10,4 +10,5 @@ pub mod reply;
 pub mod responses;
 pub mod session;
 pub mod session_end;
+pub mod streams;
 pub mod worked;

@@ -1,10 +1,11 @@
 //! Gathers a head, or a body, in a buffer.
 ghost use Rattle.std.specs.Prelude.{◌≡◌, ◌+◌, ◌≤◌, ◌||◌, length, take, false};
-ghost use Rattle.http_desk.specs.Quiet.{QuietHead, QuietBody, head_failed, body_failed};
+ghost use Rattle.http_desk.specs.Quiet.{QuietHead, QuietBody, TakesTurns, head_failed, body_failed};
 ghost use Rattle.http_desk.specs.Gathering.{FindsHead, FindsBody, AtEndIfHead, AtEndIfBody, Reads};
 ghost use Rattle.http_messages.specs.Ending.{scan};
 
 use crate::input_buffer::{Filled, fill};
+use crate::streams::Source;
 use http_messages::head_scan::{HeadScanState, Scan, scan_on};
 use std::io::Read;
 
@@ -60,19 +61,14 @@ fn look(buffer: &[u8], seen: usize, place: HeadScanState) -> Scan
 }
 
 /// Reads until a whole head stands in the buffer.
-pub fn gather_head<R: Read>(
-    reader: &mut R,
-    buffer: &mut Vec<u8>,
-    turns: &mut u32,
-    failed: &mut bool,
-    interrupted: &mut bool,
-) -> FoundHead
-    ensures got { Reads (R.remaining reader.old) (R.remaining reader.new) buffer.old.items buffer.new.items }
+pub fn gather_head<R: Read>(reader: &mut Source<'_, R>, buffer: &mut Vec<u8>) -> FoundHead
+    ensures got { Reads reader.old.bytes reader.new.bytes buffer.old.items buffer.new.items }
     ensures found { FindsHead buffer.new.items result }
-    ensures at_end { AtEndIfHead (R.remaining reader.new) result }
-    ensures failed { failed.new ≡ (head_failed result || failed.old) }
-    ensures bound { interrupted.new ≡ false → (interrupted.old ≡ false)
-        × QuietHead result (turns.old + length buffer.old.items) (turns.new + length buffer.new.items) }
+    ensures at_end { AtEndIfHead reader.new.bytes result }
+    ensures failed { reader.new.failed ≡ (head_failed result || reader.old.failed) }
+    ensures bound { reader.new.interrupted ≡ false → (reader.old.interrupted ≡ false) × QuietHead result
+        (reader.old.turns + length buffer.old.items) (reader.new.turns + length buffer.new.items) }
+    ensures calls { TakesTurns reader.old reader.new }
 {
     let mut led = HeadScanState::Lead;
     let mut seen = 0;
@@ -85,7 +81,7 @@ pub fn gather_head<R: Read>(
                 }
                 led = place;
                 seen = buffer.len();
-                match fill(reader, buffer, turns, failed, interrupted) {
+                match fill(reader, buffer) {
                     Filled::More => {}
                     Filled::AtEnd => {
                         return match place {
@@ -104,22 +100,20 @@ pub fn gather_head<R: Read>(
 
 /// Reads until so many bytes stand in the buffer.
 pub fn gather_body<R: Read>(
-    reader: &mut R,
+    reader: &mut Source<'_, R>,
     buffer: &mut Vec<u8>,
     end: usize,
-    turns: &mut u32,
-    failed: &mut bool,
-    interrupted: &mut bool,
 ) -> FoundBody
-    ensures got { Reads (R.remaining reader.old) (R.remaining reader.new) buffer.old.items buffer.new.items }
+    ensures got { Reads reader.old.bytes reader.new.bytes buffer.old.items buffer.new.items }
     ensures found { FindsBody end buffer.new.items result }
-    ensures at_end { AtEndIfBody (R.remaining reader.new) result }
-    ensures failed { failed.new ≡ (body_failed result || failed.old) }
-    ensures bound { interrupted.new ≡ false → (interrupted.old ≡ false)
-        × QuietBody end result (turns.old + length buffer.old.items) }
+    ensures at_end { AtEndIfBody reader.new.bytes result }
+    ensures failed { reader.new.failed ≡ (body_failed result || reader.old.failed) }
+    ensures bound { reader.new.interrupted ≡ false → (reader.old.interrupted ≡ false)
+        × QuietBody end result (reader.old.turns + length buffer.old.items) }
+    ensures calls { TakesTurns reader.old reader.new }
 {
     while buffer.len() < end {
-        match fill(reader, buffer, turns, failed, interrupted) {
+        match fill(reader, buffer) {
             Filled::More => {}
             Filled::AtEnd => return FoundBody::Cut,
             Filled::Failed => return FoundBody::Failed,

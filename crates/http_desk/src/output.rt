@@ -1,12 +1,14 @@
 //! Writes whole answers, in few writes. Nothing here takes an allocator.
 ghost use Rattle.std.specs.Prelude.{◌≡◌, ◌≢◌, ◌+◌, ◌<◌, ◌≤◌, ◌||◌, ◌^◌, ℕ, List, [], ◌++◌, length, false};
-ghost use Rattle.http_desk.specs.Quiet.{QuietSend, send_failed};
+ghost use Rattle.http_desk.specs.Quiet.{QuietSend, TakesCalls, TakesTurns, send_failed};
 ghost use Rattle.std.specs.List.{flat_map};
 ghost use Rattle.std.specs.Io.KnownBytes.{Appends};
 ghost use Rattle.http_desk.specs.Session.{IsFront};
+ghost use Rattle.http_desk.specs.Streams.{more_writes};
 
+use crate::streams::{Sink, Undone};
 use arrayvec::ArrayVec;
-use std::io::{ErrorKind, Write};
+use std::io::Write;
 
 /// How a writing ended.
 #[derive(Clone, Copy, Debug, PartialEq, Eq, Drop)]
@@ -19,108 +21,85 @@ pub enum Sent {
     Bound,
 }
 
-/// Turns beyond one for each byte.
-const EXTRA_TURNS: u64 = 16;
-
 /// How many bytes of short pieces are gathered for one write.
 const LOT: usize = 2048;
 
 /// Writes the bytes, in as many turns as are left.
-fn send_piece<W: Write>(
-    writer: &mut W,
-    piece: &[u8],
-    turns: &mut u64,
-    failed: &mut bool,
-    interrupted: &mut bool,
-) -> Sent
-    ensures all { result ≡ Sent.All → Appends (W.contents writer.old) (W.contents writer.new) piece.now }
+fn send_piece<W: Write>(writer: &mut Sink<'_, W>, piece: &[u8]) -> Sent
+    ensures all { result ≡ Sent.All → Appends writer.old.bytes writer.new.bytes piece.now }
     ensures front { (written : List ℕ) × IsFront written piece.now
-        × Appends (W.contents writer.old) (W.contents writer.new) written }
-    ensures failed { failed.new ≡ (send_failed result || failed.old) }
-    ensures bound { interrupted.new ≡ false → (interrupted.old ≡ false)
-        × QuietSend result turns.old turns.new (length piece.now) }
+        × Appends writer.old.bytes writer.new.bytes written }
+    ensures failed { writer.new.failed ≡ (send_failed result || writer.old.failed) }
+    ensures bound { writer.new.interrupted ≡ false → (writer.old.interrupted ≡ false)
+        × QuietSend result writer.old.turns writer.new.turns (length piece.now) }
+    ensures calls { TakesTurns writer.old writer.new }
 {
     let mut rest = piece;
     while !rest.is_empty() {
-        if *turns == 0 {
+        if !writer.has_turn() {
             return Sent::Bound;
         }
-        *turns -= 1;
         match writer.write(rest) {
-            Ok(0) => {
-                *failed = true;
-                return Sent::Failed;
-            }
             Ok(n) => rest = &rest[n..],
-            Err(e) => {
-                if e.kind() != ErrorKind::Interrupted {
-                    *failed = true;
-                    return Sent::Failed;
-                }
-                *interrupted = true;
-            }
+            Err(Undone::Failed) => return Sent::Failed,
+            Err(Undone::Interrupted) => {}
         }
     }
     Sent::All
 }
 
 /// Flushes, in as many turns as are left.
-fn flush<W: Write>(writer: &mut W, turns: u64, failed: &mut bool, interrupted: &mut bool) -> Sent
-    ensures nothing { Appends (W.contents writer.old) (W.contents writer.new) [] }
-    ensures failed { failed.new ≡ (send_failed result || failed.old) }
-    ensures bound { interrupted.new ≡ false → (interrupted.old ≡ false) × (0 < turns → result ≢ Sent.Bound) }
+fn flush<W: Write>(writer: &mut Sink<'_, W>) -> Sent
+    ensures nothing { Appends writer.old.bytes writer.new.bytes [] }
+    ensures failed { writer.new.failed ≡ (send_failed result || writer.old.failed) }
+    ensures bound { writer.new.interrupted ≡ false
+        → (writer.old.interrupted ≡ false) × (0 < writer.old.turns → result ≢ Sent.Bound) }
+    ensures calls { TakesTurns writer.old writer.new }
 {
-    for _turn in 0..turns {
+    while writer.has_turn() {
         match writer.flush() {
             Ok(()) => return Sent::All,
-            Err(e) => {
-                if e.kind() != ErrorKind::Interrupted {
-                    *failed = true;
-                    return Sent::Failed;
-                }
-                *interrupted = true;
-            }
+            Err(Undone::Failed) => return Sent::Failed,
+            Err(Undone::Interrupted) => {}
         }
     }
     Sent::Bound
 }
 
-/// How many turns the pieces have: one for each byte, and some more.
-fn turns_of(pieces: &[&[u8]]) -> u64
-    requires { length (flat_map (λ p. p.now) pieces.now) + 16 < 2 ^ 64 }
-    ensures { result ≡ length (flat_map (λ p. p.now) pieces.now) + 16 }
+/// How many bytes the pieces have.
+fn length_of(pieces: &[&[u8]]) -> u64
+    requires { length (flat_map (λ p. p.now) pieces.now) < 2 ^ 64 }
+    ensures { result ≡ length (flat_map (λ p. p.now) pieces.now) }
 {
-    let mut turns = EXTRA_TURNS;
+    let mut length = 0;
     for piece in pieces {
-        turns += piece.len() as u64;
+        length += piece.len() as u64;
     }
-    turns
+    length
 }
 
 /// Gathers a piece. Where there is no room for it, what was gathered is written, and then the piece.
 fn gather_or_send<W: Write>(
-    writer: &mut W,
+    writer: &mut Sink<'_, W>,
     lot: &mut ArrayVec<u8, LOT>,
     piece: &[u8],
-    turns: &mut u64,
-    failed: &mut bool,
-    interrupted: &mut bool,
 ) -> Sent
     ensures all { result ≡ Sent.All → (written : List ℕ) × (lot.old.items ++ piece.now ≡ written ++ lot.new.items)
-        × Appends (W.contents writer.old) (W.contents writer.new) written
-        × (interrupted.new ≡ false → turns.old ≤ turns.new + length written) }
+        × Appends writer.old.bytes writer.new.bytes written
+        × (writer.new.interrupted ≡ false → writer.old.turns ≤ writer.new.turns + length written) }
     ensures front { (written : List ℕ) × IsFront written (lot.old.items ++ piece.now)
-        × Appends (W.contents writer.old) (W.contents writer.new) written }
-    ensures failed { failed.new ≡ (send_failed result || failed.old) }
-    ensures bound { interrupted.new ≡ false → (interrupted.old ≡ false)
-        × QuietSend result turns.old turns.new (length lot.old.items + length piece.now) }
+        × Appends writer.old.bytes writer.new.bytes written }
+    ensures failed { writer.new.failed ≡ (send_failed result || writer.old.failed) }
+    ensures bound { writer.new.interrupted ≡ false → (writer.old.interrupted ≡ false)
+        × QuietSend result writer.old.turns writer.new.turns (length lot.old.items + length piece.now) }
+    ensures calls { TakesTurns writer.old writer.new }
 {
     match lot.try_extend_from_slice(piece) {
         Ok(()) => Sent::All,
-        Err(_) => match send_piece(writer, lot.as_slice(), turns, failed, interrupted) {
+        Err(_) => match send_piece(writer, lot.as_slice()) {
             Sent::All => {
                 lot.clear();
-                send_piece(writer, piece, turns, failed, interrupted)
+                send_piece(writer, piece)
             }
             fault => fault,
         },
@@ -129,30 +108,26 @@ fn gather_or_send<W: Write>(
 
 /// Writes the pieces one after the other and flushes, in one turn for each byte and 16 more. Pieces that fit into a
 /// lot together are one write.
-pub fn send<W: Write>(
-    writer: &mut W,
-    pieces: &[&[u8]],
-    failed: &mut bool,
-    interrupted: &mut bool,
-) -> Sent
-    requires { length (flat_map (λ p. p.now) pieces.now) + 16 < 2 ^ 64 }
+pub fn send<W: Write>(writer: &mut Sink<'_, W>, pieces: &[&[u8]]) -> Sent
+    requires { length (flat_map (λ p. p.now) pieces.now) + more_writes < 2 ^ 64 }
     ensures all { result ≡ Sent.All
-        → Appends (W.contents writer.old) (W.contents writer.new) (flat_map (λ p. p.now) pieces.now) }
-    ensures failed { failed.new ≡ (send_failed result || failed.old) }
-    ensures bound { interrupted.new ≡ false → (interrupted.old ≡ false) × (result ≢ Sent.Bound) }
+        → Appends writer.old.bytes writer.new.bytes (flat_map (λ p. p.now) pieces.now) }
+    ensures failed { writer.new.failed ≡ (send_failed result || writer.old.failed) }
+    ensures bound { writer.new.interrupted ≡ false → (writer.old.interrupted ≡ false) × (result ≢ Sent.Bound) }
+    ensures calls { TakesCalls (length (flat_map (λ p. p.now) pieces.now) + more_writes) writer.old writer.new }
     ensures front { (written : List ℕ) × IsFront written (flat_map (λ p. p.now) pieces.now)
-        × Appends (W.contents writer.old) (W.contents writer.new) written }
+        × Appends writer.old.bytes writer.new.bytes written }
 {
-    let mut turns = turns_of(pieces);
+    writer.begin_text(length_of(pieces));
     let mut lot = ArrayVec::new();
     for piece in pieces {
-        match gather_or_send(writer, &mut lot, piece, &mut turns, failed, interrupted) {
+        match gather_or_send(writer, &mut lot, piece) {
             Sent::All => {}
             fault => return fault,
         }
     }
-    match send_piece(writer, lot.as_slice(), &mut turns, failed, interrupted) {
-        Sent::All => flush(writer, turns, failed, interrupted),
+    match send_piece(writer, lot.as_slice()) {
+        Sent::All => flush(writer),
         fault => fault,
     }
 }

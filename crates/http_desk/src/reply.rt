@@ -4,9 +4,11 @@ ghost use Rattle.http_messages.specs.Answers.{answer_text, continue_text};
 ghost use Rattle.http_messages.specs.Replies.{answer_in};
 ghost use Rattle.http_desk.specs.Sending.{Sends};
 ghost use Rattle.http_desk.specs.Parts.{parts_text};
-ghost use Rattle.http_desk.specs.Quiet.{send_failed};
+ghost use Rattle.http_desk.specs.Streams.{more_writes};
+ghost use Rattle.http_desk.specs.Quiet.{TakesCalls, send_failed};
 
 use crate::output::{Sent, send};
+use crate::streams::Sink;
 use http_messages::answers::{Answered, close_line, code_of, phrase, type_of, written_body};
 use itoa::Buffer;
 use std::io::Write;
@@ -24,16 +26,12 @@ struct Parts<'a> {
 }
 
 /// Writes an answer's parts, with what stands between them.
-fn send_parts<W: Write>(
-    writer: &mut W,
-    parts: Parts<'_>,
-    failed: &mut bool,
-    interrupted: &mut bool,
-) -> Sent
-    requires { length (parts_text parts) + 16 < 2 ^ 64 }
-    ensures failed { failed.new ≡ (send_failed result || failed.old) }
-    ensures bound { interrupted.new ≡ false → (interrupted.old ≡ false) × (result ≢ Sent.Bound) }
-    ensures sends { Sends (W.contents writer.old) (W.contents writer.new) (parts_text parts.entry) result }
+fn send_parts<W: Write>(writer: &mut Sink<'_, W>, parts: Parts<'_>) -> Sent
+    requires { length (parts_text parts) + more_writes < 2 ^ 64 }
+    ensures failed { writer.new.failed ≡ (send_failed result || writer.old.failed) }
+    ensures bound { writer.new.interrupted ≡ false → (writer.old.interrupted ≡ false) × (result ≢ Sent.Bound) }
+    ensures calls { TakesCalls (length (parts_text parts.entry) + more_writes) writer.old writer.new }
+    ensures sends { Sends writer.old.bytes writer.new.bytes (parts_text parts.entry) result }
 {
     send(
         writer,
@@ -52,23 +50,21 @@ fn send_parts<W: Write>(
             b"\r\n",
             parts.body,
         ],
-        failed,
-        interrupted,
     )
 }
 
 /// Writes an answer; to HEAD it has no body.
 pub fn send_answer<W: Write>(
-    writer: &mut W,
+    writer: &mut Sink<'_, W>,
     bare: bool,
     closing: bool,
     answer: &Answered,
-    failed: &mut bool,
-    interrupted: &mut bool,
 ) -> Sent
-    ensures failed { failed.new ≡ (send_failed result || failed.old) }
-    ensures bound { interrupted.new ≡ false → (interrupted.old ≡ false) × (result ≢ Sent.Bound) }
-    ensures sends { Sends (W.contents writer.old) (W.contents writer.new)
+    ensures failed { writer.new.failed ≡ (send_failed result || writer.old.failed) }
+    ensures bound { writer.new.interrupted ≡ false → (writer.old.interrupted ≡ false) × (result ≢ Sent.Bound) }
+    ensures calls { TakesCalls (length (answer_text bare closing (answer_in answer.now)) + more_writes)
+        writer.old writer.new }
+    ensures sends { Sends writer.old.bytes writer.new.bytes
         (answer_text bare closing (answer_in answer.now)) result }
 {
     let status = answer.status();
@@ -85,19 +81,15 @@ pub fn send_answer<W: Write>(
         close: close_line(closing),
         body: written_body(bare, answer),
     };
-    send_parts(writer, parts, failed, interrupted)
+    send_parts(writer, parts)
 }
 
 /// Writes that a body may come.
-pub fn send_continue<W: Write>(writer: &mut W, failed: &mut bool, interrupted: &mut bool) -> Sent
-    ensures failed { failed.new ≡ (send_failed result || failed.old) }
-    ensures bound { interrupted.new ≡ false → (interrupted.old ≡ false) × (result ≢ Sent.Bound) }
-    ensures sends { Sends (W.contents writer.old) (W.contents writer.new) continue_text result }
+pub fn send_continue<W: Write>(writer: &mut Sink<'_, W>) -> Sent
+    ensures failed { writer.new.failed ≡ (send_failed result || writer.old.failed) }
+    ensures bound { writer.new.interrupted ≡ false → (writer.old.interrupted ≡ false) × (result ≢ Sent.Bound) }
+    ensures calls { TakesCalls (length continue_text + more_writes) writer.old writer.new }
+    ensures sends { Sends writer.old.bytes writer.new.bytes continue_text result }
 {
-    send(
-        writer,
-        &[b"HTTP/1.1 100 Continue\r\n\r\n"],
-        failed,
-        interrupted,
-    )
+    send(writer, &[b"HTTP/1.1 100 Continue\r\n\r\n"])
 }

@@ -1,22 +1,30 @@
 //! Talks with one peer.
-ghost use Rattle.std.specs.Prelude.{◌≢◌, ◌||◌, ◌<◌, false, ◌≡◌, ◌≤◌, ◌+◌, ◌++◌, length, take, drop, unwrap_or, nat_eq};
+ghost use Rattle.std.specs.Prelude.{◌≢◌, ◌||◌, ◌<◌, false, ◌≡◌, ◌≤◌, ◌+◌, ◌*◌, ◌++◌};
+ghost use Rattle.std.specs.Prelude.{length, take, drop, unwrap_or, nat_eq};
 ghost use Rattle.std.specs.Io.KnownBytes.{Appends};
 ghost use Rattle.httparse.specs.Spans.{IsWithin, span_bytes};
 ghost use Rattle.isad_core.specs.Texts.{Bytes};
+ghost use Rattle.http_messages.specs.Answers.{answer_text};
 ghost use Rattle.http_messages.specs.Heads.{Accepted, is_head};
 ghost use Rattle.http_messages.specs.Heard.{request_in};
+ghost use Rattle.http_messages.specs.Replies.{answer_in};
+ghost use Rattle.http_desk.specs.Laws.{HasEnded};
 ghost use Rattle.http_desk.specs.Messages.{HasHead};
 ghost use Rattle.http_desk.specs.Sending.{Sends};
 ghost use Rattle.http_desk.specs.Session.{leave_if, most_answers};
-ghost use Rattle.http_desk.specs.Talking.{Turn, Through, Exchange, Talks, TalksWhole, AtEndIf, IsNoEnd, Refused, after_sending};
-ghost use Rattle.http_desk.specs.Quiet.{TellsReadFault, TellsWriteFault, NoBound, send_failed};
+ghost use Rattle.http_desk.specs.Streams.{most_reads};
+ghost use Rattle.http_desk.specs.Talking.{Turn, Through, Exchange, Talks, TalksWhole, AtEndIf, IsNoEnd};
+ghost use Rattle.http_desk.specs.Talking.{Refused, Replies, after_answer, after_sending};
+ghost use Rattle.http_desk.specs.Quiet.{IsQuiet, NoBound, NoWriteBound, TellsReadFault, TellsWriteFault};
+ghost use Rattle.http_desk.specs.Quiet.{TakesCalls, TakesTurns, send_failed};
 
 use crate::means::Means;
 use crate::message_input::{FoundBody, FoundHead, gather_body, gather_head};
 use crate::output::Sent;
 use crate::reply::{send_answer, send_continue};
 use crate::responses::respond;
-use crate::session_end::{Calls, Ended, Next};
+use crate::session_end::{Ended, Next};
+use crate::streams::{Sink, Source};
 use http_messages::answers::Answered;
 use http_messages::head_verdict::{Head, Judged, is_bare_method, judge};
 use http_messages::status::Status;
@@ -26,9 +34,6 @@ use std::io::{Read, Write};
 
 /// How many messages are answered.
 const ANSWERS: u32 = 10_000;
-
-/// How many reads a message may take: one for each byte of the longest, and one more.
-const READS: u32 = 8_404_993;
 
 /// What comes after a sending.
 fn after(sent: Sent, next: Next) -> Next
@@ -42,32 +47,42 @@ fn after(sent: Sent, next: Next) -> Next
 }
 
 /// Writes a fixed answer, and closes.
-fn refuse<W: Write>(writer: &mut W, bare: bool, status: Status, calls: &mut Calls) -> Next
-    ensures reads { TellsReadFault calls.old calls.new result }
-    ensures writes { TellsWriteFault calls.old calls.new result }
-    ensures turns { NoBound calls.old calls.new result }
-    ensures sent { Refused (W.contents writer.old) (W.contents writer.new) bare status result }
+fn refuse<W: Write>(writer: &mut Sink<'_, W>, bare: bool, status: Status) -> Next
+    ensures sent { Refused writer.old.bytes writer.new.bytes bare status result }
+    ensures writes { TellsWriteFault writer.old writer.new result }
+    ensures turns { NoWriteBound writer.old writer.new result }
+    ensures same { writer.new.name ≡ writer.old.name }
 {
-    let sent = send_answer(
-        writer,
-        bare,
-        true,
-        &Answered::Error(status),
-        &mut calls.write_failed,
-        &mut calls.interrupted,
-    );
+    let sent = send_answer(writer, bare, true, &Answered::Error(status));
     after(sent, Next::Ends(Ended::Closed))
 }
 
+/// Writes the office's answer, all of it, and says what comes then. It is passed no allocator, so that nothing takes
+/// memory before the last byte.
+fn reply<W: Write>(writer: &mut Sink<'_, W>, bare: bool, closing: bool, answer: &Answered) -> Next
+    ensures sent { Replies writer.old.bytes writer.new.bytes closing
+        (answer_text bare closing (answer_in answer.now)) result }
+    ensures writes { TellsWriteFault writer.old writer.new result }
+    ensures turns { NoWriteBound writer.old writer.new result }
+    ensures same { writer.new.name ≡ writer.old.name }
+{
+    let sent = send_answer(writer, bare, closing, answer);
+    if closing {
+        after(sent, Next::Ends(Ended::Closed))
+    } else {
+        after(sent, Next::Goes)
+    }
+}
+
 /// Gives leave to send a body, where the head waits for it.
-fn give_leave<W: Write>(writer: &mut W, head: Head, calls: &mut Calls) -> Sent
-    ensures reads { calls.new.read_failed ≡ calls.old.read_failed }
-    ensures writes { calls.new.write_failed ≡ (send_failed result || calls.old.write_failed) }
-    ensures turns { calls.new.interrupted ≡ false → (calls.old.interrupted ≡ false) × (result ≢ Sent.Bound) }
-    ensures sends { Sends (W.contents writer.old) (W.contents writer.new) (leave_if head.waits) result }
+fn give_leave<W: Write>(writer: &mut Sink<'_, W>, head: Head) -> Sent
+    ensures writes { writer.new.failed ≡ (send_failed result || writer.old.failed) }
+    ensures turns { writer.new.interrupted ≡ false → (writer.old.interrupted ≡ false) × (result ≢ Sent.Bound) }
+    ensures same { writer.new.name ≡ writer.old.name }
+    ensures sends { Sends writer.old.bytes writer.new.bytes (leave_if head.waits) result }
 {
     if head.waits {
-        send_continue(writer, &mut calls.write_failed, &mut calls.interrupted)
+        send_continue(writer)
     } else {
         Sent::All
     }
@@ -111,48 +126,36 @@ fn remove_front(buffer: &mut Vec<u8>, n: usize)
 /// Has a whole message answered.
 fn act<W: Write, M: Machine>(
     means: &Means,
-    writer: &mut W,
+    writer: &mut Sink<'_, W>,
     office: &mut M,
     buffer: &mut Vec<u8>,
     size: usize,
     head: Head,
     number: u32,
-    calls: &mut Calls,
 ) -> Next
     requires whole { size + unwrap_or head.length 0 ≤ length buffer.old.items }
     requires method { IsWithin (length (take size buffer.old.items)) head.method }
     requires target { IsWithin (length (take size buffer.old.items)) head.target }
     requires accepted { HasHead buffer.old.items (take size buffer.old.items)
         (Accepted (request_in (take size buffer.old.items) head)) (drop size buffer.old.items) }
-    ensures turn { (written : Bytes) × Appends (W.contents writer.old) (W.contents writer.new) written
+    ensures turn { (written : Bytes) × Appends writer.old.bytes writer.new.bytes written
         × Through M.represents M.is_intact office.old office.new (λ s t.
         Turn number s buffer.old.items result (leave_if head.waits ++ written) t buffer.new.items) }
     ensures intact { M.is_intact office.new → M.is_intact office.old }
     ensures no_end { IsNoEnd result }
-    ensures reads { TellsReadFault calls.old calls.new result }
-    ensures writes { TellsWriteFault calls.old calls.new result }
-    ensures turns { NoBound calls.old calls.new result }
+    ensures writes { TellsWriteFault writer.old writer.new result }
+    ensures turns { NoWriteBound writer.old writer.new result }
+    ensures same { writer.new.name ≡ writer.old.name }
 {
     let end = size + body_len(head);
     let closing = is_closing(head, number);
     let bare = is_bare(&buffer[..size], head);
     match respond(means, office, &buffer[..size], head, &buffer[size..end]) {
-        Err(_busy) => refuse(writer, false, Status::Busy, calls),
+        Err(_busy) => refuse(writer, false, Status::Busy),
         Ok(answer) => {
-            let sent = send_answer(
-                writer,
-                bare,
-                closing,
-                &answer,
-                &mut calls.write_failed,
-                &mut calls.interrupted,
-            );
+            let next = reply(writer, bare, closing, &answer);
             remove_front(buffer, end);
-            if closing {
-                after(sent, Next::Ends(Ended::Closed))
-            } else {
-                after(sent, Next::Goes)
-            }
+            next
         }
     }
 }
@@ -160,113 +163,101 @@ fn act<W: Write, M: Machine>(
 /// Receives the body of an accepted head, and has the message answered.
 fn receive<R: Read, W: Write, M: Machine>(
     means: &Means,
-    reader: &mut R,
-    writer: &mut W,
+    reader: &mut Source<'_, R>,
+    writer: &mut Sink<'_, W>,
     office: &mut M,
     buffer: &mut Vec<u8>,
     size: usize,
     head: Head,
     number: u32,
-    turns: &mut u32,
-    calls: &mut Calls,
 ) -> Next
     requires within { size ≤ length buffer.old.items }
-    requires turns { calls.old.interrupted ≡ false
-        → size + unwrap_or head.length 0 < turns.old + length buffer.old.items }
+    requires turns { reader.old.interrupted ≡ false
+        → size + unwrap_or head.length 0 < reader.old.turns + length buffer.old.items }
     requires method { IsWithin (length (take size buffer.old.items)) head.method }
     requires target { IsWithin (length (take size buffer.old.items)) head.target }
     requires accepted { HasHead buffer.old.items (take size buffer.old.items)
         (Accepted (request_in (take size buffer.old.items) head)) (drop size buffer.old.items) }
-    ensures turn { Exchange M.represents M.is_intact number (R.remaining reader.old) (R.remaining reader.new)
-        (W.contents writer.old) (W.contents writer.new) office.old buffer.old.items result office.new buffer.new.items }
+    ensures turn { Exchange M.represents M.is_intact number reader.old.bytes reader.new.bytes
+        writer.old.bytes writer.new.bytes office.old buffer.old.items result office.new buffer.new.items }
     ensures intact { M.is_intact office.new → M.is_intact office.old }
-    ensures at_end { AtEndIf (R.remaining reader.new) result }
-    ensures reads { TellsReadFault calls.old calls.new result }
-    ensures writes { TellsWriteFault calls.old calls.new result }
-    ensures turns { NoBound calls.old calls.new result }
+    ensures at_end { AtEndIf reader.new.bytes result }
+    ensures reads { TellsReadFault reader.old reader.new result }
+    ensures writes { TellsWriteFault writer.old writer.new result }
+    ensures turns { NoBound reader.old reader.new writer.old writer.new result }
+    ensures calls { TakesTurns reader.old reader.new }
+    ensures same { writer.new.name ≡ writer.old.name }
 {
-    match give_leave(writer, head, calls) {
+    match give_leave(writer, head) {
         Sent::All => {}
         fault => return after(fault, Next::Ends(Ended::Closed)),
     }
     let end = size.saturating_add(body_len(head));
-    match gather_body(
-        reader,
-        buffer,
-        end,
-        turns,
-        &mut calls.read_failed,
-        &mut calls.interrupted,
-    ) {
-        FoundBody::Whole => act(means, writer, office, buffer, size, head, number, calls),
+    match gather_body(reader, buffer, end) {
+        FoundBody::Whole => act(means, writer, office, buffer, size, head, number),
         FoundBody::Cut => Next::Ends(Ended::Cut),
         FoundBody::Failed => Next::Ends(Ended::ReadFault),
         FoundBody::Bound => Next::Ends(Ended::Bound),
-        FoundBody::NoMemory => refuse(writer, false, Status::Busy, calls),
+        FoundBody::NoMemory => refuse(writer, false, Status::Busy),
     }
 }
 
 /// One message's place.
 fn exchange<R: Read, W: Write, M: Machine>(
     means: &Means,
-    reader: &mut R,
-    writer: &mut W,
+    reader: &mut Source<'_, R>,
+    writer: &mut Sink<'_, W>,
     office: &mut M,
     buffer: &mut Vec<u8>,
     number: u32,
-    calls: &mut Calls,
 ) -> Next
-    ensures turn { Exchange M.represents M.is_intact number (R.remaining reader.old) (R.remaining reader.new)
-        (W.contents writer.old) (W.contents writer.new) office.old buffer.old.items result office.new buffer.new.items }
+    ensures turn { Exchange M.represents M.is_intact number reader.old.bytes reader.new.bytes
+        writer.old.bytes writer.new.bytes office.old buffer.old.items result office.new buffer.new.items }
     ensures intact { M.is_intact office.new → M.is_intact office.old }
-    ensures at_end { AtEndIf (R.remaining reader.new) result }
-    ensures reads { TellsReadFault calls.old calls.new result }
-    ensures writes { TellsWriteFault calls.old calls.new result }
-    ensures turns { NoBound calls.old calls.new result }
+    ensures at_end { AtEndIf reader.new.bytes result }
+    ensures reads { TellsReadFault reader.old reader.new result }
+    ensures writes { TellsWriteFault writer.old writer.new result }
+    ensures turns { NoBound reader.old reader.new writer.old writer.new result }
+    ensures calls { TakesCalls most_reads reader.old reader.new }
+    ensures same { writer.new.name ≡ writer.old.name }
 {
-    let mut turns = READS;
-    match gather_head(
-        reader,
-        buffer,
-        &mut turns,
-        &mut calls.read_failed,
-        &mut calls.interrupted,
-    ) {
+    reader.begin_message();
+    match gather_head(reader, buffer) {
         FoundHead::Whole(size) => match judge(&buffer[..size]) {
-            Judged::Refused(status, bare) => refuse(writer, bare, status, calls),
-            Judged::Accepted(head) => receive(
-                means, reader, writer, office, buffer, size, head, number, &mut turns, calls,
-            ),
+            Judged::Refused(status, bare) => refuse(writer, bare, status),
+            Judged::Accepted(head) => {
+                receive(means, reader, writer, office, buffer, size, head, number)
+            }
         },
-        FoundHead::TooLong => refuse(writer, false, Status::BadRequest, calls),
+        FoundHead::TooLong => refuse(writer, false, Status::BadRequest),
         FoundHead::Blank => Next::Ends(Ended::End),
         FoundHead::Cut => Next::Ends(Ended::Cut),
         FoundHead::Failed => Next::Ends(Ended::ReadFault),
         FoundHead::Bound => Next::Ends(Ended::Bound),
-        FoundHead::NoMemory => refuse(writer, false, Status::Busy, calls),
+        FoundHead::NoMemory => refuse(writer, false, Status::Busy),
     }
 }
 
 /// Answers the requests of one peer, one after the other.
 fn talk_with<R: Read, W: Write, M: Machine>(
     means: &Means,
-    reader: &mut R,
-    writer: &mut W,
+    reader: &mut Source<'_, R>,
+    writer: &mut Sink<'_, W>,
     office: &mut M,
-    calls: &mut Calls,
 ) -> Ended
-    ensures session { Talks M.represents M.is_intact (R.remaining reader.old) (R.remaining reader.new)
-        (W.contents writer.old) (W.contents writer.new) office.old result office.new }
+    ensures session { Talks M.represents M.is_intact reader.old.bytes reader.new.bytes
+        writer.old.bytes writer.new.bytes office.old result office.new }
     ensures intact { M.is_intact office.new → M.is_intact office.old }
-    ensures at_end { AtEndIf (R.remaining reader.new) (Next.Ends result) }
-    // Each fault comes exactly where such a call has failed, and a bound only where one was interrupted.
-    ensures reads { TellsReadFault calls.old calls.new (Next.Ends result) }
-    ensures writes { TellsWriteFault calls.old calls.new (Next.Ends result) }
-    ensures turns { calls.new.interrupted ≡ false → result ≢ Ended.Bound }
+    ensures at_end { AtEndIf reader.new.bytes (Next.Ends result) }
+    ensures read_fault { TellsReadFault reader.old reader.new (Next.Ends result) }
+    ensures write_fault { TellsWriteFault writer.old writer.new (Next.Ends result) }
+    ensures bound { reader.new.interrupted ≡ false → writer.new.interrupted ≡ false → result ≢ Ended.Bound }
+    ensures calls { TakesCalls (most_answers * most_reads) reader.old reader.new }
+    ensures same { writer.new.name ≡ writer.old.name }
 {
     let mut buffer = Vec::new(means.alloc);
     for number in 1..10_001u32 {
-        match exchange(means, reader, writer, office, &mut buffer, number, calls) {
+        match exchange(means, reader, writer, office, &mut buffer, number) {
             Next::Goes => {}
             Next::Ends(ended) => return ended,
         }
@@ -275,51 +266,33 @@ fn talk_with<R: Read, W: Write, M: Machine>(
 }
 
 /// Answers the requests of one peer, one after the other. What came is a session's input, and what went its output.
-/// It says whether a read or a write has failed, and whether one was interrupted.
-pub fn talk_watched<R: Read, W: Write, M: Machine>(
+/// The reader and the writer tell the caller how their calls went.
+pub fn talk<R: Read, W: Write, M: Machine>(
     alloc: Global,
-    reader: &mut R,
-    writer: &mut W,
+    reader: &mut Source<'_, R>,
+    writer: &mut Sink<'_, W>,
     office: &mut M,
-    calls: &mut Calls,
 ) -> Ended
-    ensures session { Talks M.represents M.is_intact (R.remaining reader.old) (R.remaining reader.new)
-        (W.contents writer.old) (W.contents writer.new) office.old result office.new }
+    ensures session { Talks M.represents M.is_intact reader.old.bytes reader.new.bytes
+        writer.old.bytes writer.new.bytes office.old result office.new }
+    // Where the reader tells its bytes, it is a session of all of them.
+    ensures whole { TalksWhole M.represents M.is_intact reader.old.bytes
+        writer.old.bytes writer.new.bytes office.old result office.new }
     ensures intact { M.is_intact office.new → M.is_intact office.old }
-    ensures at_end { AtEndIf (R.remaining reader.new) (Next.Ends result) }
+    ensures at_end { AtEndIf reader.new.bytes (Next.Ends result) }
     // Each fault comes exactly where such a call has failed, and a bound only where one was interrupted.
-    ensures reads { TellsReadFault calls.old calls.new (Next.Ends result) }
-    ensures writes { TellsWriteFault calls.old calls.new (Next.Ends result) }
-    ensures turns { calls.new.interrupted ≡ false → result ≢ Ended.Bound }
+    ensures read_fault { TellsReadFault reader.old reader.new (Next.Ends result) }
+    ensures write_fault { TellsWriteFault writer.old writer.new (Next.Ends result) }
+    ensures bound { reader.new.interrupted ≡ false → writer.new.interrupted ≡ false → result ≢ Ended.Bound }
+    ensures quiet { IsQuiet reader.new → IsQuiet writer.new → HasEnded result }
+    ensures calls { TakesCalls (most_answers * most_reads) reader.old reader.new }
+    ensures same { writer.new.name ≡ writer.old.name }
 {
     match Means::new(alloc) {
-        Ok(means) => talk_with(&means, reader, writer, office, calls),
-        Err(_) => match refuse(writer, false, Status::Busy, calls) {
+        Ok(means) => talk_with(&means, reader, writer, office),
+        Err(_) => match refuse(writer, false, Status::Busy) {
             Next::Ends(ended) => ended,
             Next::Goes => unreachable!(),
         },
     }
-}
-
-/// The same, where nobody asks how the calls went.
-pub fn talk<R: Read, W: Write, M: Machine>(
-    alloc: Global,
-    reader: &mut R,
-    writer: &mut W,
-    office: &mut M,
-) -> Ended
-    ensures session { Talks M.represents M.is_intact (R.remaining reader.old) (R.remaining reader.new)
-        (W.contents writer.old) (W.contents writer.new) office.old result office.new }
-    // Where the reader tells its bytes, it is a session of all of them.
-    ensures whole { TalksWhole M.represents M.is_intact (R.remaining reader.old)
-        (W.contents writer.old) (W.contents writer.new) office.old result office.new }
-    ensures intact { M.is_intact office.new → M.is_intact office.old }
-    ensures at_end { AtEndIf (R.remaining reader.new) (Next.Ends result) }
-{
-    let mut calls = Calls {
-        read_failed: false,
-        write_failed: false,
-        interrupted: false,
-    };
-    talk_watched(alloc, reader, writer, office, &mut calls)
 }

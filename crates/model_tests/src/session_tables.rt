@@ -1,8 +1,7 @@
 //! Sessions by tables: heads at their limits, lengths of bodies, ten messages that end anywhere, every command fifty
 //! times, refused memory.
 
-use crate::streams::{Counter, Fixed, Narrow, Pieces, Tally, Then};
-use http_desk::session::talk;
+use crate::streams::{Counter, Fixed, Narrow, Pieces, Tally, Then, talk_over};
 use http_desk::session_end::Ended;
 use std::alloc::{AllocError, Global};
 use std::process::Abort;
@@ -44,8 +43,8 @@ fn says(rt: &impl Abort, alloc: Global, input: &[u8], output: &[u8], end: Ended)
     let mut desk = Counter { tickets: 0 };
     let mut reader = Pieces::new(input, 1000, Then::Ends);
     let mut writer = Narrow::new(alloc, 1_000_000, 1000, Then::Fails);
-    let ended = talk(alloc, &mut reader, &mut writer, &mut desk);
-    assert_eq!(rt; ended, end);
+    let talked = talk_over(alloc, &mut reader, &mut writer, &mut desk);
+    assert_eq!(rt; talked.ended, end);
     assert!(rt; writer.held.as_slice() == output, "{}", input.len());
 }
 
@@ -386,13 +385,13 @@ fn ten_cut(
         return Ok(());
     };
     let mut reader = Pieces::new(front, piece, then);
-    let ended = talk(alloc, &mut reader, &mut writer, &mut desk);
+    let talked = talk_over(alloc, &mut reader, &mut writer, &mut desk);
     let (output, end) = expected(alloc, size)?;
     assert!(rt; writer.held == output, "{size}");
     match then {
-        Then::Ends => assert_eq!(rt; ended, end),
-        Then::Fails => assert_eq!(rt; ended, Ended::ReadFault),
-        Then::Waits => assert_eq!(rt; ended, Ended::Bound),
+        Then::Ends => assert_eq!(rt; talked.ended, end),
+        Then::Fails => assert_eq!(rt; talked.ended, Ended::ReadFault),
+        Then::Waits => assert_eq!(rt; talked.ended, Ended::Bound),
     }
     Ok(())
 }
@@ -444,8 +443,8 @@ fn fifty_rounds(rt: HostRuntime) -> Result<(), Fail> {
     let mut desk = Tally { counts: [0; 18] };
     let mut reader = Pieces::new(&input, 1000, Then::Ends);
     let mut writer = Narrow::new(rt.alloc(), 1_000_000, 1000, Then::Fails);
-    let ended = talk(rt.alloc(), &mut reader, &mut writer, &mut desk);
-    assert_eq!(rt; ended, Ended::End);
+    let talked = talk_over(rt.alloc(), &mut reader, &mut writer, &mut desk);
+    assert_eq!(rt; talked.ended, Ended::End);
     assert_eq!(rt; writer.flushes, 900);
     assert_eq!(rt; writer.held.len(), 74700);
     assert!(rt; desk.counts == [50; 18]);
@@ -461,15 +460,15 @@ fn refused_memory(rt: HostRuntime) -> Result<(), Fail> {
         bytes: [0; 1024],
         len: 0,
     };
-    let ended = talk(rt.alloc(), &mut reader, &mut writer, &mut desk);
+    let talked = talk_over(rt.alloc(), &mut reader, &mut writer, &mut desk);
     let written = &writer.bytes[..writer.len.min(1024)];
     let first = written.strip_prefix(DONE);
     let rest = first.unwrap_or(written);
     assert_eq!(rt; first.is_some(), desk.tickets == 1);
-    match ended {
+    match talked.ended {
         Ended::End => assert!(rt; first.is_some() && rest == FONDS),
         _ => {
-            assert_eq!(rt; ended, Ended::Closed);
+            assert_eq!(rt; talked.ended, Ended::Closed);
             assert!(rt; rest == BUSY);
         }
     }
@@ -482,8 +481,8 @@ fn streams_of_std(rt: HostRuntime) -> Result<(), Fail> {
     let mut desk = Counter { tickets: 0 };
     let mut input = TWO_REQUESTS;
     let mut output = Vec::new(rt.alloc());
-    let ended = talk(rt.alloc(), &mut &mut input, &mut &mut output, &mut desk);
-    assert_eq!(rt; ended, Ended::End);
+    let talked = talk_over(rt.alloc(), &mut &mut input, &mut &mut output, &mut desk);
+    assert_eq!(rt; talked.ended, Ended::End);
     assert!(rt; output.starts_with(DONE));
     assert!(rt; output.ends_with(FONDS));
     assert_eq!(rt; desk.tickets, 1);

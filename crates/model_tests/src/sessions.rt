@@ -1,8 +1,9 @@
 //! Sessions over readers and writers that give and take in pieces, fail, or are interrupted.
 
-use crate::streams::{Again, Counter, Halves, Long, Narrow, Pieces, Telling, Then, Waiting};
-use http_desk::session::{talk, talk_watched};
-use http_desk::session_end::{Calls, Ended};
+use crate::streams::{
+    Again, Counter, Halves, Long, Narrow, Pieces, Telling, Then, Waiting, talk_over,
+};
+use http_desk::session_end::Ended;
 use std::alloc::Global;
 use std::cell::Cell;
 use std::process::Abort;
@@ -26,14 +27,6 @@ const ANN: &[u8] = b"{\"name\":\"Ann\",\"until\":\"2024-12-31\"}";
 
 const LEAVE: &[u8] = b"HTTP/1.1 100 Continue\r\n\r\n";
 
-fn unseen() -> Calls {
-    Calls {
-        read_failed: false,
-        write_failed: false,
-        interrupted: false,
-    }
-}
-
 // However the input comes in pieces, also where each read is first interrupted.
 #[test]
 fn two_requests(rt: HostRuntime) -> Result<(), Fail> {
@@ -43,14 +36,13 @@ fn two_requests(rt: HostRuntime) -> Result<(), Fail> {
             let mut reader = Pieces::new(TWO, piece, Then::Ends);
             reader.shy = shy;
             let mut writer = Narrow::new(rt.alloc(), 1000, 7, Then::Fails);
-            let mut calls = unseen();
-            let ended = talk_watched(rt.alloc(), &mut reader, &mut writer, &mut desk, &mut calls);
-            assert_eq!(rt; ended, Ended::End);
+            let talked = talk_over(rt.alloc(), &mut reader, &mut writer, &mut desk);
+            assert_eq!(rt; talked.ended, Ended::End);
             assert_eq!(rt; writer.held.len(), 240);
             assert!(rt; writer.held.starts_with(FONDS));
             assert!(rt; writer.held.ends_with(FONDS));
-            assert_eq!(rt; calls.interrupted, shy);
-            assert!(rt; !calls.read_failed);
+            assert_eq!(rt; talked.interrupted, shy);
+            assert!(rt; !talked.read_failed);
         }
     }
     Ok(())
@@ -64,11 +56,10 @@ fn a_reader_that_fails(rt: HostRuntime) -> Result<(), Fail> {
             let mut desk = Counter { tickets: 0 };
             let mut reader = Pieces::new(&TWO[..n], 5, Then::Fails);
             let mut writer = Narrow::new(rt.alloc(), 1000, 7, Then::Fails);
-            let mut calls = unseen();
-            let ended = talk_watched(rt.alloc(), &mut reader, &mut writer, &mut desk, &mut calls);
-            assert_eq!(rt; ended, Ended::ReadFault);
-            assert!(rt; calls.read_failed);
-            assert!(rt; !calls.write_failed);
+            let talked = talk_over(rt.alloc(), &mut reader, &mut writer, &mut desk);
+            assert_eq!(rt; talked.ended, Ended::ReadFault);
+            assert!(rt; talked.read_failed);
+            assert!(rt; !talked.write_failed);
             let answers = if n < 39 {
                 0
             } else if n < 78 {
@@ -90,12 +81,11 @@ fn a_narrow_writer(rt: HostRuntime) -> Result<(), Fail> {
             let mut desk = Counter { tickets: 0 };
             let mut reader = Pieces::new(TWO, 1000, Then::Ends);
             let mut writer = Narrow::new(rt.alloc(), room, 7, then);
-            let mut calls = unseen();
-            let ended = talk_watched(rt.alloc(), &mut reader, &mut writer, &mut desk, &mut calls);
-            assert_eq!(rt; ended, Ended::WriteFault);
+            let talked = talk_over(rt.alloc(), &mut reader, &mut writer, &mut desk);
+            assert_eq!(rt; talked.ended, Ended::WriteFault);
             assert_eq!(rt; writer.held.len(), room);
-            assert!(rt; calls.write_failed);
-            assert!(rt; !calls.read_failed);
+            assert!(rt; talked.write_failed);
+            assert!(rt; !talked.read_failed);
         }
     }
     Ok(())
@@ -107,8 +97,8 @@ fn a_message_after_a_fault(rt: HostRuntime) -> Result<(), Fail> {
     let mut desk = Counter { tickets: 0 };
     let mut reader = Again { bytes: REGISTER };
     let mut writer = Narrow::new(rt.alloc(), 0, 7, Then::Fails);
-    let ended = talk(rt.alloc(), &mut reader, &mut writer, &mut desk);
-    assert_eq!(rt; ended, Ended::WriteFault);
+    let talked = talk_over(rt.alloc(), &mut reader, &mut writer, &mut desk);
+    assert_eq!(rt; talked.ended, Ended::WriteFault);
     assert_eq!(rt; desk.tickets, 1);
     Ok(())
 }
@@ -119,15 +109,18 @@ fn calls_without_end(rt: HostRuntime) -> Result<(), Fail> {
     let mut desk = Counter { tickets: 0 };
     let mut reader = Pieces::new(b"", 1, Then::Waits);
     let mut writer = Narrow::new(rt.alloc(), 1000, 7, Then::Fails);
-    let ended = talk(rt.alloc(), &mut reader, &mut writer, &mut desk);
-    assert_eq!(rt; ended, Ended::Bound);
+    let talked = talk_over(rt.alloc(), &mut reader, &mut writer, &mut desk);
+    assert_eq!(rt; talked.ended, Ended::Bound);
     assert_eq!(rt; reader.reads, 8_404_993);
+    assert_eq!(rt; talked.reads, 8_404_993);
+    assert!(rt; talked.interrupted);
     for room in [0usize, 100] {
         let mut reader = Pieces::new(ONE, 1000, Then::Ends);
         let mut writer = Narrow::new(rt.alloc(), room, 1, Then::Waits);
-        let ended = talk(rt.alloc(), &mut reader, &mut writer, &mut desk);
-        assert_eq!(rt; ended, Ended::Bound);
+        let talked = talk_over(rt.alloc(), &mut reader, &mut writer, &mut desk);
+        assert_eq!(rt; talked.ended, Ended::Bound);
         assert_eq!(rt; writer.calls, 136);
+        assert_eq!(rt; talked.writes, 136);
         assert_eq!(rt; writer.held.len(), room);
     }
     Ok(())
@@ -152,14 +145,13 @@ fn leave_before_the_body(rt: HostRuntime) -> Result<(), Fail> {
             shy,
             writes: 0,
         };
-        let mut calls = unseen();
-        let ended = talk_watched(rt.alloc(), &mut reader, &mut writer, &mut desk, &mut calls);
-        assert_eq!(rt; ended, Ended::End);
+        let talked = talk_over(rt.alloc(), &mut reader, &mut writer, &mut desk);
+        assert_eq!(rt; talked.ended, Ended::End);
         assert!(rt; !reader.early);
         assert!(rt; writer.held.starts_with(LEAVE));
         assert!(rt; writer.held.ends_with(b"\r\n\r\n{\"ticket\":1}"));
         assert_eq!(rt; flushed.get(), writer.held.len());
-        assert_eq!(rt; calls.interrupted, shy > 0);
+        assert_eq!(rt; talked.interrupted, shy > 0);
         assert_eq!(rt; writer.writes, 2);
     }
     Ok(())
@@ -173,8 +165,8 @@ fn leave_without_end(rt: HostRuntime) -> Result<(), Fail> {
         let mut reader = Pieces::new(WAITS, 1000, Then::Ends);
         let mut writer = Narrow::new(rt.alloc(), room, 1, Then::Waits);
         writer.flushes_wait = true;
-        let ended = talk(rt.alloc(), &mut reader, &mut writer, &mut desk);
-        assert_eq!(rt; ended, Ended::Bound);
+        let talked = talk_over(rt.alloc(), &mut reader, &mut writer, &mut desk);
+        assert_eq!(rt; talked.ended, Ended::Bound);
         assert_eq!(rt; writer.calls, 41);
         assert_eq!(rt; writer.held.len(), room);
         assert_eq!(rt; desk.tickets, 0);
@@ -195,8 +187,8 @@ fn few_writes(rt: HostRuntime) -> Result<(), Fail> {
             shy: 0,
             writes: 0,
         };
-        let ended = talk(rt.alloc(), &mut reader, &mut writer, &mut desk);
-        assert_eq!(rt; ended, Ended::End);
+        let talked = talk_over(rt.alloc(), &mut reader, &mut writer, &mut desk);
+        assert_eq!(rt; talked.ended, Ended::End);
         assert!(rt; writer.held.len() > size);
         let wanted = if writer.held.len() <= 2048 { 1 } else { 2 };
         assert_eq!(rt; writer.writes, wanted, "{size}");
@@ -211,8 +203,8 @@ fn the_last_answer(rt: HostRuntime) -> Result<(), Fail> {
     let mut desk = Counter { tickets: 0 };
     let mut reader = Again { bytes: ONE };
     let mut writer = Narrow::new(rt.alloc(), 2_000_000, 1000, Then::Fails);
-    let ended = talk(rt.alloc(), &mut reader, &mut writer, &mut desk);
-    assert_eq!(rt; ended, Ended::Closed);
+    let talked = talk_over(rt.alloc(), &mut reader, &mut writer, &mut desk);
+    assert_eq!(rt; talked.ended, Ended::Closed);
     assert_eq!(rt; writer.flushes, 10_000);
     assert_eq!(rt; writer.held.len(), 1_200_019);
     Ok(())
@@ -230,8 +222,8 @@ fn says(rt: &impl Abort, alloc: Global, case: &Case) {
     let mut desk = Counter { tickets: 0 };
     let mut reader = Pieces::new(case.input, 1000, Then::Ends);
     let mut writer = Narrow::new(alloc, 100_000, 1000, Then::Fails);
-    let ended = talk(alloc, &mut reader, &mut writer, &mut desk);
-    assert_eq!(rt; ended, case.end);
+    let talked = talk_over(alloc, &mut reader, &mut writer, &mut desk);
+    assert_eq!(rt; talked.ended, case.end);
     assert!(rt; writer.held.as_slice() == case.output, "{}", desk.tickets);
     assert_eq!(rt; desk.tickets, case.tickets);
 }
@@ -313,8 +305,8 @@ fn sessions_in_two_parts(rt: HostRuntime) -> Result<(), Fail> {
                     second: &case.input[at..],
                 };
                 let mut writer = Narrow::new(rt.alloc(), 100_000, 1000, Then::Fails);
-                let ended = talk(rt.alloc(), &mut reader, &mut writer, &mut desk);
-                assert_eq!(rt; ended, case.end);
+                let talked = talk_over(rt.alloc(), &mut reader, &mut writer, &mut desk);
+                assert_eq!(rt; talked.ended, case.end);
                 assert!(rt; writer.held.as_slice() == case.output, "{at}");
                 assert_eq!(rt; desk.tickets, case.tickets);
             }

@@ -2,11 +2,45 @@
 
 ghost use Rattle.std.specs.Prelude.{◌<◌};
 
+use http_desk::session::talk;
+use http_desk::session_end::Ended;
+use http_desk::streams::{Sink, Source};
 use isad_core::List;
 use office_core::{Answer, Busy, Command, Done, Machine, Query, Reply};
 use std::alloc::Global;
 use std::cell::Cell;
 use std::io::{self, ErrorKind, Read, Write};
+
+/// How a session ended, and how the calls of its reader and writer went.
+#[derive(Clone, Copy, Drop)]
+pub struct Talked {
+    pub ended: Ended,
+    pub read_failed: bool,
+    pub write_failed: bool,
+    pub interrupted: bool,
+    pub reads: u64,
+    pub writes: u64,
+}
+
+/// Talks over a reader and a writer that nobody called yet.
+pub fn talk_over<R: Read, W: Write, M: Machine>(
+    alloc: Global,
+    reader: &mut R,
+    writer: &mut W,
+    office: &mut M,
+) -> Talked {
+    let mut source = Source::new(reader);
+    let mut sink = Sink::new(writer);
+    let ended = talk(alloc, &mut source, &mut sink, office);
+    Talked {
+        ended,
+        read_failed: source.has_failed(),
+        write_failed: sink.has_failed(),
+        interrupted: source.was_interrupted() || sink.was_interrupted(),
+        reads: source.calls(),
+        writes: sink.calls(),
+    }
+}
 
 /// Tells one fonds, and gives tickets.
 #[derive(Drop)]

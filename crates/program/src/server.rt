@@ -4,6 +4,7 @@ ghost use Rattle.program.specs.Served.{AreSessions, Serves, sessions_of};
 
 use http_desk::session::talk;
 use http_desk::session_end::Ended;
+use http_desk::streams::{Sink, Source};
 use office::Machine;
 use std::alloc::Global;
 use std::io::Read;
@@ -55,7 +56,10 @@ fn answer<M: Machine>(alloc: Global, stream: &TcpStream, office: &mut M)
         → (t : State) × M.represents office.new t × AreSessions 1 s t }
 {
     set_up(stream);
-    if talk(alloc, &mut &*stream, &mut &*stream, office) == Ended::Closed {
+    let (mut reader, mut writer) = (stream, stream);
+    let mut source = Source::new(&mut reader);
+    let mut sink = Sink::new(&mut writer);
+    if talk(alloc, &mut source, &mut sink, office) == Ended::Closed {
         close(stream);
     }
 }

@@ -6,6 +6,7 @@ ghost use Rattle.program.specs.Performed.{EndsWell, TrialDone, TrialFails, ended
 use crate::faults::{Break, Fault};
 use http_desk::session::talk;
 use http_desk::session_end::{Ended, Next};
+use http_desk::streams::{Sink, Source};
 use nested_sets::SpanPlaces;
 use office::{Machine, Office, Settings};
 use sqlite::{Connection, MemStore};
@@ -26,6 +27,26 @@ fn after(ended: Ended) -> Result<(), Fault>
     }
 }
 
+// Holds one session over a reader and a writer.
+fn hold_session<M: Machine, R: Read, W: Write>(
+    alloc: Global,
+    reader: &mut R,
+    out: &mut W,
+    office: &mut M,
+) -> Ended
+    ensures session { Talks M.represents M.is_intact (R.remaining reader.old) (R.remaining reader.new)
+        (W.contents out.old) (W.contents out.new) office.old result office.new }
+    ensures intact { M.is_intact office.new → M.is_intact office.old }
+    ensures at_end { AtEndIf (R.remaining reader.new) (Next.Ends result) }
+{
+    let mut source = Source::new(reader);
+    let mut sink = Sink::new(out);
+    let ended = talk(alloc, &mut source, &mut sink, office);
+    let _reader = source.into_reader();
+    let _writer = sink.into_writer();
+    ended
+}
+
 /// Answers requests on an office.
 pub fn talk_with<M: Machine, R: Read, W: Write>(
     alloc: Global,
@@ -42,7 +63,7 @@ pub fn talk_with<M: Machine, R: Read, W: Write>(
         (W.contents out.old) (W.contents out.new) office.old (ended_by broken) office.new) }
     ensures intact { M.is_intact office.new → M.is_intact office.old }
 {
-    after(talk(alloc, reader, out, office))
+    after(hold_session(alloc, reader, out, office))
 }
 
 /// Answers requests on a new office in memory.
@@ -62,7 +83,7 @@ pub fn try_office<R: Read, W: Write>(
         Ok(office) => office,
         Err((fault, _)) => return Err(Fault::from(fault)),
     };
-    let ended = talk(alloc, reader, out, &mut office);
+    let ended = hold_session(alloc, reader, out, &mut office);
     let _ = office.into_connection();
     after(ended)
 }

@@ -6,6 +6,7 @@ use Rattle.std.specs.Prelude.{◌||◌, Bool}
 use Rattle.http_desk.specs.Quiet.{QuietFill, fill_failed}
 use Rattle.http_desk.specs.declared.input_buffer.Filled.{Filled}
 use Rattle.http_desk.proofs.Fills.{reads_trans}
+use Rattle.http_desk.proofs.Faults.{takes_on}
 use Rattle.http_messages.specs.declared.head_scan.HeadScanState.TheVariants.{Lead}
 use Rattle.http_desk.specs.declared.input_buffer.Filled.TheVariants.{More, AtEnd, Failed}
 use Rattle.http_messages.proofs.Scans.{scan_take_within, scan_take_limit, scan_take_open}
@@ -32,12 +33,13 @@ nothing_seen = refl
 
 pub loop-size-init : goal.loop-size-init
 loop-size-init g c = record {
-  came = ([], Consumes-nil (g.R.Read.remaining c.args.reader.now), sym (append-nil c.args.buffer.now.items));
+  came = ([], Consumes-nil c.args.reader.now.bytes, sym (append-nil c.args.buffer.now.items));
   few = omega arith;
   short = omega arith;
   led = nothing_seen;
   failed = refl;
   bound = λ q. (q, omega arith);
+  calls = (refl, omega arith);
 }
 
 pub returns-in-Whole-clause-found : goal.returns-in-Whole-clause-found
@@ -53,8 +55,9 @@ loop-size-preserved g c = record {
       let (before, one) = c.fill.ensures.bound q in
       let (first, kept) = c.loop-size.invariant.bound before in
       let more = c.fill.ensures.more c.in-More.is in
-      let took : c.fill.new.turns + 1 ≡ c.loop-size.turns = subst (λ f. QuietFill f c.loop-size.turns c.fill.new.turns) c.in-More.is one in
+      let took : c.fill.new.reader.turns + 1 ≡ c.loop-size.reader.turns = subst (λ f. QuietFill f c.loop-size.reader.turns c.fill.new.reader.turns) c.in-More.is one in
       (first, omega arith);
+  calls = takes_on c.args.reader.now c.loop-size.reader c.fill.new.reader c.loop-size.invariant.calls c.fill.ensures.calls;
   few =
       let all : c.len-seen.result ≡ length c.loop-size.buffer.items = omega arith in
       few_on c.len-seen.result c.loop-size.buffer.items c.fill.new.buffer.items c.fill.ensures.got.0 all
@@ -92,6 +95,7 @@ returns-in_default g c =
       at_end = c.fill.ensures.at_end c.in-AtEnd.is;
       failed = fill_told c.fill.result AtEnd _ _ c.in-AtEnd.is c.fill.ensures.failed ∙ c.loop-size.invariant.failed;
       bound = λ q. let (before, one) = c.fill.ensures.bound q in ((c.loop-size.invariant.bound before).0, tt);
+      calls = takes_on c.args.reader.now c.loop-size.reader c.fill.new.reader c.loop-size.invariant.calls c.fill.ensures.calls;
     }
 
 pub returns-in-Failed-clause-got : goal.returns-in-Failed-clause-got

@@ -1,4 +1,4 @@
-use Rattle.std.proofs.Common.{◌≡◌, ◌<◌, ◌≤◌, ◌+◌, ◌++◌, arith, ap, sym, ◌∙◌, subst, refl, append-nil, length-append, [], length}
+use Rattle.std.proofs.Common.{◌<◌, ◌≤◌, ◌+◌, ◌++◌, arith, ap, sym, ◌∙◌, subst, refl, append-nil, length-append, [], length}
 use Rattle.std.specs.Prelude.{◌||◌}
 use Rattle.std.specs.List.{flat_map}
 use Rattle.std.specs.Io.KnownBytes.{Appends}
@@ -26,22 +26,27 @@ loop-piece-preserved g c =
       );
       failed = c.in-All.ensures.failed ∙ c.loop-piece.invariant.failed;
       bound = λ q. c.loop-piece.invariant.bound (c.in-All.ensures.bound q).0;
+      calls = (c.in-All.ensures.calls.0 ∙ c.loop-piece.invariant.calls.0, omega (arith, c.in-All.ensures.calls.1, c.loop-piece.invariant.calls.1));
     }
 
 pub returns-in_default : goal.returns-in_default
 returns-in_default g c =
-    let (written, split, appended, quiet) = c.loop-piece.invariant.came in
+    let (written, split, appended, quiet) = rw c.begin_text.ensures at c.loop-piece.invariant.came in
     let (front, is_front, added) = c.gather_or_send.ensures.front in
     let h : c.loop-piece.piece-index < length c.args.pieces.now = omega arith in
     record {
       all = λ e. absurd (c.in_default.not-All e);
-      failed = c.gather_or_send.ensures.failed ∙ ap (λ b. send_failed c.gather_or_send.result || b) c.loop-piece.invariant.failed;
+      failed = c.gather_or_send.ensures.failed ∙ ap (λ b. send_failed c.gather_or_send.result || b) (rw c.begin_text.ensures at c.loop-piece.invariant.failed);
       bound = λ q.
           let (before, here) = c.gather_or_send.ensures.bound q in (
-            c.loop-piece.invariant.bound before,
+            (rw c.begin_text.ensures at c.loop-piece.invariant.bound) before,
             turns_left c.gather_or_send.result _ _ _ _ (length written) here (quiet before)
                 (within (λ p. p.now) c.args.pieces.now c.loop-piece.piece-index _ written c.loop-piece.lot.items h split),
           );
+      calls =
+          let (same, few) = rw c.begin_text.ensures at c.loop-piece.invariant.calls in
+          let (again, more) = c.gather_or_send.ensures.calls in
+          (again ∙ same, omega arith);
       front = (
         written ++ front,
         front_of_all (λ p. p.now) c.args.pieces.now c.loop-piece.piece-index _ written c.loop-piece.lot.items front h split is_front,
@@ -51,29 +56,33 @@ returns-in_default g c =
 
 pub returns-in-All-send_piece-clause-front : goal.returns-in-All-send_piece-clause-front
 returns-in-All-send_piece-clause-front g c =
-    let (written, split, appended, quiet) = c.loop-piece.invariant.came in
+    let (written, split, appended, quiet) = rw c.begin_text.ensures at c.loop-piece.invariant.came in
     let e = sym (all_pieces (λ p. p.now) c.args.pieces.now c.loop-piece.piece-index c.loop-piece-test.false) ∙ split in (
       written ++ c.as_slice.result.now,
       ([], e ∙ ap (λ l. written ++ l) (sym c.as_slice.ensures.value) ∙ sym (append-nil (written ++ c.as_slice.result.now))),
-      subst (λ l. Appends (g.W.Write.contents c.args.writer.now) (g.W.Write.contents c.flush.new.writer) l) (append-nil (written ++ c.as_slice.result.now))
+      subst (λ l. Appends c.args.writer.now.bytes c.flush.new.writer.bytes l) (append-nil (written ++ c.as_slice.result.now))
           (Appends-trans _ _ _ _ _ (Appends-trans _ _ _ _ _ appended (c.in-All-send_piece.ensures.all refl)) c.flush.ensures.nothing),
     )
 
 pub returns-in_default-send_piece : goal.returns-in_default-send_piece
 returns-in_default-send_piece g c =
-    let (written, split, appended, quiet) = c.loop-piece.invariant.came in
+    let (written, split, appended, quiet) = rw c.begin_text.ensures at c.loop-piece.invariant.came in
     let (front, is_front, added) = c.send_piece.ensures.front in
     let lot = c.loop-piece.lot.items in
     let e = sym (all_pieces (λ p. p.now) c.args.pieces.now c.loop-piece.piece-index c.loop-piece-test.false) ∙ split in
     let here_front = subst (λ l. IsFront front l) c.as_slice.ensures.value is_front in
     record {
       all = λ e. absurd (c.in_default-send_piece.not-All e);
-      failed = c.send_piece.ensures.failed ∙ ap (λ b. send_failed c.send_piece.result || b) c.loop-piece.invariant.failed;
+      failed = c.send_piece.ensures.failed ∙ ap (λ b. send_failed c.send_piece.result || b) (rw c.begin_text.ensures at c.loop-piece.invariant.failed);
       bound = λ q.
           let (before, here) = c.send_piece.ensures.bound q in
           let l = ap length e ∙ length-append written lot in
           let k = ap length c.as_slice.ensures.value in
           let most : length written + length c.as_slice.result.now ≤ length (flat_map (λ p. p.now) c.args.pieces.now) = omega arith in
-          (c.loop-piece.invariant.bound before, turns_left c.send_piece.result _ _ _ _ (length written) here (quiet before) most);
+          ((rw c.begin_text.ensures at c.loop-piece.invariant.bound) before, turns_left c.send_piece.result _ _ _ _ (length written) here (quiet before) most);
+      calls =
+          let (same, few) = rw c.begin_text.ensures at c.loop-piece.invariant.calls in
+          let (again, more) = c.send_piece.ensures.calls in
+          (again ∙ same, omega arith);
       front = (written ++ front, front_at_end _ written lot front e here_front, Appends-trans _ _ _ _ _ appended added);
     }

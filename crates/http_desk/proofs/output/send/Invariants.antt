@@ -7,8 +7,9 @@ use Rattle.http_desk.proofs.output.send.Given as goal
 abbrev pub invariant-loop-piece : goal.invariant-loop-piece
 invariant-loop-piece g l = record {
   came : (written : List ℕ) × (flat_map (λ p. p.now) (take l.piece-index l.pieces) ≡ written ++ l.lot.items)
-      × Appends (g.W.Write.contents l.initial.writer) (g.W.Write.contents l.writer) written
-      × (l.interrupted ≡ false → length (flat_map (λ p. p.now) l.pieces) + 16 ≤ l.turns + length written);
-  failed : l.failed ≡ l.initial.failed;
-  bound : l.interrupted ≡ false → l.initial.interrupted ≡ false;
+      × Appends l.initial.writer.bytes l.writer.bytes written
+      × (l.writer.interrupted ≡ false → length (flat_map (λ p. p.now) l.pieces) + 16 ≤ l.writer.turns + length written);
+  failed : l.writer.failed ≡ l.initial.writer.failed;
+  bound : l.writer.interrupted ≡ false → l.initial.writer.interrupted ≡ false;
+  calls : (l.writer.name ≡ l.initial.writer.name) × (l.writer.calls + l.writer.turns ≤ l.initial.writer.calls + (length (flat_map (λ p. p.now) l.pieces) + 16));
 }

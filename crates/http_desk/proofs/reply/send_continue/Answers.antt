@@ -5,3 +5,7 @@ use Rattle.http_desk.proofs.reply.send_continue.Goals as goal
 pub returns-clause-sends : goal.returns-clause-sends
 unfolding continue_text
 returns-clause-sends g c = sends _ _ _ c.send.result c.send.ensures.all c.send.ensures.front
+
+pub returns-clause-calls : goal.returns-clause-calls
+unfolding continue_text
+returns-clause-calls g c = c.send.ensures.calls

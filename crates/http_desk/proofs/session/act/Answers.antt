@@ -1,11 +1,11 @@
-use Rattle.std.proofs.Common.{◌≤◌, length, ◌+◌, take, drop, refl, sym, ◌∙◌, subst, false}
+use Rattle.std.proofs.Common.{◌≤◌, length, ◌+◌, take, drop, refl, sym, subst, false}
 use Rattle.http_messages.specs.Heard.{request_in}
 use Rattle.http_desk.specs.Messages.{Fails}
 use Rattle.http_desk.specs.Session.{leave_if}
 use Rattle.http_messages.specs.Replies.{answer_in}
 use Rattle.http_messages.specs.declared.status.Status.TheVariants.{Busy}
-use Rattle.http_desk.proofs.Turns.{refused, acted_closing, acted_open, may_fail_after}
-use Rattle.http_desk.proofs.Faults.{reads_told, writes_told}
+use Rattle.http_desk.proofs.Faults.{no_end_after}
+use Rattle.http_desk.proofs.Turns.{refused, acted, may_fail_after}
 use Rattle.http_desk.proofs.session.act.Goals as goal
 
 pub returns-in-Err-clause-turn : goal.returns-in-Err-clause-turn
@@ -14,36 +14,17 @@ returns-in-Err-clause-turn g c =
     refused g.M.Machine.represents g.M.Machine.is_intact c.args.number _ _ items (leave_if c.args.head.waits) items (Fails c.args.head.waits false) false Busy _ _ _ c.refuse.ensures.sent
     (may_fail_after items (take c.args.size items) (drop c.args.size items) (request_in (take c.args.size items) c.args.head) c.requires.accepted) tt (λ s. (refl, refl)) c.in-Err.ensures.busy
 
-pub returns-then-closing-clause-turn : goal.returns-then-closing-clause-turn
-returns-then-closing-clause-turn g c =
+pub returns-in-Ok-clause-turn : goal.returns-in-Ok-clause-turn
+returns-in-Ok-clause-turn g c =
     let items = c.args.buffer.now.items in
     let size = c.args.size in
     let n = c.body_len.result in
     let answers = rw (c.deref-2.ensures.value, c.deref-3.ensures.value) at c.in-Ok.ensures.answers in
-    acted_closing g.M.Machine.represents g.M.Machine.is_intact c.args.number _ _ items size n (request_in (take size items) c.args.head) (answer_in c.in-Ok.answer) c.is_bare-bare.result c.remove_front.new.buffer.items _ _ c.send_answer-sent.result _
+    acted g.M.Machine.represents g.M.Machine.is_intact c.args.number _ _ items size n (request_in (take size items) c.args.head) (answer_in c.in-Ok.answer) c.is_bare-bare.result c.remove_front.new.buffer.items _ _ c.is_closing-closing.result _
     c.requires.accepted (subst (λ k. size + k ≤ length items) (sym c.body_len.ensures) c.requires.whole) c.body_len.ensures c.remove_front.ensures
-    (rw c.deref.ensures.value at c.is_bare-bare.ensures) (sym c.is_closing-closing.ensures ∙ c.if-closing.true) c.after.ensures
-    (rw c.if-closing.true at c.send_answer-sent.ensures.sends) answers
+    (rw c.deref.ensures.value at c.is_bare-bare.ensures) (sym c.is_closing-closing.ensures) c.reply-next.ensures.sent answers
 
-pub returns-clause-turn : goal.returns-clause-turn
-returns-clause-turn g c =
-    let items = c.args.buffer.now.items in
-    let size = c.args.size in
-    let n = c.body_len.result in
-    let answers = rw (c.deref-2.ensures.value, c.deref-3.ensures.value) at c.in-Ok.ensures.answers in
-    acted_open g.M.Machine.represents g.M.Machine.is_intact c.args.number _ _ items size n (request_in (take size items) c.args.head) (answer_in c.in-Ok.answer) c.is_bare-bare.result c.remove_front.new.buffer.items _ _ c.send_answer-sent.result _
-    c.requires.accepted (subst (λ k. size + k ≤ length items) (sym c.body_len.ensures) c.requires.whole) c.body_len.ensures c.remove_front.ensures
-    (rw c.deref.ensures.value at c.is_bare-bare.ensures) (sym c.is_closing-closing.ensures ∙ c.if-closing.false) c.after-else-closing.ensures
-    (rw c.if-closing.false at c.send_answer-sent.ensures.sends) answers
-
-pub returns-then-closing-clause-reads : goal.returns-then-closing-clause-reads
-returns-then-closing-clause-reads g c = reads_told c.send_answer-sent.result _ c.after.result _ _ refl c.after.ensures refl
-
-pub returns-then-closing-clause-writes : goal.returns-then-closing-clause-writes
-returns-then-closing-clause-writes g c = writes_told c.send_answer-sent.result _ c.after.result _ _ refl c.after.ensures c.send_answer-sent.ensures.failed
-
-pub returns-clause-reads : goal.returns-clause-reads
-returns-clause-reads g c = reads_told c.send_answer-sent.result _ c.after-else-closing.result _ _ refl c.after-else-closing.ensures refl
-
-pub returns-clause-writes : goal.returns-clause-writes
-returns-clause-writes g c = writes_told c.send_answer-sent.result _ c.after-else-closing.result _ _ refl c.after-else-closing.ensures c.send_answer-sent.ensures.failed
+pub returns-in-Ok-clause-no_end : goal.returns-in-Ok-clause-no_end
+returns-in-Ok-clause-no_end g c =
+    let (sent, sends, ends) = c.reply-next.ensures.sent in
+    no_end_after sent c.is_closing-closing.result _ ends

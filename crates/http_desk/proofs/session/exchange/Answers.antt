@@ -19,7 +19,7 @@ receive-requires-clause-accepted g c =
 pub returns-in-Refused-clause-turn : goal.returns-in-Refused-clause-turn
 returns-in-Refused-clause-turn g c =
     let items = c.gather_head.new.buffer.items in
-    let (got, consumed, e) = c.gather_head.ensures.got in
+    let (got, consumed, e) = rw c.begin_message.ensures at c.gather_head.ensures.got in
     let (found, within, limit) = c.in-Whole.ensures.found in
     let status = c.in-Refused.status in
     let bare = c.in-Refused.bare in
@@ -32,7 +32,7 @@ returns-in-Refused-clause-turn g c =
 pub returns-in-Accepted-clause-turn : goal.returns-in-Accepted-clause-turn
 returns-in-Accepted-clause-turn g c =
     let items = c.args.buffer.now.items in
-    let (got, consumed, e) = c.gather_head.ensures.got in
+    let (got, consumed, e) = rw c.begin_message.ensures at c.gather_head.ensures.got in
     let (more, written, consumed2, appended, through) = c.receive.ensures.turn in (
       got ++ more,
       written,
@@ -43,34 +43,34 @@ returns-in-Accepted-clause-turn g c =
 
 pub returns-in-TooLong-clause-turn : goal.returns-in-TooLong-clause-turn
 returns-in-TooLong-clause-turn g c =
-    let (got, consumed, e) = c.gather_head.ensures.got in
+    let (got, consumed, e) = rw c.begin_message.ensures at c.gather_head.ensures.got in
     let (written, appended, through) = refused g.M.Machine.represents g.M.Machine.is_intact c.args.number c.args.office.now c.args.office.now (c.args.buffer.now.items ++ got) [] c.gather_head.new.buffer.items NoHead false BadRequest _ _ _ c.refuse-in-TooLong.ensures.sent
     (subst IsTooLong e c.in-TooLong.ensures.found) tt (λ s. (refl, refl)) (λ i s h. h) in
     (got, written, consumed, appended, through)
 
 pub returns-in-Blank-clause-turn : goal.returns-in-Blank-clause-turn
 returns-in-Blank-clause-turn g c =
-    let (got, consumed, e) = c.gather_head.ensures.got in
+    let (got, consumed, e) = rw c.begin_message.ensures at c.gather_head.ensures.got in
     (got, [], consumed, Appends-nil _, λ i s shown. (s, shown, record { last = Nothing; stands = subst IsBlank e c.in-Blank.ensures.found; ends = refl; written = refl; leaves = refl }))
 
 pub returns-in-Cut-clause-turn : goal.returns-in-Cut-clause-turn
 returns-in-Cut-clause-turn g c =
-    let (got, consumed, e) = c.gather_head.ensures.got in
+    let (got, consumed, e) = rw c.begin_message.ensures at c.gather_head.ensures.got in
     (got, [], consumed, Appends-nil _, λ i s shown. (s, shown, record { last = HeadCut; stands = subst IsHeadCut e c.in-Cut.ensures.found; ends = tt; written = refl; leaves = refl }))
 
 pub returns-in-Failed-clause-turn : goal.returns-in-Failed-clause-turn
 returns-in-Failed-clause-turn g c =
-    let (got, consumed, e) = c.gather_head.ensures.got in
+    let (got, consumed, e) = rw c.begin_message.ensures at c.gather_head.ensures.got in
     (got, [], consumed, Appends-nil _, λ i s shown. (s, shown, stops_early c.args.number s (c.args.buffer.now.items ++ got) (subst (λ l. IsBlank l ⊎ IsHeadCut l) e c.in-Failed.ensures.found)))
 
 pub returns-in-Bound-clause-turn : goal.returns-in-Bound-clause-turn
 returns-in-Bound-clause-turn g c =
-    let (got, consumed, e) = c.gather_head.ensures.got in
+    let (got, consumed, e) = rw c.begin_message.ensures at c.gather_head.ensures.got in
     (got, [], consumed, Appends-nil _, λ i s shown. (s, shown, bound_here c.args.number s (c.args.buffer.now.items ++ got) false (may_fail (c.args.buffer.now.items ++ got))))
 
 pub returns-in-NoMemory-clause-turn : goal.returns-in-NoMemory-clause-turn
 returns-in-NoMemory-clause-turn g c =
-    let (got, consumed, e) = c.gather_head.ensures.got in
+    let (got, consumed, e) = rw c.begin_message.ensures at c.gather_head.ensures.got in
     let (written, appended, through) = refused g.M.Machine.represents g.M.Machine.is_intact c.args.number c.args.office.now c.args.office.now (c.args.buffer.now.items ++ got) [] c.gather_head.new.buffer.items (Fails false false) false Busy _ _ _ c.refuse-in-NoMemory.ensures.sent
     (may_fail (c.args.buffer.now.items ++ got)) tt (λ s. (refl, refl)) (λ i s h. h) in
     (got, written, consumed, appended, through)

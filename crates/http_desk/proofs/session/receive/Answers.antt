@@ -1,5 +1,5 @@
-use Rattle.std.proofs.Common.{◌≡◌, ◌≢◌, ◌<◌, ◌+◌, ◌++◌, length, take, drop, refl, subst, inl, inr, arith, false}
-use Rattle.std.specs.Prelude.{unwrap_or}
+use Rattle.std.proofs.Common.{◌≡◌, ◌≢◌, ◌<◌, ◌+◌, ◌++◌, length, take, drop, refl, ap, sym, subst, inl, inr, arith, false}
+use Rattle.std.specs.Prelude.{unwrap_or, ◌||◌}
 use Rattle.std.proofs.KnownBytes.{Appends-trans}
 use Rattle.http_messages.specs.Heard.{request_in}
 use Rattle.http_messages.specs.Heads.{Accepted}
@@ -13,7 +13,7 @@ use Rattle.http_desk.specs.declared.session_end.Next.{Next}
 use Rattle.http_desk.specs.declared.session_end.Next.TheVariants.{Ends}
 use Rattle.http_desk.specs.declared.output.Sent.{Sent}
 use Rattle.http_desk.specs.declared.output.Sent.TheVariants.{All as SendAll, Failed as SendFailed, Bound as SendBound}
-use Rattle.http_desk.proofs.Faults.{reads_told, writes_told}
+use Rattle.http_desk.proofs.Faults.{no_read_told, writes_told}
 use Rattle.http_desk.proofs.session.receive.Goals as goal
 
 no_bound : (sent : Sent) (next : Next) → next ≡ after_sending sent (Ends Closed) → (sent ≢ SendBound)
@@ -29,18 +29,22 @@ returns-in_default g c =
     let block = take size items in
     let (turn, at_end) =
     leave_broken g.M.Machine.represents g.M.Machine.is_intact c.args.number c.args.office.now items block
-    (drop size items) (request_in block c.args.head) (g.R.Read.remaining c.args.reader.now) _ _
+    (drop size items) (request_in block c.args.head) c.args.reader.now.bytes _ _
     c.give_leave.result _ c.after.result c.in_default.not-All c.after.ensures c.requires.accepted
     c.give_leave.ensures.sends in
     record {
       turn = turn;
       intact = λ i. i;
       at_end = at_end;
-      reads = reads_told c.give_leave.result _ c.after.result _ _ refl c.after.ensures c.give_leave.ensures.reads;
+      reads =
+          let none = no_read_told c.give_leave.result (Ends Closed) c.after.result refl c.after.ensures in
+          ap (λ b. b || c.args.reader.now.failed) (sym none);
       writes = writes_told c.give_leave.result _ c.after.result _ _ refl c.after.ensures c.give_leave.ensures.writes;
-      turns = λ q.
+      turns = λ p q.
           let (before, here) = c.give_leave.ensures.turns q in
-          (before, no_bound c.give_leave.result _ c.after.ensures here);
+          (p, before, no_bound c.give_leave.result _ c.after.ensures here);
+      calls = (refl, omega arith);
+      same = c.give_leave.ensures.same;
     }
 
 pub act-requires-clause-accepted : goal.act-requires-clause-accepted

@@ -1,9 +1,6 @@
 use Rattle.std.proofs.Common.{refl}
-use Rattle.http_desk.proofs.Faults.{reads_told, writes_told}
+use Rattle.http_desk.proofs.Faults.{writes_told}
 use Rattle.http_desk.proofs.session.refuse.Goals as goal
-
-pub returns-clause-reads : goal.returns-clause-reads
-returns-clause-reads g c = reads_told c.send_answer-sent.result _ c.after.result _ _ refl c.after.ensures refl
 
 pub returns-clause-writes : goal.returns-clause-writes
 returns-clause-writes g c = writes_told c.send_answer-sent.result _ c.after.result _ _ refl c.after.ensures c.send_answer-sent.ensures.failed

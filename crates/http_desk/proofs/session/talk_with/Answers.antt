@@ -10,21 +10,30 @@ loop-number-init g c = record {
   carried = carried_none g.M.Machine.represents g.M.Machine.is_intact _ _ c.args.office.now c.new-buffer.result.items c.new-buffer.ensures.items;
   reads = refl;
   writes = refl;
+  quiet = λ p q. (p, q);
+  calls = (refl, omega arith);
+  same = refl;
 }
 
 pub loop-number-preserved : goal.loop-number-preserved
 loop-number-preserved g c = record {
   carried = carried_on g.M.Machine.represents g.M.Machine.is_intact _ _ _ _ _ _ c.args.office.now c.loop-number.office c.exchange.new.office c.loop-number.number c.loop-number.buffer.items _ _ c.in-Goes.is c.exchange.ensures.intact c.loop-number.invariant.carried c.exchange.ensures.turn;
-  reads = c.exchange.ensures.reads ∙ ap (λ n. is_read_fault n || c.loop-number.calls.read_failed) c.in-Goes.is ∙ c.loop-number.invariant.reads;
-  writes = c.exchange.ensures.writes ∙ ap (λ n. is_write_fault n || c.loop-number.calls.write_failed) c.in-Goes.is ∙ c.loop-number.invariant.writes;
+  reads = c.exchange.ensures.reads ∙ ap (λ n. is_read_fault n || c.loop-number.reader.failed) c.in-Goes.is ∙ c.loop-number.invariant.reads;
+  writes = c.exchange.ensures.writes ∙ ap (λ n. is_write_fault n || c.loop-number.writer.failed) c.in-Goes.is ∙ c.loop-number.invariant.writes;
+  quiet = λ p q. let (r, w, here) = c.exchange.ensures.turns p q in c.loop-number.invariant.quiet r w;
+  calls = (
+    c.exchange.ensures.calls.0 ∙ c.loop-number.invariant.calls.0,
+    omega (arith, c.exchange.ensures.calls.1, c.loop-number.invariant.calls.1),
+  );
+  same = c.exchange.ensures.same ∙ c.loop-number.invariant.same;
 }
 
-pub returns-in-Ends-clause-reads : goal.returns-in-Ends-clause-reads
-returns-in-Ends-clause-reads g c =
+pub returns-in-Ends-clause-read_fault : goal.returns-in-Ends-clause-read_fault
+returns-in-Ends-clause-read_fault g c =
     c.exchange.ensures.reads ∙ (λ i. is_read_fault (c.in-Ends.is i) || c.loop-number.invariant.reads i)
 
-pub returns-in-Ends-clause-writes : goal.returns-in-Ends-clause-writes
-returns-in-Ends-clause-writes g c =
+pub returns-in-Ends-clause-write_fault : goal.returns-in-Ends-clause-write_fault
+returns-in-Ends-clause-write_fault g c =
     c.exchange.ensures.writes ∙ (λ i. is_write_fault (c.in-Ends.is i) || c.loop-number.invariant.writes i)
 
 pub returns-in-Ends-clause-session : goal.returns-in-Ends-clause-session
@@ -38,4 +47,4 @@ pub returns-clause-session : goal.returns-clause-session
 returns-clause-session g c =
     let last : c.loop-number.number ≡ 10001 = omega arith in
     carried_over g.M.Machine.represents g.M.Machine.is_intact _ _ _ _ c.args.office.now c.loop-number.office c.loop-number.buffer.items Closed
-    (subst (λ n. Carried g.M.Machine.represents g.M.Machine.is_intact (g.R.Read.remaining c.args.reader.now) (g.R.Read.remaining c.loop-number.reader) (g.W.Write.contents c.args.writer.now) (g.W.Write.contents c.loop-number.writer) c.args.office.now c.loop-number.office n c.loop-number.buffer.items) last c.loop-number.invariant.carried)
+    (subst (λ n. Carried g.M.Machine.represents g.M.Machine.is_intact c.args.reader.now.bytes c.loop-number.reader.bytes c.args.writer.now.bytes c.loop-number.writer.bytes c.args.office.now c.loop-number.office n c.loop-number.buffer.items) last c.loop-number.invariant.carried)

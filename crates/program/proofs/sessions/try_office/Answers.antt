@@ -11,12 +11,12 @@ returns-in-Err-clause-fault g c =
 
 pub returns-clause-done : goal.returns-clause-done
 returns-clause-done g c =
-    done_by c.args.settings _ _ _ _ c.talk-ended.result c.after.result
-    (talked _ _ c.args.settings _ _ _ _ c.in-Ok.office c.talk-ended.new.office c.talk-ended.result c.in-Ok.ensures.sound c.in-Ok.ensures.represents c.talk-ended.ensures.session c.talk-ended.ensures.at_end)
+    done_by c.args.settings _ _ _ _ c.hold_session-ended.result c.after.result
+    (talked _ _ c.args.settings _ _ _ _ c.in-Ok.office c.hold_session-ended.new.office c.hold_session-ended.result c.in-Ok.ensures.sound c.in-Ok.ensures.represents c.hold_session-ended.ensures.session c.hold_session-ended.ensures.at_end)
     c.after.ensures.well
 
 pub returns-clause-fault : goal.returns-clause-fault
 returns-clause-fault g c =
-    broken_by c.args.settings _ _ _ _ c.talk-ended.result c.after.result
-    (talked _ _ c.args.settings _ _ _ _ c.in-Ok.office c.talk-ended.new.office c.talk-ended.result c.in-Ok.ensures.sound c.in-Ok.ensures.represents c.talk-ended.ensures.session c.talk-ended.ensures.at_end)
+    broken_by c.args.settings _ _ _ _ c.hold_session-ended.result c.after.result
+    (talked _ _ c.args.settings _ _ _ _ c.in-Ok.office c.hold_session-ended.new.office c.hold_session-ended.result c.in-Ok.ensures.sound c.in-Ok.ensures.represents c.hold_session-ended.ensures.session c.hold_session-ended.ensures.at_end)
     c.after.ensures.broken

@@ -1,7 +1,0 @@
--- the bytes so far, and some more
-use Rattle.std.proofs.Common.{◌≡◌, ◌+◌, take, length}
-use Rattle.std.specs.List.{flat_map}
-use Rattle.http_desk.proofs.output.turns_of.Given as goal
-
-abbrev pub invariant-loop-piece : goal.invariant-loop-piece
-invariant-loop-piece l = l.turns ≡ length (flat_map (λ p. p.now) (take l.piece-index l.pieces)) + 16

@@ -1,0 +1,40 @@
+-- What is known of a session's reader, or of its writer, and of what each of its calls has answered.
+use Rattle.std.specs.Prelude.{◌≡◌, ℕ, Bool, true, false, Option, Result, Ok, Err}
+use Rattle.isad_core.specs.Texts.{Bytes}
+use Rattle.http_desk.specs.declared.streams.Undone.{Undone}
+use Rattle.http_desk.specs.declared.streams.Undone.TheVariants.{Failed, Interrupted}
+
+-- a reader or a writer, and how its calls have gone
+pub record Stream : Type 0 where
+  pub name : ℕ  -- which it is
+  pub bytes : Option Bytes  -- what a reader still gives, or what a writer holds, where that is known
+  pub failed : Bool  -- a call has failed, or a write has taken nothing
+  pub interrupted : Bool  -- a call was interrupted
+  pub calls : ℕ  -- so many were made; the count stops at 2^64 - 1
+  pub turns : ℕ  -- so many more may be made for this message, or for this text
+
+-- it was not called yet
+pub record IsNew (stream : Stream) : Type 0 where
+  pub none_failed : stream.failed ≡ false
+  pub none_interrupted : stream.interrupted ≡ false
+  pub none_made : stream.calls ≡ 0
+
+-- the reads of one message: a byte each of the longest head and the longest body, and one more
+abbrev pub most_reads : ℕ
+most_reads = 8404993
+
+-- the writes and flushes of a text, beside one for each byte
+abbrev pub more_writes : ℕ
+more_writes = 16
+
+-- ---- what a call answered
+
+abbrev pub has_failed : {A : Type 0} → Result A Undone → Bool
+has_failed (Ok a) = false
+has_failed (Err Failed) = true
+has_failed (Err Interrupted) = false
+
+abbrev pub was_interrupted : {A : Type 0} → Result A Undone → Bool
+was_interrupted (Ok a) = false
+was_interrupted (Err Failed) = false
+was_interrupted (Err Interrupted) = true

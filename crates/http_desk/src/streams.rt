@@ -1,0 +1,281 @@
+//! A session's reader and its writer, with how their calls have gone. Nothing here takes an allocator.
+ghost use Rattle.std.specs.Prelude.{◌≡◌, ◌≢◌, ◌+◌, ◌<◌, ◌≤◌, ◌||◌, ◌^◌, [], length, take, nat_lt, IfOk, OnErr};
+ghost use Rattle.std.specs.Io.KnownBytes.{Appends, ReadConsumes};
+ghost use Rattle.std.specs.Io.{ReadsAtMost};
+ghost use Rattle.http_desk.specs.Streams.{IsNew, has_failed, most_reads, more_writes, was_interrupted};
+
+use std::io::{ErrorKind, Read, Write};
+use std::marker::Model;
+
+/// Why a call did nothing.
+#[derive(Clone, Copy, Debug, PartialEq, Eq, Drop)]
+pub enum Undone {
+    /// It failed, or it was a write that took nothing.
+    Failed,
+    /// It was interrupted.
+    Interrupted,
+}
+
+/// How many reads a message may take: one for each byte of the longest, and one more.
+const READS: u32 = 8_404_993;
+
+/// How many writes and flushes a text may take beside one for each byte.
+const MORE_WRITES: u64 = 16;
+
+/// A reader. Nothing else calls it while this stands, and nothing else counts its calls.
+#[derive(Drop)]
+pub struct Source<'a, R: Read> {
+    reader: &'a mut R,
+    failed: bool,
+    interrupted: bool,
+    calls: u64,
+    turns: u32,
+}
+
+impl<'a, R: Read> Model for Source<'a, R> {
+    ghost use Rattle.http_desk.specs.Streams.{Stream};
+
+    ghost Value = { Stream };
+
+    ghost view = { λ s. record {
+      name = s.reader.ghost_name;
+      bytes = R.remaining s.reader.now;
+      failed = s.failed;
+      interrupted = s.interrupted;
+      calls = s.calls;
+      turns = s.turns;
+    } };
+}
+
+impl<'a, R: Read> Source<'a, R> {
+    /// A reader that was not called yet.
+    pub fn new(reader: &'a mut R) -> Source<'a, R>
+        ensures same { result.name ≡ reader.entry.ghost_name }
+        ensures bytes { result.bytes ≡ R.remaining reader.old }
+        ensures uncalled { IsNew result }
+    {
+        Source {
+            reader,
+            failed: false,
+            interrupted: false,
+            calls: 0,
+            turns: 0,
+        }
+    }
+
+    /// Gives the reader back.
+    pub fn into_reader(self) -> &'a mut R
+        ensures same { result.ghost_name ≡ self.entry.name }
+        ensures bytes { R.remaining result.now ≡ self.entry.bytes }
+    {
+        let Source { reader, .. } = self;
+        reader
+    }
+
+    /// Gives the turns of one message.
+    pub fn begin_message(&mut self)
+        ensures { self.new ≡ record self.old { turns = most_reads } }
+    {
+        self.turns = READS;
+    }
+
+    /// Whether the message may take one more read.
+    pub fn has_turn(&self) -> bool
+        ensures { result ≡ nat_lt 0 self.now.turns }
+    {
+        self.turns > 0
+    }
+
+    /// Whether a read has failed.
+    pub fn has_failed(&self) -> bool
+        ensures { result ≡ self.now.failed }
+    {
+        self.failed
+    }
+
+    /// Whether a read was interrupted.
+    pub fn was_interrupted(&self) -> bool
+        ensures { result ≡ self.now.interrupted }
+    {
+        self.interrupted
+    }
+
+    /// How many reads were made.
+    pub fn calls(&self) -> u64
+        ensures { result ≡ self.now.calls }
+    {
+        self.calls
+    }
+
+    /// One read, which takes a turn.
+    pub fn read(&mut self, chunk: &mut [u8]) -> Result<usize, Undone>
+        requires { 0 < self.old.turns }
+        ensures within { ReadsAtMost result chunk.new }
+        ensures bytes { ReadConsumes self.old.bytes self.new.bytes result chunk.new }
+        ensures same { self.new.name ≡ self.old.name }
+        ensures failed { self.new.failed ≡ (has_failed result || self.old.failed) }
+        ensures interrupted { self.new.interrupted ≡ (was_interrupted result || self.old.interrupted) }
+        ensures calls { self.new.calls ≤ self.old.calls + 1 }
+        ensures turns { self.new.turns + 1 ≡ self.old.turns }
+    {
+        self.turns -= 1;
+        self.calls = self.calls.saturating_add(1);
+        match self.reader.read(chunk) {
+            Ok(n) => Ok(n),
+            Err(e) => {
+                if e.kind() == ErrorKind::Interrupted {
+                    self.interrupted = true;
+                    Err(Undone::Interrupted)
+                } else {
+                    self.failed = true;
+                    Err(Undone::Failed)
+                }
+            }
+        }
+    }
+}
+
+/// A writer. Nothing else calls it while this stands, and nothing else counts its calls.
+#[derive(Drop)]
+pub struct Sink<'a, W: Write> {
+    writer: &'a mut W,
+    failed: bool,
+    interrupted: bool,
+    calls: u64,
+    turns: u64,
+}
+
+impl<'a, W: Write> Model for Sink<'a, W> {
+    ghost use Rattle.http_desk.specs.Streams.{Stream};
+
+    ghost Value = { Stream };
+
+    ghost view = { λ s. record {
+      name = s.writer.ghost_name;
+      bytes = W.contents s.writer.now;
+      failed = s.failed;
+      interrupted = s.interrupted;
+      calls = s.calls;
+      turns = s.turns;
+    } };
+}
+
+impl<'a, W: Write> Sink<'a, W> {
+    /// A writer that was not called yet.
+    pub fn new(writer: &'a mut W) -> Sink<'a, W>
+        ensures same { result.name ≡ writer.entry.ghost_name }
+        ensures bytes { result.bytes ≡ W.contents writer.old }
+        ensures uncalled { IsNew result }
+    {
+        Sink {
+            writer,
+            failed: false,
+            interrupted: false,
+            calls: 0,
+            turns: 0,
+        }
+    }
+
+    /// Gives the writer back.
+    pub fn into_writer(self) -> &'a mut W
+        ensures same { result.ghost_name ≡ self.entry.name }
+        ensures bytes { W.contents result.now ≡ self.entry.bytes }
+    {
+        let Sink { writer, .. } = self;
+        writer
+    }
+
+    /// Gives the turns of a text of so many bytes.
+    pub fn begin_text(&mut self, len: u64)
+        requires { len + more_writes < 2 ^ 64 }
+        ensures { self.new ≡ record self.old { turns = len + more_writes } }
+    {
+        self.turns = len + MORE_WRITES;
+    }
+
+    /// Whether the text may take one more write or flush.
+    pub fn has_turn(&self) -> bool
+        ensures { result ≡ nat_lt 0 self.now.turns }
+    {
+        self.turns > 0
+    }
+
+    /// Whether a write or a flush has failed, or a write has taken nothing.
+    pub fn has_failed(&self) -> bool
+        ensures { result ≡ self.now.failed }
+    {
+        self.failed
+    }
+
+    /// Whether a write or a flush was interrupted.
+    pub fn was_interrupted(&self) -> bool
+        ensures { result ≡ self.now.interrupted }
+    {
+        self.interrupted
+    }
+
+    /// How many writes and flushes were made.
+    pub fn calls(&self) -> u64
+        ensures { result ≡ self.now.calls }
+    {
+        self.calls
+    }
+
+    /// One write, which takes a turn.
+    pub fn write(&mut self, piece: &[u8]) -> Result<usize, Undone>
+        requires { 0 < self.old.turns }
+        ensures took { IfOk result (λ n. (n ≢ 0) × (n ≤ length piece.now)
+            × Appends self.old.bytes self.new.bytes (take n piece.now)) }
+        ensures nothing { OnErr result (Appends self.old.bytes self.new.bytes []) }
+        ensures same { self.new.name ≡ self.old.name }
+        ensures failed { self.new.failed ≡ (has_failed result || self.old.failed) }
+        ensures interrupted { self.new.interrupted ≡ (was_interrupted result || self.old.interrupted) }
+        ensures calls { self.new.calls ≤ self.old.calls + 1 }
+        ensures turns { self.new.turns + 1 ≡ self.old.turns }
+    {
+        self.turns -= 1;
+        self.calls = self.calls.saturating_add(1);
+        match self.writer.write(piece) {
+            Ok(0) => {
+                self.failed = true;
+                Err(Undone::Failed)
+            }
+            Ok(n) => Ok(n),
+            Err(e) => {
+                if e.kind() == ErrorKind::Interrupted {
+                    self.interrupted = true;
+                    Err(Undone::Interrupted)
+                } else {
+                    self.failed = true;
+                    Err(Undone::Failed)
+                }
+            }
+        }
+    }
+
+    /// One flush, which takes a turn.
+    pub fn flush(&mut self) -> Result<(), Undone>
+        requires { 0 < self.old.turns }
+        ensures nothing { Appends self.old.bytes self.new.bytes [] }
+        ensures same { self.new.name ≡ self.old.name }
+        ensures failed { self.new.failed ≡ (has_failed result || self.old.failed) }
+        ensures interrupted { self.new.interrupted ≡ (was_interrupted result || self.old.interrupted) }
+        ensures calls { self.new.calls ≤ self.old.calls + 1 }
+        ensures turns { self.new.turns + 1 ≡ self.old.turns }
+    {
+        self.turns -= 1;
+        self.calls = self.calls.saturating_add(1);
+        match self.writer.flush() {
+            Ok(()) => Ok(()),
+            Err(e) => {
+                if e.kind() == ErrorKind::Interrupted {
+                    self.interrupted = true;
+                    Err(Undone::Interrupted)
+                } else {
+                    self.failed = true;
+                    Err(Undone::Failed)
+                }
+            }
+        }
+    }
+}
