@@ -2,10 +2,10 @@
 """Asks a server over its sockets: sockets.py PROGRAM [PORT]
 
 How many writes an answer takes (by strace, where that is there), how long 1,000 requests take on one connection, by Python and by
-curl; that an answer that closes reaches a client that has sent more than is read; that clients that send nothing, stop inside
-a message or read nothing are left after PATIENCE seconds, and what they began is not done; that nobody connects once the last
-connection is taken, nor to another address of this machine. It takes some 60 seconds, nearly all of them waiting, and ends with 1
-where something is other than wanted."""
+curl; that an answer that closes reaches a client that has sent more than is read, and that one that goes on sending a little, or is
+silent, then holds nobody up for more than LAST seconds; that clients that send nothing, stop inside a message or read nothing are
+left after PATIENCE seconds, and what they began is not done; that nobody connects once the last connection is taken, nor to another
+address of this machine. It takes some 90 seconds, nearly all of them waiting, and ends with 1 where something is other than wanted."""
 import contextlib
 import os
 import re
@@ -15,10 +15,13 @@ import socket
 import subprocess
 import sys
 import tempfile
+import threading
 import time
 
 PATIENCE = 10
 LATE = 5
+LAST = 30
+LAST_SILENCE = 4
 HERE = "127.0.0.1"
 SETTINGS = "--country GB --repo 0999 --seats 2 --daily 3 --hands 1 --run 2 --day 2024-03-01".split()
 FONDS = b"GET /public/fonds HTTP/1.1\r\nHost: x\r\n\r\n"
@@ -156,8 +159,8 @@ def writes(program, port):
 
 def not_lost(program, port):
     """An answer that closes, where the client has sent much more than is read."""
-    with Server(program, port, 5) as server:
-        for more in (0, 1, 100_000, 4_000_000):
+    with Server(program, port, 6) as server:
+        for more in (0, 1, 100_000, 4_000_000, 8_388_608):
             with server.client() as client:
                 with contextlib.suppress(ConnectionError):
                     client.sendall(REFUSED + b"x" * more)
@@ -170,6 +173,31 @@ def not_lost(program, port):
                 same(f"all of it, with {more} bytes more", (body, after, end), (BAD, b"", b""))
         same("then the next", asked(server, "after these")[1], b"1 GB 0999 HUL [Fonds] Hull Dock Company\n")
         server.ends_well("the end after these")
+
+
+def trickling(program, port):
+    """After an answer that closes, a client that sends nothing more, and one that sends a byte forty times a second."""
+    with Server(program, port, 4) as server:
+        with server.client() as client:
+            same("the answer that closes", status(message_of(client, REFUSED)[0]), b"HTTP/1.1 400 Bad Request")
+            taken, _ = asked(server, "silent after its last answer")
+            same(f"silent after its last answer: left within {LAST_SILENCE} seconds", taken < LAST_SILENCE, True)
+        with server.client() as client:
+            same("the answer that closes", status(message_of(client, REFUSED)[0]), b"HTTP/1.1 400 Bad Request")
+            over = threading.Event()
+            sender = threading.Thread(target=trickle, args=(client, over))
+            sender.start()
+            taken, _ = asked(server, "a byte at a time after its last answer")
+            over.set()
+            sender.join()
+            same(f"a byte at a time after its last answer: left within {LAST} seconds", taken < LAST, True)
+        server.ends_well("the end after these")
+
+
+def trickle(client, over):
+    with contextlib.suppress(OSError):
+        while not over.wait(0.025):
+            client.sendall(b"x")
 
 
 def silent(program, port):
@@ -229,7 +257,7 @@ def others():
 def main():
     program = os.path.realpath(sys.argv[1])
     port = int(sys.argv[2]) if len(sys.argv) > 2 else 20000 + os.getpid() % 20000
-    for test in (kept_open, writes, not_lost, silent, unread, nobody_else):
+    for test in (kept_open, writes, not_lost, trickling, silent, unread, nobody_else):
         test(program, port)
     sys.exit(1 if wrong else 0)
 

@@ -187,20 +187,33 @@ fn spans_move(rt: HostRuntime) -> Result<(), Fail> {
     Ok(())
 }
 
-const CHANGES: [Change; 3] = [
-    Change::Move(2, Some(4)),
-    Change::Cut(1),
-    Change::Add(Some(2), 5),
-];
-
 /// Each change either happens or, where memory is refused, leaves the rows.
 #[test]
 fn links_change_or_stay(rt: HostRuntime) -> Result<(), Fail> {
-    for change in CHANGES {
-        let mut rows = Vec::from_slice(rt.alloc(), &worked_links())?;
-        if change.of_links(&mut rows).is_err() {
-            assert_eq!(rt; rows.as_slice(), worked_links().as_slice());
-        }
+    let moved = [
+        link(1, None, 1),
+        link(2, Some(4), 1),
+        link(3, Some(1), 1),
+        link(4, None, 2),
+    ];
+    let added = [
+        link(1, None, 1),
+        link(2, Some(1), 1),
+        link(3, Some(1), 2),
+        link(4, None, 2),
+        link(5, Some(2), 1),
+    ];
+    let changes = [
+        (Change::Move(2, Some(4)), &moved[..]),
+        (Change::Cut(1), &[link(4, None, 1)][..]),
+        (Change::Add(Some(2), 5), &added[..]),
+    ];
+    let worked = worked_links();
+    for (change, changed) in changes {
+        let mut rows = Vec::from_slice(rt.alloc(), &worked)?;
+        let is_done = change.of_links(&mut rows).is_ok();
+        let wanted = if is_done { changed } else { &worked[..] };
+        assert_eq!(rt; rows.as_slice(), wanted);
     }
     Ok(())
 }
@@ -208,11 +221,25 @@ fn links_change_or_stay(rt: HostRuntime) -> Result<(), Fail> {
 /// Each change either happens or, where memory is refused, leaves the rows.
 #[test]
 fn spans_change_or_stay(rt: HostRuntime) -> Result<(), Fail> {
-    for change in CHANGES {
-        let mut rows = Vec::from_slice(rt.alloc(), &worked_spans())?;
-        if change.of_spans(&mut rows).is_err() {
-            assert_eq!(rt; rows.as_slice(), worked_spans().as_slice());
-        }
+    let moved = [span(1, 1, 4), span(3, 2, 3), span(4, 5, 8), span(2, 6, 7)];
+    let added = [
+        span(1, 1, 8),
+        span(2, 2, 5),
+        span(5, 3, 4),
+        span(3, 6, 7),
+        span(4, 9, 10),
+    ];
+    let changes = [
+        (Change::Move(2, Some(4)), &moved[..]),
+        (Change::Cut(1), &[span(4, 1, 2)][..]),
+        (Change::Add(Some(2), 5), &added[..]),
+    ];
+    let worked = worked_spans();
+    for (change, changed) in changes {
+        let mut rows = Vec::from_slice(rt.alloc(), &worked)?;
+        let is_done = change.of_spans(&mut rows).is_ok();
+        let wanted = if is_done { changed } else { &worked[..] };
+        assert_eq!(rt; rows.as_slice(), wanted);
     }
     Ok(())
 }

@@ -7,21 +7,24 @@ use http_desk::session_end::Ended;
 use http_desk::streams::{Sink, Source};
 use office::Machine;
 use std::alloc::Global;
-use std::io::Read;
+use std::io::{ErrorKind, Read};
 use std::net::{Shutdown, TcpListener, TcpStream};
 use std::time::Duration;
 
 /// How many seconds a read or a write waits for the client.
 const PATIENCE: u64 = 10;
 
-/// How many seconds a read waits, once the last answer is written.
-const LAST_PATIENCE: u64 = 2;
+/// How many milliseconds a read waits, once the last answer is written.
+const LAST_PATIENCE: u64 = 50;
 
-/// How many reads are made once the last answer is written.
-const LAST_READS: u32 = 1024;
+/// How many such reads are made: 26 seconds at most, and 8 MiB where each takes 16 KiB.
+const LAST_READS: u32 = 512;
+
+/// How many of them may find nothing: two seconds.
+const LAST_SILENCES: u32 = 40;
 
 /// How many bytes such a read takes at most.
-const LAST_CHUNK: usize = 16_384;
+const LAST_CHUNK: usize = 65_536;
 
 // Has each write sent at once, and each read and write fail that waits too long. A system that refuses an option is
 // asked for the answers all the same.
@@ -35,16 +38,21 @@ fn set_up(stream: &TcpStream) {
 // Ends what is written, and reads away what still comes, so that the last answer reaches its client: a system that
 // closes a connection with bytes unread resets it (RFC 9112, 9.6).
 fn close(stream: &TcpStream) {
-    if stream.shutdown(Shutdown::Write).is_err() {
+    let patience = Some(Duration::from_millis(LAST_PATIENCE));
+    if stream.shutdown(Shutdown::Write).is_err() || stream.set_read_timeout(patience).is_err() {
         return;
     }
-    let _ = stream.set_read_timeout(Some(Duration::from_secs(LAST_PATIENCE)));
     let mut reader = stream;
     let mut chunk = [0u8; LAST_CHUNK];
+    let mut silences = 0;
     for _read in 0..LAST_READS {
         match reader.read(&mut chunk) {
-            Ok(0) | Err(_) => return,
+            Ok(0) => return,
             Ok(_) => {}
+            Err(error) if error.kind() == ErrorKind::WouldBlock && silences < LAST_SILENCES => {
+                silences += 1;
+            }
+            Err(_) => return,
         }
     }
 }

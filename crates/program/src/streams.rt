@@ -5,7 +5,7 @@
 //! themselves.
 ghost use Rattle.std.specs.Prelude.{◌≡◌, ◌≤◌, ◌++◌, ℕ, List, [], IfOk, OnOk, codes};
 ghost use Rattle.std.specs.Io.KnownBytes.{Appends, Consumes, IsAtEnd};
-ghost use Rattle.program.specs.Streams.{IsFront};
+ghost use Rattle.program.specs.Streams.{IsFront, most_calls};
 
 use std::alloc::{AllocError, Global};
 use std::io::{ErrorKind, Read, Write};
@@ -33,11 +33,15 @@ impl From<AllocError> for ReadFault {
 #[derive(Clone, Copy, Debug, PartialEq, Eq, Drop)]
 pub struct WriteFault;
 
-/// How many reads of a stream are made, and how many writes.
-const CALLS: u32 = u32::MAX;
-
 /// How many bytes one read asks for.
 const CHUNK: usize = 65_536;
+
+/// How many reads of a stream are made, and how many writes or flushes.
+pub fn most_calls() -> u32
+    ensures { result ≡ most_calls }
+{
+    u32::MAX
+}
 
 /// Reads to the end.
 pub fn read_to_end<R: Read>(alloc: Global, reader: &mut R) -> Result<Vec<u8>, ReadFault>
@@ -47,7 +51,7 @@ pub fn read_to_end<R: Read>(alloc: Global, reader: &mut R) -> Result<Vec<u8>, Re
     // In any case, the reader has lost only a front of what it had left.
     ensures front { (gone : List ℕ) × Consumes (R.remaining reader.old) (R.remaining reader.new) gone }
 {
-    read_within(alloc, reader, CALLS)
+    read_within(alloc, reader, most_calls())
 }
 
 // Reads to the end, in at most so many reads.
@@ -82,7 +86,7 @@ pub fn write_whole<W: Write>(writer: &mut W, bytes: &[u8]) -> Result<(), WriteFa
     if bytes.is_empty() {
         return Ok(());
     }
-    write_within(writer, bytes, CALLS)?;
+    write_within(writer, bytes, most_calls())?;
     flush(writer)
 }
 
@@ -92,7 +96,7 @@ pub fn write_line<W: Write>(writer: &mut W, bytes: &[u8]) -> Result<(), WriteFau
     ensures front { (written : List ℕ) × IsFront written (bytes.now ++ codes "\n")
         × Appends (W.contents writer.old) (W.contents writer.new) written }
 {
-    line_within(writer, bytes, CALLS)?;
+    line_within(writer, bytes, most_calls())?;
     flush(writer)
 }
 
@@ -140,7 +144,7 @@ pub fn write_within<W: Write>(writer: &mut W, bytes: &[u8], writes: u32) -> Resu
 fn flush<W: Write>(writer: &mut W) -> Result<(), WriteFault>
     ensures { Appends (W.contents writer.old) (W.contents writer.new) [] }
 {
-    for _flush in 0..CALLS {
+    for _flush in 0..most_calls() {
         match writer.flush() {
             Ok(()) => return Ok(()),
             Err(error) => {

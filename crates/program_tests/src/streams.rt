@@ -1,7 +1,9 @@
 //! How many reads and writes are made of a stream.
 
 use crate::fakes::{Page, Pieces};
-use program::streams::{line_within, read_within, write_within};
+use program::streams::{
+    line_within, most_calls, read_to_end, read_within, write_line, write_whole, write_within,
+};
 use std::test::Fail;
 
 // Three bytes and the end come in eight reads, four of them interrupted, and go in six writes; so do two and a
@@ -22,5 +24,19 @@ fn calls_are_counted(rt: HostRuntime) -> Result<(), Fail> {
     }
     let mut full = Page::interrupted(Vec::new(rt.alloc()), 0);
     assert!(rt; write_within(&mut full, b"abc", 10).is_err());
+    Ok(())
+}
+
+// A stream that is interrupted a hundred thousand times is read and written all the same.
+#[test]
+fn interruptions_are_endured(rt: HostRuntime) -> Result<(), Fail> {
+    assert_eq!(rt; most_calls(), 4_294_967_295);
+    let bytes = [b'a'; 100_000];
+    let read = read_to_end(rt.alloc(), &mut Pieces::interrupted(&bytes, 1));
+    assert!(rt; read.is_ok());
+    let mut page = Page::interrupted(Vec::new(rt.alloc()), 1);
+    assert!(rt; write_whole(&mut page, &bytes).is_ok());
+    assert!(rt; write_line(&mut page, &bytes).is_ok());
+    assert_eq!(rt; page.held.len(), 200_001);
     Ok(())
 }
