@@ -35,7 +35,7 @@ DOCUMENT = TOP / "docs" / "OPERATING.md"
 BUILT = TOP / "crates" / "record_office" / "out" / "record_office"
 PORTS = range(8080, 8100)
 PLACES = ("here", "package", "hand")
-LONGEST = 60
+LONGEST = 120
 
 
 class Block:
@@ -100,9 +100,10 @@ class Shell:
         return self.until_end(f"{command}\n")
 
     def serve(self, command):
-        """Begins a server in the background; its answer is what it says within ten seconds, which is its first line."""
+        """Begins a server in the background; its answer is its first line."""
+        command = command.removesuffix(" &")
         return self.until_end(
-            f"{command} >served.txt 2>&1 </dev/null &\nfor i in $(seq 100); do grep -q . served.txt && break; sleep 0.1; done; cat served.txt\n"
+            f"{command} >served.txt 2>&1 </dev/null &\nfor i in $(seq 600); do grep -q . served.txt && break; sleep 0.1; done; cat served.txt\n"
         )
 
     def until_end(self, text):

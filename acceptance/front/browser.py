@@ -1,6 +1,7 @@
 """A headless Chromium over its DevTools protocol, by a pipe: one JSON message after the other, each ended by a zero."""
 
 import base64
+import contextlib
 import json
 import os
 import select
@@ -10,6 +11,8 @@ import time
 FLAGS = ["--headless=new", "--remote-debugging-pipe", "--no-sandbox", "--disable-gpu", "--hide-scrollbars", "--no-first-run",
          "--disable-extensions", "--disable-background-networking", "--disable-component-update", "--disable-sync",
          "--force-prefers-reduced-motion"]
+
+ANSWERED_HERE = "/no/such/file/of/the/front"
 
 
 class Browser:
@@ -51,7 +54,7 @@ class Browser:
 
     def _message(self):
         while b"\0" not in self.rest:
-            ready = select.select([self.read], [], [], 60)[0]
+            ready = select.select([self.read], [], [], 120)[0]
             piece = os.read(self.read, 1 << 20) if ready else b""
             if not piece:
                 raise RuntimeError("the browser is gone, or says nothing")
@@ -65,16 +68,18 @@ class Browser:
         return Page(self, session, headers)
 
     def end(self):
-        try:
+        with contextlib.suppress(RuntimeError, OSError):
             self.call("Browser.close")
-        except RuntimeError:
-            pass
-        self.process.wait(20)
+        try:
+            self.process.wait(20)
+        except subprocess.TimeoutExpired:
+            self.process.kill()
+            self.process.wait()
 
 
 class Page:
     def __init__(self, browser, session, headers):
-        self.browser, self.session = browser, session
+        self.browser, self.session, self.opened = browser, session, 0
         for domain in ("Page", "Runtime", "Log", "Network"):
             self.call(f"{domain}.enable")
         if headers:
@@ -93,19 +98,25 @@ class Page:
             raise RuntimeError(f"{code}: {got['exceptionDetails']['exception'].get('description')}")
         return got["result"].get("value")
 
-    def wait(self, condition, seconds=20):
+    def wait(self, condition, seconds=60):
+        """Until the condition holds. While another page comes there is none to ask, and the question is put again."""
         end = time.time() + seconds
         while time.time() < end:
-            if self.js(f"Boolean({condition})"):
-                return
+            try:
+                if self.js(f"Boolean({condition})"):
+                    return
+            except RuntimeError as lost:
+                if not any(word in str(lost) for word in ("context", "navigated", "Cannot read properties of null")):
+                    raise
             time.sleep(0.03)
         raise AssertionError(f"not within {seconds} s: {condition}\n--- the page shows:\n{self.text()}")
 
-    def open(self, url, condition="document.querySelector('main h1')"):
+    def open(self, site, hash_, condition="document.querySelector('main h1')"):
+        """Loads a page of the site anew: what stands behind the `?` is another each time, and nothing looks at it."""
+        self.opened += 1
         self.call("Page.bringToFront")
-        self.call("Page.navigate", url="about:blank")
-        self.call("Page.navigate", url=url)
-        self.wait(f"document.readyState === 'complete' && {condition}")
+        self.call("Page.navigate", url=f"{site}/?{self.opened}#{hash_}")
+        self.wait(f"location.search === '?{self.opened}' && document.readyState === 'complete' && {condition}")
 
     def go(self, hash_, condition="true"):
         """To another page of the same site, by its address alone."""
@@ -118,7 +129,7 @@ class Page:
     def text(self, selector="main"):
         return self.js(f"document.querySelector({json.dumps(selector)})?.innerText ?? ''")
 
-    def see(self, words, selector="main", seconds=20):
+    def see(self, words, selector="main", seconds=60):
         quoted, place = json.dumps(words), json.dumps(selector)
         self.wait(f"(document.querySelector({place})?.innerText ?? '').includes({quoted})", seconds)
 
@@ -133,6 +144,14 @@ class Page:
 
     def press_starting(self, words):
         self.js(f"[...document.querySelectorAll('summary, button, a')].find((one) => one.textContent.startsWith({json.dumps(words)})).click()")
+
+    def second_click(self, button):
+        """What the second click of two does on this button, wherever the first one was."""
+        place = self.js(f"({PLACE})({json.dumps(button)})")
+        self.js("window.clicked = false; document.addEventListener('click', () => { window.clicked = true; }, { once: true, capture: true })")
+        for kind in ("mousePressed", "mouseReleased"):
+            self.call("Input.dispatchMouseEvent", type=kind, button="left", clickCount=2, x=place[0], y=place[1])
+        self.wait("window.clicked")
 
     def key_in(self, label, key, card=None):
         self.js(f"({FIND})({json.dumps(label)}, {json.dumps(card)}, (input) => input.focus())")
@@ -178,12 +197,18 @@ class Page:
         path.write_bytes(base64.b64decode(got["data"]))
 
     def answer_with(self, pattern, status, body):
-        """The browser itself answers requests like `pattern`, or no more where it is None."""
+        """The browser itself answers requests like `pattern`, or no more where it is None. It tells that it will before it does,
+        so a request of ours is put until it is answered so."""
         self.browser.answer = (status, body)
-        if pattern:
-            self.call("Fetch.enable", patterns=[{"urlPattern": pattern}])
-        else:
+        if pattern is None:
             self.call("Fetch.disable")
+            return
+        self.call("Fetch.enable", patterns=[{"urlPattern": pattern}, {"urlPattern": f"*{ANSWERED_HERE}"}])
+        end = time.time() + 60
+        while self.js(f"fetch('{ANSWERED_HERE}').then((answer) => answer.status)") != status:
+            if time.time() > end:
+                raise AssertionError(f"the browser does not answer {pattern}")
+            time.sleep(0.03)
 
     def complaints(self):
         """What the browser said of the pages: blocked by their policy, scripts that failed, files that were not there."""
@@ -193,7 +218,7 @@ class Page:
                 continue
             if event["method"] == "Log.entryAdded":
                 entry = event["params"]["entry"]
-                if entry["source"] != "network":
+                if entry["source"] not in ("network", "violation", "intervention"):  # the last two are of a slow machine
                     said.append(entry["text"])
             if event["method"] == "Runtime.exceptionThrown":
                 said.append(event["params"]["exceptionDetails"]["exception"].get("description", "exception"))
@@ -209,3 +234,7 @@ PRESS = """(button, card) => { %s
   const words = (one) => one.textContent.replace(/\\s+/g, ' ').trim();
   const found = [...scope.querySelectorAll('button, summary, a')].find((one) => words(one) === button);
   if (!found) throw new Error('no button ' + button); found.click(); }""" % SCOPE
+PLACE = """(button) => { const words = (one) => one.textContent.replace(/\\s+/g, ' ').trim();
+  const found = [...document.querySelectorAll('button')].find((one) => words(one) === button);
+  found.scrollIntoView({ block: 'center' }); const { left, top, width, height } = found.getBoundingClientRect();
+  return [left + width / 2, top + height / 2]; }"""

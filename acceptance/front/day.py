@@ -10,18 +10,20 @@ FAR = "2030-12-31"
 
 
 class Day:
+    name = "desk"
+
     def __init__(self, checks, asks, page, visit, shot, folder):
         self.checks, self.asks, self.page, self.visit, self.shot, self.folder = checks, asks, page, visit, shot, folder
         self.site = asks.office.staff
 
     def at(self, hash_):
-        self.page.open(f"{self.site}/#{hash_}")
+        self.page.open(self.site, hash_)
         return self.page
 
     def play(self):
         for part in (self.registers, self.finds, self.reader_orders, self.desk_orders, self.fetches, self.counter, self.waits,
                      self.out, self.takes_back, self.permits, self.units, self.removes, self.next_day, self.keyboard, self.slow,
-                     self.uncertain, self.every_form_is_held):
+                     self.uncertain, self.every_form_is_held, self.second_clicks):
             self.checks.part(f"day: {part.__name__}", part)
 
     # The catalogue comes in
@@ -169,6 +171,11 @@ class Day:
         page.key_in("Container", "Enter", "Issue")
         page.wait("document.activeElement.innerText === 'Give ticket 1 a seat and issue'")
         page.key("Enter", repeat=True)
+        page.answer_with("*/desk/seat", 503, b'{"error":"busy"}')
+        page.key("Enter")
+        page.see("Press the button again, which does no harm: nobody gets two seats.")
+        page.answer_with(None, 0, b"")
+        self.checks.same("a seat of which nothing is known may be asked for again", page.focused(), "Give ticket 1 a seat and issue")
         page.key("Enter")
         page.see("Issued: Box 1, container")
         page.wait("document.activeElement.name === 'ticket'")
@@ -282,7 +289,11 @@ class Day:
 
     def units(self):
         letters, minutes, fonds = (str(self.unit(name)) for name in ("letters", "minutes", "fonds"))
-        self.asks.done("/desk/closure", unit=int(minutes), until=None)
+        page = self.at(f"/units/{minutes}")
+        page.press("Set the closure", "Closure")
+        page.press("End the closure", "Closure")
+        page.see("No longer closed.")
+        self.checks.check("an empty day sets no closure, and ends none", "Minutes" in page.text("pre.page"))
         page = self.at(f"/units/{letters}")
         page.see("Nothing: it is a draft")
         page.choose("Published", "Status")
@@ -292,6 +303,13 @@ class Day:
         page.press("Move", "Move")
         page.see(f"It is now the last below unit {minutes}.")
         self.checks.check("it stands there for the public", "Letters of the secretary" in self.asks.text(f"/public/units/{minutes}"))
+        time.sleep(0.65)
+        page.press("Make it a top unit", "Move")
+        page.see("It is now the last of the top units.")
+        self.checks.check("it is a top unit", self.asks.text("/public/fonds").endswith("Letters of the secretary\n"))
+        page.fill("Below which unit", minutes, "Move")
+        page.press("Move", "Move")
+        page.see(f"It is now the last below unit {minutes}.")
         page = self.at(f"/units/{fonds}")
         page.fill("Below which unit", minutes, "Move")
         page.press("Move", "Move")
@@ -413,7 +431,9 @@ class Day:
                 ("/readers/1", "Renew", {"New last day": FAR}, "Renew", "renew"),
                 ("/readers/1", "Give a permit", {"Unit": plans, "Last day of the permit": FAR}, "Give a permit", "permit"),
                 (f"/units/{plans}", "Closure", {"Closed until": FAR}, "Set the closure", "closure"),
-                (f"/units/{plans}", "Move", {"Below which unit": ""}, "Move", "move")):
+                (f"/units/{plans}", "Closure", {}, "End the closure", "closure"),
+                (f"/units/{plans}", "Move", {"Below which unit": "1"}, "Move", "move"),
+                (f"/units/{plans}", "Move", {}, "Make it a top unit", "move")):
             self.is_held(hash_, card, fields, button, route)
 
     def is_held(self, hash_, card, fields, button, route):
@@ -429,6 +449,26 @@ class Day:
         page.press("It was done", card)
         self.checks.check(f"{hash_} {button} is held, shows where to look, and opens", "Look before you repeat it." not in page.text())
 
+    def second_clicks(self):
+        """The second click of two gives no command, also where another button has come to stand below the pointer."""
+        first, second = (self.asks.done("/public/orders", ticket=2, container=int(self.container(name)))["order"] for name in ("Box 2", "Roll 7"))
+        page = self.at("/readers/2")
+        page.press(f"Cancel order {first}")
+        page.see(f"Order {first} is cancelled.")
+        page.second_click(f"Cancel order {second}")
+        self.checks.same("no form waits for an answer then", page.js("document.querySelectorAll('form [aria-disabled=true]').length"), 0)
+        states = {order["order"]: order["state"] for order in json.loads(self.asks.text("/desk/readers/2", True))["orders"]}
+        self.checks.same("two clicks cancel one order", states, {second: "waiting"})
+        plans = self.unit("plans")
+        page = self.at(f"/units/{plans}")
+        page.press("Remove …", "Remove")
+        page.see("for good?", "dialog")
+        page.second_click(f"Remove unit {plans}")
+        self.checks.check("two clicks do not remove a unit", page.js("document.querySelector('dialog').open"))
+        page.press("Keep it", "dialog")
+        page.see("Nothing was removed.")
+        self.asks.done("/desk/cancel", order=second)
+
     def slow(self):
         """What is scanned while the office is slow is not taken, and the clerk is told."""
         page = self.at("/counter")
@@ -438,7 +478,7 @@ class Day:
             page.see("Waiting for the office …")
             page.scan("997")
             self.checks.same("the field keeps the first number", page.js("document.activeElement.value"), "998")
-        page.see("There is no container with this number.", seconds=30)
+        page.see("There is no container with this number.")
         self.checks.check("the clerk is told of the second number", "was not taken: please do it again" in page.text(), page.text())
 
     def unsent(self):

@@ -13,6 +13,7 @@ import hashlib
 import os
 import pathlib
 import pwd
+import random
 import re
 import shutil
 import signal
@@ -42,9 +43,9 @@ include office.conf; }}
 
 
 def free_ports(many, first=20000, last=20999):
-    """So many ports of 127.0.0.1 that nobody listens on."""
-    found = []
-    for port in range(first, last + 1):
+    """So many ports of 127.0.0.1 that nobody listens on, from any place on: two runs at a time seldom meet."""
+    found, begin = [], random.randrange(first, last + 1)
+    for port in [*range(begin, last + 1), *range(first, begin)]:
         with socket.socket() as probe, contextlib.suppress(OSError):
             probe.setsockopt(socket.SOL_SOCKET, socket.SO_REUSEADDR, 1)
             probe.bind(("127.0.0.1", port))
@@ -122,7 +123,11 @@ class Office:
         if self.serving:
             self.serving.kill()
         for process in [*self.processes, *([self.serving] if self.serving else [])]:
-            process.wait(20)
+            try:
+                process.wait(20)
+            except subprocess.TimeoutExpired:
+                process.kill()
+                process.wait()
 
     def __enter__(self):
         return self if self.running else self.begin()

@@ -31,7 +31,7 @@ class Refusals:
     def words(self):
         """The module of texts has all of the program's list, no other, and two sentences for each."""
         self.names = listed()
-        self.page.open(f"{self.site}/#/")
+        self.page.open(self.site, "/")
         module = "import('/shared/refusals.js')"
         table = self.page.js(module + ".then((told) => told.DESK)")
         self.checks.same("the program's list has 28", sorted(self.names), list(range(1, 29)))
@@ -51,7 +51,7 @@ class Refusals:
 
     def meets(self, code, hash_, card, fields, button, more=""):
         """Fills in a form, presses its button, and sees the words of the module for this number."""
-        self.page.open(f"{self.site}/#{hash_}")
+        self.page.open(self.site, hash_)
         for label, value in fields.items():
             if value is True:
                 self.page.choose(label, card)
@@ -84,7 +84,7 @@ class Refusals:
         self.meets(2, "/counter", "A reader arrives", {"Ticket": "99"}, "Give a seat")
         self.meets(4, "/counter", "A reader arrives", {"Ticket": "4"}, "Give a seat")
         self.meets(27, "/readers", "Register a reader", {"Name": "   ", "Last day of the ticket": "2030-01-01"}, "Register")
-        self.page.open(f"{self.site}/#/runs/99")
+        self.page.open(self.site, "/runs/99")
         self.page.see("There is nothing with this number.")
 
     def seats(self):
@@ -123,7 +123,7 @@ class Refusals:
         self.meets(1, "/units/9999", "Status", {"Published": True}, "Set the status")
         self.meets(20, "/units/106", "Move", {"Below which unit": "107"}, "Move")
         self.meets(25, "/units/1", "Move", {"Below which unit": "169"}, "Move")
-        self.page.open(f"{self.site}/#/import")
+        self.page.open(self.site, "/import")
         (self.folder / "bad.csv").write_text(catalogue.BAD_FILE)
         self.page.file(self.folder / "bad.csv")
         self.page.press("Take the file in")
@@ -136,10 +136,10 @@ class Refusals:
             self.asks.done("/desk/permit", ticket=3, unit=unit, until="2030-01-01")
         self.meets(23, "/readers/3", "Give a permit", {"Unit": "101", "Last day of the permit": "2030-01-01"}, "Give a permit",
                    ("The reader has 100 permits", "Take a permit away on the reader’s card first."))
-        self.page.open(f"{self.site}/#/readers/3")
+        self.page.open(self.site, "/readers/3")
         self.asks.done("/desk/revoke", ticket=3, unit=100)
         self.page.press("Take away the permit for unit 100")
         self.sees(28)
-        self.page.open(f"{self.site}/#/runs")
+        self.page.open(self.site, "/runs")
         self.page.press("Begin a run")
         self.sees(24, ("There is nothing to fetch", "There is nothing to do now."))

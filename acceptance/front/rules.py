@@ -17,7 +17,7 @@ ODD_PATHS = [form.format(way) for way in ("desk/issued", "desk/run", "desk/regis
 
 
 def raw(port, text, body=b""):
-    with socket.create_connection(("127.0.0.1", port), 20) as it:
+    with socket.create_connection(("127.0.0.1", port), 90) as it:
         it.sendall(text.encode("latin-1") + body)
         got = b""
         while piece := it.recv(65536):

@@ -36,36 +36,32 @@ def play(checks, visit, day, shot):
     readers = ["/", f"/unit/{fonds}", f"/unit/{plans}", f"/unit/{odd}", f"/aid/{fonds}", "/help", "/unit/999"]
     staff = ["/", "/counter", "/counter/1", "/readers", "/readers/1", "/orders", "/runs", "/runs/1", "/out", "/units",
              f"/units/{plans}", "/import"]
-    pages = [(visit, hash_) for hash_ in readers] + [(day, hash_) for hash_ in staff]
-    for width in WIDTHS:
-        checks.part(f"shapes: {width} wide", width_of, checks, visit, day, pages, width, shot)
-    checks.part("shapes: parts", parts, checks, pages)
-    for page in (visit.page, day.page):
-        page.size(1200, 850)
+    for part, at, hashes in (("shapes: readers", visit, readers), ("shapes: staff", day, staff)):
+        checks.part(part, all_of, checks, at, hashes, shot)
+        at.page.size(1200, 850)
 
 
-def width_of(checks, visit, day, pages, width, shot):
-    for page in (visit.page, day.page):
-        page.size(width, 800, 1, width == 320)
-    for at, hash_ in pages:
+def all_of(checks, at, hashes, shot):
+    for hash_ in hashes:
         page = at.at(hash_)
-        over = page.js("document.documentElement.scrollWidth - innerWidth")
-        checks.check(f"nothing runs over at {width}: {hash_}", over <= 0, over)
-        if width == 320:
-            shot(page, f"phone-{'reader' if at is visit else 'desk'}{hash_.replace('/', '-')}")
+        for width in WIDTHS:
+            page.size(width, 800, 1, width == 320)
+            page.wait(f"innerWidth === {width}")
+            over = page.js("document.documentElement.scrollWidth - innerWidth")
+            checks.check(f"nothing runs over at {width}: {hash_}", over <= 0, over)
+            if width == 320:
+                shot(page, f"phone-{at.name}{hash_.replace('/', '-')}")
+        parts(checks, page, hash_)
 
 
-def parts(checks, pages):
-    for at, hash_ in pages:
-        page = at.at(hash_)
-        checks.same(f"one h1: {hash_}", page.js("document.querySelectorAll('h1').length"), 1)
-        checks.same(f"all that can be used has a name: {hash_}", page.js(NAMED), [])
-        checks.same(f"parts of a page: {hash_}", page.js(LACKING), [])
-        order = page.js("[...document.querySelectorAll('main :is(h1, h2, h3, h4, h5, h6)')].map((one) => +one.tagName[1])")
-        checks.check(f"headings go down by one: {hash_}", all(b <= a + 1 for a, b in zip([0, *order], order)), order)
-        ids = page.js("[...document.querySelectorAll('[id]')].map((one) => one.id)")
-        checks.same(f"no id stands twice: {hash_}", len(ids), len(set(ids)))
-        checks.same(f"every text has contrast: {hash_}", page.js(CONTRAST), [])
-        lively = page.js("[...document.querySelectorAll('form.command')].every((form) => form.querySelector('[role=status]'))")
-        checks.check(f"each outcome is told: {hash_}", lively)
-
+def parts(checks, page, hash_):
+    checks.same(f"one h1: {hash_}", page.js("document.querySelectorAll('h1').length"), 1)
+    checks.same(f"all that can be used has a name: {hash_}", page.js(NAMED), [])
+    checks.same(f"parts of a page: {hash_}", page.js(LACKING), [])
+    order = page.js("[...document.querySelectorAll('main :is(h1, h2, h3, h4, h5, h6)')].map((one) => +one.tagName[1])")
+    checks.check(f"headings go down by one: {hash_}", all(b <= a + 1 for a, b in zip([0, *order], order)), order)
+    ids = page.js("[...document.querySelectorAll('[id]')].map((one) => one.id)")
+    checks.same(f"no id stands twice: {hash_}", len(ids), len(set(ids)))
+    checks.same(f"every text has contrast: {hash_}", page.js(CONTRAST), [])
+    lively = page.js("[...document.querySelectorAll('form.command')].every((form) => form.querySelector('[role=status]'))")
+    checks.check(f"each outcome is told: {hash_}", lively)

@@ -18,12 +18,14 @@ AID = """[...document.querySelectorAll('.aid [data-depth]')].map((row) => '  '.r
 
 
 class Visit:
+    name = "reader"
+
     def __init__(self, checks, asks, page, shot):
         self.checks, self.asks, self.page, self.shot = checks, asks, page, shot
         self.site = asks.office.public
 
     def at(self, hash_):
-        self.page.open(f"{self.site}/#{hash_}")
+        self.page.open(self.site, hash_)
         return self.page
 
     def play(self):
@@ -102,6 +104,7 @@ class Visit:
             self.checks.same(f"the finding aid of unit {number} to the letter", page.js(AID), self.asks.text(f"/public/aid/{number}"))
         heads = page.js("[...document.querySelectorAll('.aid .unit')].every((head) => /^H[2-6]$/.test(head.tagName))")
         self.checks.check("each unit of an aid is a heading", heads)
+        page = self.at(f"/aid/{self.number_of('Hull Dock Company', 'HUL')}")
         self.shot(page, "reader-aid", full=False)
         self.shot(page, "reader-aid-printed", printed=True)
 

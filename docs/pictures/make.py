@@ -47,7 +47,7 @@ def shoot(office, browser):
     for name, desk, place in SHOTS:
         page = browser.page(SIGNED_IN if desk else None)
         page.size(WIDTH, HEIGHT)
-        page.open(f"{office.staff if desk else office.public}/#{place}")
+        page.open(office.staff if desk else office.public, place)
         page.shot(HERE / f"{name}.png", full=not desk)
         print(f"{name}.png: {(HERE / f'{name}.png').stat().st_size} bytes")
 

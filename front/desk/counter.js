@@ -3,7 +3,7 @@
 
 import { el } from '../shared/dom.js';
 import { numberField } from '../shared/fields.js';
-import { commandForm } from '../shared/form.js';
+import { commandForm, note } from '../shared/form.js';
 import { numberOf } from '../shared/numbers.js';
 import { deskWords } from '../shared/refusals.js';
 import { go } from '../shared/router.js';
@@ -14,6 +14,7 @@ import { card, lookUp, problem, said } from './parts.js';
 import { showReader } from './reader_at_counter.js';
 
 const KEPT = 12; // so many containers that came back are listed
+const UNKNOWN_SEAT = 'The office did not say whether the seat was given. Press the button again, which does no harm: nobody gets two seats.';
 
 export function counterPage() {
   const ticket = numberField('ticket', 'Ticket', { hint: 'Scan or type, then Enter.' });
@@ -88,19 +89,27 @@ function readerOf(answer, ticket) {
 }
 
 function seatButton(ticket, again) {
-  const place = el('p', {});
+  const place = el('div', {});
   const give = el('button', { type: 'button', class: 'plain', click: () => seat(ticket, give, place, again) },
     `Give ticket ${ticket} a seat and issue`);
   place.append(give);
   return place;
 }
 
+/** A reader who has a seat already is not given another, so nothing is held here: the same once more does no harm. */
 async function seat(ticket, give, place, again) {
   if (give.getAttribute('aria-disabled') === 'true') return;
   give.setAttribute('aria-disabled', 'true');
   const answer = await takeSeat(ticket);
-  if (answer.ok || answer.code === 9) again();
-  else place.replaceChildren(problem(answer));
+  if (answer.ok || answer.code === 9) {
+    again();
+    return;
+  }
+  give.removeAttribute('aria-disabled');
+  place.replaceChildren(answer.kind === 'uncertain' ? note('refused', el('p', {}, UNKNOWN_SEAT)) : problem(answer));
+  if (answer.kind === 'refused') return;
+  place.append(give);
+  give.focus();
 }
 
 function returnForm() {

@@ -1,13 +1,14 @@
 // A question before what cannot be taken back. The answer that changes nothing has the focus.
 
 import { el } from '../shared/dom.js';
+import { stopSecondClick } from '../shared/form.js';
 
 /** An answer of the form's own where somebody thought better of it. */
 export const STAYED = { ok: false, kind: 'stayed' };
 
 export function isSure({ title, content, stay, go, kind = '' }) {
   const keep = el('button', { value: 'stay', class: 'plain', autofocus: true }, stay);
-  const leave = el('button', { value: 'go', class: kind }, go);
+  const leave = el('button', { value: 'go', class: kind, click: stopSecondClick }, go);
   const dialog = el('dialog', { 'aria-labelledby': 'question' },
     el('h2', { id: 'question' }, title), content, el('form', { method: 'dialog', class: 'buttons' }, keep, leave));
   return new Promise((resolve) => {

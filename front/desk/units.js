@@ -26,7 +26,7 @@ export async function unitsPage(number) {
     el('h1', {}, `Unit ${number}`),
     el('h2', {}, 'What the public sees'), view.page,
     el('div', { class: 'cards' },
-      card('Status', statusForm(view)), card('Closure', closureForm(view)), card('Move', moveForm(view)),
+      card('Status', statusForm(view)), card('Closure', closureForm(view), endForm(view)), card('Move', moveForm(view), topForm(view)),
       card('Permits', permitForm(number), permitList(number)),
       card('Remove', removeForm(number, () => show(view))),
       card('Another unit', look)),
@@ -75,21 +75,27 @@ function statusForm(view) {
 
 function closureForm(view) {
   return change(view, {
-    fields: [dayField('until', 'Closed until', { required: false, hint: 'It opens on that day. Leave the day out to end a closure.' })],
+    fields: [dayField('until', 'Closed until', { hint: 'It opens on that day.' })],
     button: 'Set the closure',
-    send: ({ until }) => setClosure(view.number, until || null),
-    done: (value, { until }) => [until ? `Closed until ${until}.` : 'No longer closed.'],
+    send: ({ until }) => setClosure(view.number, until),
+    done: (value, { until }) => [`Closed until ${until}.`],
   });
 }
 
+/** A button of its own: a field that was left empty by mistake must not open what is closed. */
+const endForm = (view) => change(view, {
+  button: 'End the closure', kind: 'plain', send: () => setClosure(view.number, null), done: () => ['No longer closed.'],
+});
+
 function moveForm(view) {
   return change(view, {
-    fields: [numberField('parent', 'Below which unit', {
-      required: false, hint: 'It becomes the last one there, with everything below it. Leave the number out to make it a top unit.',
-    })],
+    fields: [numberField('parent', 'Below which unit', { hint: 'It becomes the last one there, with everything below it.' })],
     button: 'Move',
     send: ({ parent }) => move(view.number, numberOf(parent)),
-    done: (value, { parent }) => (numberOf(parent)
-      ? ['It is now the last below ', unitLink(numberOf(parent)), '.'] : ['It is now the last of the top units.']),
+    done: (value, { parent }) => ['It is now the last below ', unitLink(numberOf(parent)), '.'],
   });
 }
+
+const topForm = (view) => change(view, {
+  button: 'Make it a top unit', kind: 'plain', send: () => move(view.number, null), done: () => ['It is now the last of the top units.'],
+});

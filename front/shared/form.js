@@ -20,9 +20,9 @@ export function commandForm(parts) {
   const press = el('button', { type: 'submit', class: parts.kind ?? '' }, parts.button);
   const outcome = el('div', { class: 'outcome', role: 'status' });
   const form = el('form', { class: 'command' }, parts.fields ?? [], el('p', { class: 'buttons' }, press), outcome);
-  const state = { parts, form, press, outcome, busy: false, free: 0, last: '' };
+  const state = { parts, form, press, outcome, busy: false, answered: -PAUSE, last: '' };
   form.addEventListener('keydown', (event) => { stopHeldKey(event); noteMissed(event, state); });
-  press.addEventListener('click', (event) => stopSecondClick(event, state));
+  press.addEventListener('click', stopSecondClick);
   form.addEventListener('submit', (event) => submit(event, state));
   resume(state);
   return form;
@@ -32,8 +32,12 @@ function stopHeldKey(event) {
   if (event.key === 'Enter' && event.repeat) event.preventDefault();
 }
 
-function stopSecondClick(event, state) {
-  if (event.detail > 0 && performance.now() < state.free) event.preventDefault();
+let answered = -PAUSE; // when a command was answered last, whichever form gave it
+
+/** The second of two clicks gives no command: neither the same again, nor that of a button which has come to stand there. */
+export function stopSecondClick(event) {
+  const isSecond = event.detail > 1 || (event.detail > 0 && performance.now() < answered + PAUSE);
+  if (isSecond) event.preventDefault();
 }
 
 /** A barcode that is read while the form waits goes nowhere, and whoever read it has to know. */
@@ -58,7 +62,7 @@ async function submit(event, state) {
 
 function isRepeat(state, values) {
   const now = JSON.stringify(values);
-  if (performance.now() < state.free && now === state.last) return true;
+  if (performance.now() < state.answered + PAUSE && now === state.last) return true;
   state.last = now;
   return false;
 }
@@ -80,7 +84,7 @@ function stop(state, ended, values) {
 
 function end(state) {
   clearTimeout(state.slow);
-  state.free = performance.now() + PAUSE;
+  answered = state.answered = performance.now();
   shut(state, false);
 }
 
