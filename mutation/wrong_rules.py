@@ -7,8 +7,10 @@ With --dry it only looks whether each text that would be edited stands once in i
 through or was not tried."""
 import os, re, subprocess, sys, tempfile, time
 SRC=os.path.dirname(os.path.dirname(os.path.abspath(__file__)))
-W=os.path.join(tempfile.mkdtemp(),'copy')
+COPY=os.path.join(tempfile.mkdtemp(),'copy')
 O='crates/office_core/specs/'; C='crates/catalogue_core/specs/'; R='crates/state_encoding/specs/'; T='crates/office_tables/specs/'; D='crates/desk_core/specs/'
+# the functions whose worked rows, or whose law, refuse a rule: where one stands beside a rule, it is tried first
+W='office_core::worked::worked_'; L='office_core::laws::'; M='office_core::laws_of_rules::'; K='catalogue_core::laws::'
 E=[
 # seats and tickets
 ('a ticket expires on its last day',O+'State.antt','int_lt reader.until s.day','int_le reader.until s.day'),
@@ -237,8 +239,194 @@ E=[
 ('the orders of a reader are shown backwards',O+'Queries.antt','filter_map (order_json s) (live_orders s t)','Rattle.std.specs.Prelude.reverse (filter_map (order_json s) (live_orders s t))'),
 ('IssuedNow tells one alone',O+'Queries.antt','filter_map (issued_json s) (containers s)','Rattle.std.specs.Prelude.take 1 (filter_map (issued_json s) (containers s))'),
 ('expired permits are not told',O+'Queries.antt','map permit_json (s.permits t)','map permit_json (filter (λ (permit : Permit). Rattle.std.specs.Prelude.int_le s.day permit.until) (s.permits t))'),
+# of two checks that hold, which is told
+('Move tells WithReader before TooDeep',O+'Rules.antt','    ∷ when (nat_lt most_deep (depth_after u parent s.catalogue.forest)) TooDeep\n    ∷ gate (after s (command.Move u parent))\n','    ∷ gate (after s (command.Move u parent))\n    ∷ when (nat_lt most_deep (depth_after u parent s.catalogue.forest)) TooDeep\n',W+'imports'),
+('Move tells TooDeep before IntoItself',O+'Rules.antt','    ∷ when (is_into_itself u parent s.catalogue.forest) IntoItself\n    ∷ when (nat_lt most_deep (depth_after u parent s.catalogue.forest)) TooDeep\n','    ∷ when (nat_lt most_deep (depth_after u parent s.catalogue.forest)) TooDeep\n    ∷ when (is_into_itself u parent s.catalogue.forest) IntoItself\n',W+'rows'),
+('Permit tells Full before UnknownUnit',O+'Rules.antt','    ∷ unless (has_unit s.catalogue.forest u) UnknownUnit\n    ∷ when (not (has_permit s t u) && nat_le most_permits (length (s.permits t))) Full\n','    ∷ when (not (has_permit s t u) && nat_le most_permits (length (s.permits t))) Full\n    ∷ unless (has_unit s.catalogue.forest u) UnknownUnit\n',W+'checks'),
+('Register tells Full before BadName',O+'Rules.antt','    unless (is_name name) BadName\n    ∷ when (nat_le most_tickets (length s.readers)) Full\n','    when (nat_le most_tickets (length s.readers)) Full\n    ∷ unless (is_name name) BadName\n',M+'limits_are_these'),
+('Run tells Full before NothingToMove',O+'Rules.antt','    when (is_empty (picked s)) NothingToMove\n    ∷ when (nat_le most_runs (length s.runs)) Full\n','    when (nat_le most_runs (length s.runs)) Full\n    ∷ when (is_empty (picked s)) NothingToMove\n',M+'limits_are_these'),
+('Order tells Full before DailyLimit',D+'Checks.antt','    ∷ when (nat_le o.daily o.placed) DailyLimit\n    ∷ when (nat_le most_orders o.orders) Full\n','    ∷ when (nat_le most_orders o.orders) Full\n    ∷ when (nat_le o.daily o.placed) DailyLimit\n',W+'checks'),
+('Order tells DailyLimit before AlreadyOrdered',D+'Checks.antt','    ∷ when o.ordered AlreadyOrdered\n    ∷ when (nat_le o.daily o.placed) DailyLimit\n','    ∷ when (nat_le o.daily o.placed) DailyLimit\n    ∷ when o.ordered AlreadyOrdered\n',W+'checks'),
+('Order tells NotAvailable before TicketExpired',D+'Checks.antt','    ∷ when o.expired TicketExpired\n    ∷ unless o.available NotAvailable\n','    ∷ unless o.available NotAvailable\n    ∷ when o.expired TicketExpired\n',W+'checks'),
+('Issue tells NotAvailable before NotSeated',D+'Checks.antt','    ∷ unless i.seated NotSeated\n    ∷ when (nat_le i.hands i.held) HandsFull\n    ∷ unless i.available NotAvailable\n','    ∷ unless i.available NotAvailable\n    ∷ unless i.seated NotSeated\n    ∷ when (nat_le i.hands i.held) HandsFull\n',W+'checks'),
+('Issue tells HandsFull before NotSeated',D+'Checks.antt','    ∷ unless i.seated NotSeated\n    ∷ when (nat_le i.hands i.held) HandsFull\n','    ∷ when (nat_le i.hands i.held) HandsFull\n    ∷ unless i.seated NotSeated\n',W+'checks'),
+('Issue tells NotFirst before NotAtDesk',D+'Checks.antt','    ∷ unless i.at_desk NotAtDesk\n    ∷ unless i.first NotFirst\n','    ∷ unless i.first NotFirst\n    ∷ unless i.at_desk NotAtDesk\n',W+'checks'),
+('TakeSeat tells NoSeatFree before AlreadySeated',D+'Checks.antt','    ∷ when s.seated AlreadySeated\n    ∷ when (is_none s.free) NoSeatFree\n','    ∷ when (is_none s.free) NoSeatFree\n    ∷ when s.seated AlreadySeated\n',W+'checks'),
+('TakeSeat tells AlreadySeated before TicketExpired',D+'Checks.antt','    ∷ when s.expired TicketExpired\n    ∷ when s.seated AlreadySeated\n','    ∷ when s.seated AlreadySeated\n    ∷ when s.expired TicketExpired\n',W+'checks'),
+('LeaveSeat tells HoldsContainers before NotSeated',D+'Checks.antt','    ∷ unless l.seated NotSeated\n    ∷ when (nat_lt 0 l.held) HoldsContainers\n','    ∷ when (nat_lt 0 l.held) HoldsContainers\n    ∷ unless l.seated NotSeated\n',W+'checks'),
+('an order more than the last',D+'Checks.antt','nat_le most_orders o.orders','nat_lt most_orders o.orders',W+'checks'),
+('one order too few',D+'Checks.antt','nat_le o.daily o.placed','nat_lt o.daily o.placed',W+'checks'),
+('one container too few',D+'Checks.antt','nat_le i.hands i.held','nat_lt i.hands i.held',W+'checks'),
+('Revoke tells NoPermit before UnknownUnit',O+'Rules.antt','    ∷ unless (has_unit s.catalogue.forest u) UnknownUnit\n    ∷ unless (has_permit s t u) NoPermit\n','    ∷ unless (has_permit s t u) NoPermit\n    ∷ unless (has_unit s.catalogue.forest u) UnknownUnit\n',W+'rows'),
+('Return tells NotIssued before UnknownContainer',O+'Rules.antt','    unless (is_container s c) UnknownContainer\n    ∷ unless (is_out s c) NotIssued\n','    unless (is_out s c) NotIssued\n    ∷ unless (is_container s c) UnknownContainer\n',W+'rows'),
+('Cancel tells OrderNotWaiting before UnknownOrder',O+'Rules.antt','    unless (is_some (container_of s o)) UnknownOrder\n    ∷ unless (waits s o) OrderNotWaiting\n','    unless (waits s o) OrderNotWaiting\n    ∷ unless (is_some (container_of s o)) UnknownOrder\n',W+'rows'),
+('Import tells BadFile before BadName',O+'Rules.antt','    unless (is_source source) BadName\n    ∷ bad_file (taken s source file)\n','    bad_file (taken s source file)\n    ∷ unless (is_source source) BadName\n',W+'checks'),
+# a ticket that has expired, where nothing depends on it
+('the gate asks nothing for a holder whose ticket has expired',O+'Rules.antt','not (opens s order.ticket c)','(not (is_expired s order.ticket) && not (opens s order.ticket c))',W+'desk_rows'),
+('the gate refuses for a holder whose ticket has expired',O+'Rules.antt','not (opens s order.ticket c)','cond (is_expired s order.ticket) true (not (opens s order.ticket c))',W+'desk_rows'),
+('Return refused where the ticket has expired',O+'Rules.antt','    ∷ unless (is_out s c) NotIssued\n','    ∷ unless (is_out s c) NotIssued\n    ∷ when (some_and (λ o. some_and (λ order. is_expired s order.ticket) (numbered s.orders o)) (order_out (s.place c))) NotIssued\n',W+'desk_rows'),
+('Permit refused where the ticket has expired',O+'Rules.antt','    ∷ when (not (has_permit s t u) && nat_le most_permits (length (s.permits t))) Full\n','    ∷ when (not (has_permit s t u) && nat_le most_permits (length (s.permits t))) Full\n    ∷ when (is_expired s t) UnknownTicket\n',W+'desk_rows'),
+('Revoke refused where the ticket has expired',O+'Rules.antt','    ∷ unless (has_permit s t u) NoPermit\n','    ∷ unless (has_permit s t u) NoPermit\n    ∷ when (is_expired s t) UnknownTicket\n',W+'desk_rows'),
+('an expired permit counts as none (28)',O+'State.antt','has_permit s t u = list_any (λ permit. nat_eq permit.unit u) (s.permits t)','has_permit s t u = list_any (λ permit. nat_eq permit.unit u && int_le s.day permit.until) (s.permits t)',W+'rows'),
+('any permit counts (28)',O+'State.antt','has_permit s t u = list_any (λ permit. nat_eq permit.unit u) (s.permits t)','has_permit s t u = list_any (λ permit. true) (s.permits t)',W+'rows'),
+('a permit that has expired is replaced by an earlier day',O+'Rules.antt','granted u until (s.permits t)) }','granted u until (filter (λ permit. Rattle.std.specs.Prelude.int_le s.day permit.until) (s.permits t))) }',W+'shown_rows'),
+('Permit tells the asked day where the old one is past',O+'Rules.antt','granted_until u until (s.permits t)','granted_until u until (filter (λ permit. Rattle.std.specs.Prelude.int_le s.day permit.until) (s.permits t))',W+'desk_rows'),
+('a new permit comes last',O+'State.antt','cond (nat_lt u p.unit) (record { unit = u; until = day } ∷ (p ∷ ps)) (p ∷ granted u day ps)','p ∷ granted u day ps',W+'shown_rows'),
+('a run passes over a reader whose hands are full',O+'State.antt','take s.settings.run_size (filter (is_due s) (numbers_to (length s.orders)))','take s.settings.run_size (filter (λ o. is_due s o && some_and (λ order. nat_lt (held s order.ticket) s.settings.hands) (numbered s.orders o)) (numbers_to (length s.orders)))',W+'desk_rows'),
+('the lines of a run stand by order',O+'State.antt','lines = in_order is_line_before (filter_map (line_for s) (picked s))','lines = filter_map (line_for s) (picked s)',L+'desk_stays_sound'),
+# settings
+('hands capped at 1',O+'Rules.antt','hands = s.settings.hands;','hands = cond (nat_lt 1 s.settings.hands) 1 s.settings.hands;',W+'settings'),
+('hands capped at 9',O+'Rules.antt','hands = s.settings.hands;','hands = cond (nat_lt 9 s.settings.hands) 9 s.settings.hands;',W+'settings'),
+('hands as in the other rows',O+'Rules.antt','hands = s.settings.hands;','hands = 1;',W+'settings'),
+('orders of a day capped at 3',O+'Rules.antt','daily = s.settings.daily;','daily = cond (nat_lt 3 s.settings.daily) 3 s.settings.daily;',W+'settings'),
+('orders of a day capped at 49',O+'Rules.antt','daily = s.settings.daily;','daily = cond (nat_lt 49 s.settings.daily) 49 s.settings.daily;',W+'settings'),
+('orders of a day as in the other rows',O+'Rules.antt','daily = s.settings.daily;','daily = 3;',W+'settings'),
+('runs capped at 2',O+'State.antt','take s.settings.run_size (filter','take (cond (nat_lt 2 s.settings.run_size) 2 s.settings.run_size) (filter',W+'settings'),
+('runs capped at 99',O+'State.antt','take s.settings.run_size (filter','take (cond (nat_lt 99 s.settings.run_size) 99 s.settings.run_size) (filter',W+'settings'),
+('runs as in the other rows',O+'State.antt','take s.settings.run_size (filter','take 2 (filter',W+'settings'),
+('seats capped at 2',O+'State.antt','seats = replicate settings.seats None;','seats = replicate (cond (nat_lt 2 settings.seats) 2 settings.seats) None;',W+'settings'),
+('seats capped at 199',O+'State.antt','seats = replicate settings.seats None;','seats = replicate (cond (nat_lt 199 settings.seats) 199 settings.seats) None;',W+'settings'),
+('a new day makes two seats',O+'Rules.antt','seats = replicate s.settings.seats None }','seats = replicate 2 None }',L+'desk_stays_sound'),
+('settings: 201 seats',O+'Soundness.antt','is_between 1 200 settings.seats','is_between 1 201 settings.seats',M+'limits_are_these'),
+('settings: 51 orders a day',O+'Soundness.antt','is_between 1 50 settings.daily','is_between 1 51 settings.daily',M+'limits_are_these'),
+('settings: 11 in hand',O+'Soundness.antt','is_between 1 10 settings.hands','is_between 1 11 settings.hands',M+'limits_are_these'),
+('settings: runs of 99 at most',O+'Soundness.antt','is_between 1 100 settings.run_size','is_between 1 99 settings.run_size',M+'limits_are_these'),
+('settings: none in a run',O+'Soundness.antt','is_between 1 100 settings.run_size','is_between 0 100 settings.run_size',M+'limits_are_these'),
+# limits
+('one ticket too few',O+'Rules.antt','nat_le most_tickets (length s.readers)','nat_le most_tickets (suc (length s.readers))',M+'limits_are_these'),
+('a ticket more than the last',O+'Rules.antt','nat_le most_tickets (length s.readers)','nat_lt most_tickets (length s.readers)',M+'limits_are_these'),
+('one run too few',O+'Rules.antt','nat_le most_runs (length s.runs)','nat_le most_runs (suc (length s.runs))',M+'limits_are_these'),
+('a run more than the last',O+'Rules.antt','nat_le most_runs (length s.runs)','nat_lt most_runs (length s.runs)',M+'limits_are_these'),
+('orders without a limit',O+'Rules.antt','orders = length s.orders;','orders = 0;',M+'limits_are_these'),
+('one unit too few',C+'Intake.antt','nat_lt most_units (size c.forest)','Rattle.std.specs.Prelude.nat_le most_units (size c.forest)',M+'limits_are_these'),
+('one unit number too few',C+'Intake.antt','nat_lt (most_unit_numbers + 1) c.next','nat_lt most_unit_numbers c.next',M+'limits_are_these'),
+('one container of an office too few',C+'Intake.antt','nat_lt most_containers (length c.containers)','Rattle.std.specs.Prelude.nat_le most_containers (length c.containers)',M+'limits_are_these'),
+('a permit for 99 others is the last',O+'Rules.antt','nat_le most_permits (length (s.permits t))','nat_le most_permits (suc (length (s.permits t)))',M+'limits_are_these'),
+# remarks
+('a level without a rank is passed over',O+'ImportReply.antt','remark_on row (first ∷ parent ∷ unit ∷ path) = remark_on row (parent ∷ unit ∷ path)','remark_on row (first ∷ parent ∷ unit ∷ []) =\n    remark_if (is_level_above (rank_of unit.values.level) (either (rank_of parent.values.level) (rank_of first.values.level))) (LevelTooHigh row)\n  where\n    either : Option ℕ → Option ℕ → Option ℕ\n    either None above = above\n    either (Some rank) above = Some rank\nremark_on row (first ∷ parent ∷ unit ∷ next ∷ path) = remark_on row (parent ∷ unit ∷ next ∷ path)',W+'imports'),
+('a level without a rank belongs above all',O+'ImportReply.antt','is_level_above _ _ = false','is_level_above None (Some other) = true\nis_level_above _ _ = false',W+'imports'),
+('a level without a rank belongs below all',O+'ImportReply.antt','is_level_above _ _ = false','is_level_above (Some rank) None = true\nis_level_above _ _ = false',W+'imports'),
+('a top may lack its level',O+'ImportReply.antt','is_blank_text values.level\n    || not','not',W+'imports'),
+('a top may lack its reference code',O+'ImportReply.antt','(ReferenceCode ∷ Title ∷ Creator','(Title ∷ Creator',W+'imports'),
+('a top may lack its title',O+'ImportReply.antt','ReferenceCode ∷ Title ∷ Creator','ReferenceCode ∷ Creator',W+'imports'),
+('a top may lack its creators',O+'ImportReply.antt','Title ∷ Creator ∷ Dates','Title ∷ Dates',W+'imports'),
+('a top may lack its dates',O+'ImportReply.antt','Creator ∷ Dates ∷ Extent','Creator ∷ Extent',W+'imports'),
+('a top may lack its extent',O+'ImportReply.antt','Dates ∷ Extent ∷ []','Dates ∷ []',W+'imports'),
+('a scope is essential',O+'ImportReply.antt','Dates ∷ Extent ∷ []','Dates ∷ Extent ∷ Rattle.isad_core.specs.declared.element.Element.TheVariants.Scope ∷ []',W+'imports'),
+('remarks from the last row on',O+'ImportReply.antt','remark_on row.row (path (is_from source row.legacy) f)) rows','remark_on row.row (path (is_from source row.legacy) f)) (Rattle.std.specs.Prelude.reverse rows)',W+'imports'),
+('remarks by the tree before the file',O+'ImportReply.antt','remarks intake.catalogue.forest source intake.file.rows','remarks f source intake.file.rows',W+'imports'),
+('a fault names its cause as its row',O+'ImportReply.antt','Some (BadFile row cause)','Some (BadFile cause row)',W+'rows'),
+# what counts as a change
+('a level alone is no change',C+'Intake.antt','bytes_eq a.level b.level\n    && (pointwise','(pointwise',W+'imports'),
+('a reference code alone is no change',C+'Intake.antt','pointwise (option_eq bytes_eq) a.texts b.texts','pointwise (option_eq bytes_eq) (Rattle.std.specs.Prelude.drop 1 a.texts) (Rattle.std.specs.Prelude.drop 1 b.texts)',W+'imports'),
+('a text alone is no change',C+'Intake.antt','(pointwise (option_eq bytes_eq) a.texts b.texts && pointwise is_same_box a.boxes b.boxes)','pointwise is_same_box a.boxes b.boxes',W+'imports'),
+('containers alone are no change',C+'Intake.antt','(pointwise (option_eq bytes_eq) a.texts b.texts && pointwise is_same_box a.boxes b.boxes)','pointwise (option_eq bytes_eq) a.texts b.texts',W+'catalogue_rows'),
+('each known row counts as changed',C+'Intake.antt','is_known f source row && not (is_same f source row)','is_known f source row',W+'imports'),
+('each row counts as new',C+'Intake.antt','is_new f source row = not (is_known f source row)','is_new f source row = Rattle.std.specs.Prelude.true',W+'imports'),
+# new units
+('a new unit below a draft is a draft',C+'Merging.antt','Node unit (join (grown source new children) (new_units source (Some unit.id) new)) (grown source new others)','Node unit (join (grown source new children) (each (λ (below : Unit). record below { draft = if unit.draft then unit.draft else below.draft }) (new_units source (Some unit.id) new))) (grown source new others)',W+'imports'),
+('a new unit below a closed one is closed',C+'Merging.antt','Node unit (join (grown source new children) (new_units source (Some unit.id) new)) (grown source new others)','Node unit (join (grown source new children) (each (λ (below : Unit). record below { until = unit.until }) (new_units source (Some unit.id) new))) (grown source new others)',W+'imports'),
+('new units have the other status',C+'Merging.antt','draft = not new.row.published;','draft = new.row.published;',W+'imports'),
+('new units are published',C+'Merging.antt','draft = not new.row.published;','draft = Rattle.std.specs.Prelude.false;',W+'imports'),
+('new units are drafts',C+'Merging.antt','draft = not new.row.published;','draft = Rattle.std.specs.Prelude.true;',W+'imports'),
+('a missing parent is cause 12',C+'Merging.antt','cause_at None = Some 11','cause_at None = Some 12',W+'rows'),
+('64 units deep is too deep',C+'Merging.antt','if nat_lt most_deep depth then','if Rattle.std.specs.Prelude.nat_le most_deep depth then',W+'rows'),
+('65 units deep is not too deep',C+'Merging.antt','if nat_lt most_deep depth then','if nat_lt (suc most_deep) depth then',W+'rows'),
+('a unit below a catalogued one lies as deep as it',C+'Merging.antt','(length (path (is_from source parent) f) + 1)','(length (path (is_from source parent) f))',L+'imports_keep_the_catalogue'),
+('the last fault is told',C+'Merging.antt','or_first (fault ∷ rest) value = Err fault','or_first (fault ∷ []) value = Err fault\nor_first (fault ∷ next ∷ rest) value = or_first (next ∷ rest) value','catalogue_core::laws_of_rows::rows_one_by_one'),
+# closures and statuses
+('a closure that is past is not kept',O+'Rules.antt','catalogue = with_closure u until s.catalogue }','catalogue = with_closure u (cond (Rattle.catalogue_core.specs.Units.is_later s.day until) until None) s.catalogue }',W+'imports'),
+('a closure that is past changes nothing',O+'Rules.antt','catalogue = with_closure u until s.catalogue }','catalogue = cond (Rattle.catalogue_core.specs.Units.is_later s.day until) (with_closure u until s.catalogue) (cond (is_some until) s.catalogue (with_closure u until s.catalogue)) }',W+'imports'),
+('a status is set the other way',C+'Statuses.antt','record u { draft = draft }','record u { draft = if draft then Rattle.std.specs.Prelude.false else Rattle.std.specs.Prelude.true }',W+'rows'),
+('drafts do not withhold',C+'Housing.antt','is_withheld (λ (unit : Unit). unit.draft) (is_closed day)','is_withheld (λ (unit : Unit). false) (is_closed day)',K+'told_where_not_withheld'),
+('closures do not withhold',C+'Housing.antt','is_withheld (λ (unit : Unit). unit.draft) (is_closed day)','is_withheld (λ (unit : Unit). unit.draft) (λ (unit : Unit). false)',K+'told_where_not_withheld'),
+# what is shown
+('a value is found at the farthest unit',C+'Pages.antt','    or_else (Some text) further = Some (element, text, Some unit.code)\n','    or_else (Some text) (Some line) = Some line\n    or_else (Some text) None = Some (element, text, Some unit.code)\n',K+'values_are_of_the_nearest'),
+('containers are found at the farthest unit',C+'Pages.antt','boxes_or press (Some unit.code) unit.values.boxes (nearest_boxes press higher)','last_or (nearest_boxes press higher)\n  where\n    last_or : List PageBox → List PageBox\n    last_or [] = page_boxes press (Some unit.code) unit.values.boxes\n    last_or (box ∷ boxes) = box ∷ boxes',K+'pages_tell_the_housing'),
+('a page has its elements backwards',C+'Pages.antt','filter_map (page_line (coded press way)) line_elements','filter_map (page_line (coded press way)) (Rattle.std.specs.Prelude.reverse line_elements)',W+'shown_rows'),
+('the tops backwards',C+'Pages.antt','fonds_text press f = tops_text (side_by_side press [] f)','fonds_text press f = tops_text (Rattle.std.specs.Prelude.reverse (side_by_side press [] f))',W+'answers'),
+('the page of a closed unit lists what is below it',C+'Pages.antt','      boxes = [];\n      below = [];','      boxes = [];\n      below = side_by_side press (map identifier_of way) children;',W+'answers'),
+# the desk's answers
+('an order that waits is told as out',O+'Queries.antt','string (cond (waits s o) (codes "waiting") (codes "out"))','string (codes "out")',W+'answers'),
+('an order that is out is told as waiting',O+'Queries.antt','string (cond (waits s o) (codes "waiting") (codes "out"))','string (codes "waiting")',W+'answers'),
+('the orders of all readers are told',O+'Queries.antt','filter (λ o. is_by s t o && (waits s o || is_out_now s o))','filter (λ o. waits s o || is_out_now s o)',W+'shown_rows'),
+('an order that is out is not told',O+'Queries.antt','(waits s o || is_out_now s o)','(waits s o)',W+'answers'),
+('a container at the desk is told as on the shelf',O+'Queries.antt','place_name Desk = codes "desk"','place_name Desk = codes "shelf"',W+'answers'),
+('a container that is out is told as at the desk',O+'Queries.antt','place_name (Out o) = codes "out"','place_name (Out o) = codes "desk"',W+'answers'),
+('a container on the shelf is told as at the desk',O+'Queries.antt','place_name Shelf = codes "shelf"','place_name Shelf = codes "desk"',W+'shown_rows'),
+('a queue tells no order that is out',O+'Queries.antt','(codes "out", or_null (option_map count (order_out (s.place c))))','(codes "out", null)',W+'answers'),
+('a reader without a seat has seat 0',O+'Queries.antt','or_null (option_map count (seat_of s t))','count (Rattle.std.specs.Prelude.unwrap_or (seat_of s t) 0)',W+'answers'),
+('an unknown run is an unknown unit',O+'Queries.antt','run_answer s n None = Unknown UnknownRun','run_answer s n None = Unknown UnknownUnit',W+'answers'),
+('an unknown ticket is an unknown container',O+'Queries.antt','answer s (query.ReaderOrders t) = known_json UnknownTicket','answer s (query.ReaderOrders t) = known_json UnknownContainer',W+'answers'),
+('the permits of an unknown ticket are none',O+'Queries.antt','known_json UnknownTicket (option_map (λ reader. list (map permit_json (s.permits t))) (numbered s.readers t))','Json (compact_text (list (map permit_json (s.permits t))))',W+'answers'),
+('a draft has a page',O+'Queries.antt','public_answer press f (query.Page u) = page_answer (page_of press u f)','public_answer press f (query.Page u) = page_answer (Rattle.std.specs.Prelude.cond (has (is_numbered u) f) (page_of press u f) (page_of press 1 f))',L+'all_that_is_published_is_shown'),
+# the text of each reply
+('OpenDay has another text',O+'Json.antt','"day", date day','"date", date day',W+'texts'),
+('SetStatus has another text',O+'Json.antt','(done.SetStatus units) = fields ((codes "units"','(done.SetStatus units) = fields ((codes "unit"',W+'texts'),
+('SetClosure has another text',O+'Json.antt','(done.SetClosure unit) = fields ((codes "unit", count unit)','(done.SetClosure unit) = fields ((codes "unit", count 1)',W+'texts'),
+('Move has another text',O+'Json.antt','(done.Move unit) = fields ((codes "unit"','(done.Move unit) = fields ((codes "units"',W+'texts'),
+('Remove has another text',O+'Json.antt','(done.Remove units) = fields ((codes "units"','(done.Remove units) = fields ((codes "unit"',W+'texts'),
+('Register has another text',O+'Json.antt','(done.Register ticket) = fields ((codes "ticket"','(done.Register ticket) = fields ((codes "reader"',W+'texts'),
+('Renew has another text',O+'Json.antt','(done.Renew ticket) = fields ((codes "ticket", count ticket)','(done.Renew ticket) = fields ((codes "ticket", count 1)',W+'texts'),
+('TakeSeat has another text',O+'Json.antt','(done.TakeSeat seat) = fields ((codes "seat"','(done.TakeSeat seat) = fields ((codes "ticket"',W+'texts'),
+('LeaveSeat has another text',O+'Json.antt','(done.LeaveSeat seat) = fields ((codes "seat"','(done.LeaveSeat seat) = fields ((codes "ticket"',W+'texts'),
+('Order has another text',O+'Json.antt','(done.Order order) = fields ((codes "order", count order)','(done.Order order) = fields ((codes "order", count 1)',W+'texts'),
+('Cancel has another text',O+'Json.antt','(done.Cancel order) = fields ((codes "order", count order)','(done.Cancel order) = fields ((codes "order", count 1)',W+'texts'),
+('Run has another text',O+'Json.antt','(codes "taken", count taken)','(codes "taken", count run)',W+'texts'),
+('Reshelve has another text',O+'Json.antt','list (map count containers)','list (map count (Rattle.std.specs.Prelude.reverse containers))',W+'texts'),
+('Issue has another text',O+'Json.antt','(done.Issue order) = fields ((codes "order", count order)','(done.Issue order) = fields ((codes "order", count 1)',W+'texts'),
+('Return has another text',O+'Json.antt','(done.Return order) = fields ((codes "order", count order)','(done.Return order) = fields ((codes "order", count 1)',W+'texts'),
+('Permit has another text',O+'Json.antt','fields ((codes "ticket", count ticket) ∷ (codes "unit", count unit) ∷ (codes "until", date until) ∷ [])','fields ((codes "ticket", count ticket) ∷ (codes "unit", count unit) ∷ [])',W+'texts'),
+('Revoke has another text',O+'Json.antt','(done.Revoke unit) = fields ((codes "unit", count unit)','(done.Revoke unit) = fields ((codes "unit", count 1)',W+'texts'),
+('a remark of kind 1 is told as kind 2',O+'Json.antt','remark_json (LevelTooHigh row) = fields ((codes "kind", count 1)','remark_json (LevelTooHigh row) = fields ((codes "kind", count 2)',W+'texts'),
+('a remark of kind 2 is told as kind 1',O+'Json.antt','remark_json (LacksEssential row) = fields ((codes "kind", count 2)','remark_json (LacksEssential row) = fields ((codes "kind", count 1)',W+'texts'),
+('translations are told as same',O+'Json.antt','(codes "translations", count translations)','(codes "translations", count same)',W+'texts'),
+('a refusal for a reader names no container',O+'Json.antt','(codes "container", count container) ∷ (codes "refused", string (codes "WithReader"))','(codes "refused", string (codes "WithReader"))',W+'texts'),
+('a bad file tells its row as its cause',O+'Json.antt','(codes "cause", count cause)','(codes "cause", count row)',W+'texts'),
+('a refusal without its name',O+'Json.antt','fields ((codes "code", count (number_of why)) ∷ (codes "refused", string (name_of why)) ∷ [])','fields ((codes "code", count (number_of why)) ∷ [])',W+'texts'),
+('a permit is told without its day',O+'Queries.antt','fields ((codes "unit", count permit.unit) ∷ (codes "until", date permit.until) ∷ [])','fields ((codes "unit", count permit.unit) ∷ [])',W+'answers'),
+# what a command tells and does
+('OpenDay tells the day before',O+'Rules.antt','told s (command.OpenDay day) = done.OpenDay day','told s (command.OpenDay day) = done.OpenDay s.day',W+'rows'),
+('OpenDay keeps the day',O+'Rules.antt','record s { day = day; seats =','record s { seats =',W+'rows'),
+('SetClosure tells unit 1',O+'Rules.antt','done.SetClosure u','done.SetClosure 1',W+'desk_rows'),
+('Move tells unit 1',O+'Rules.antt','told s (command.Move u parent) = done.Move u','told s (command.Move u parent) = done.Move 1',W+'rows'),
+('Renew tells ticket 1',O+'Rules.antt','done.Renew t','done.Renew 1',W+'desk_rows'),
+('TakeSeat tells seat 1',O+'Rules.antt','done.TakeSeat (unwrap_or (free_seat s) 0)','done.TakeSeat 1',W+'rows'),
+('LeaveSeat tells no seat',O+'Rules.antt','done.LeaveSeat (unwrap_or (seat_of s t) 0)','done.LeaveSeat 0',W+'rows'),
+('Cancel tells order 1',O+'Rules.antt','done.Cancel o','done.Cancel 1',W+'desk_rows'),
+('Run tells as many as a run takes',O+'Rules.antt','(length (picked s))\n','s.settings.run_size\n',W+'rows'),
+('Issue tells order 1',O+'Rules.antt','done.Issue (unwrap_or (first (s.queue c)) 0)','done.Issue 1',W+'rows'),
+('Return tells the container',O+'Rules.antt','done.Return (unwrap_or (order_out (s.place c)) 0)','done.Return c',W+'rows'),
+('Revoke tells the ticket',O+'Rules.antt','done.Revoke u','done.Revoke t',W+'rows'),
+('Remove leaves the units',O+'Rules.antt','      catalogue = without_branch u s.catalogue;\n','      catalogue = s.catalogue;\n',W+'rows'),
+('Order by a ticket that was never given',O+'Rules.antt','known = is_ticket s t;\n      expired = is_expired s t;\n      available','known = true;\n      expired = is_expired s t;\n      available',W+'rows'),
+('TakeSeat by a ticket that was never given',O+'Rules.antt','known = is_ticket s t;\n      expired = is_expired s t;\n      seated','known = true;\n      expired = is_expired s t;\n      seated',W+'rows'),
+('LeaveSeat by a ticket that was never given',O+'Rules.antt','(record { known = is_ticket s t; seated','(record { known = true; seated',W+'rows'),
+('LeaveSeat with a container',O+'Rules.antt','seated = is_seated s t; held = held s t })','seated = is_seated s t; held = 0 })',W+'rows'),
+('LeaveSeat by one who does not sit',O+'Rules.antt','seated = is_seated s t; held = held s t })','seated = true; held = held s t })',W+'rows'),
+('TakeSeat by one who sits',O+'Rules.antt','seated = is_seated s t;\n      free = free_seat s;','seated = false;\n      free = free_seat s;',W+'rows'),
+('Issue of a container that is not known',O+'Rules.antt','known = is_container s c;','known = true;',W+'rows'),
+('a refused command is done all the same',O+'Rules.antt','decided (Some why) old new done = (old, Err why)','decided (Some why) old new done = (new, Err why)',W+'rows'),
+('an accepted command does nothing',O+'Rules.antt','decided None old new done = (new, Ok done)','decided None old new done = (old, Ok done)',W+'rows'),
+('the last check that holds is told',D+'Refusals.antt','first_that_holds (Some refusal ∷ checks) = Some refusal','first_that_holds (Some refusal ∷ checks) = or_later (first_that_holds checks)\n  where\n    or_later : Option Refusal → Option Refusal\n    or_later None = Some refusal\n    or_later (Some later) = Some later',W+'checks'),
+('refusal 9 is told as 8',D+'Refusals.antt','number_of AlreadySeated = 9','number_of AlreadySeated = 8',W+'texts'),
+('NoPermit has another name',D+'Refusals.antt','name_of NoPermit = codes "NoPermit"','name_of NoPermit = codes "NoRight"',W+'texts'),
+# when a desk is sound
+('sound: an order may wait and be out',O+'SoundDesk.antt','ExactlyOne false true false = Unit {0}','ExactlyOne false true false = Unit {0}\nExactlyOne true true false = Unit {0}',L+'desk_stays_sound'),
+('sound: queues in any order',O+'SoundDesk.antt','pub queues : (c : ℕ) → IsAscending (s.queue c)','pub queues : (c : ℕ) → IsAscending (s.queue c) × IsAscending (s.queue 0)',L+'desk_stays_sound'),
+('sound: an order of tomorrow',O+'SoundDesk.antt','pub day : order.day ≤ℤ s.day','pub day : s.day ≤ℤ order.day',L+'desk_stays_sound'),
+('sound: fewer orders than a day allows',O+'SoundDesk.antt','placed s t day ≤ s.settings.daily','Rattle.std.specs.Prelude.suc (placed s t day) ≤ s.settings.daily',L+'desk_stays_sound'),
+('sound: a seat for each ticket',O+'SoundDesk.antt','pub known : (t : ℕ) → is_seated s t ≡ true → is_ticket s t ≡ true','pub known : (t : ℕ) → is_ticket s t ≡ true → is_seated s t ≡ true',L+'desk_stays_sound'),
+('sound: one seat more',O+'SoundDesk.antt','pub count : length s.seats ≡ s.settings.seats','pub count : length s.seats ≡ Rattle.std.specs.Prelude.suc s.settings.seats',L+'desk_stays_sound'),
+('sound: hands never full',O+'SoundDesk.antt','pub few : held s t ≤ s.settings.hands','pub few : Rattle.std.specs.Prelude.suc (held s t) ≤ s.settings.hands',L+'desk_stays_sound'),
+('sound: hands over-full',O+'SoundDesk.antt','pub few : held s t ≤ s.settings.hands','pub few : held s t ≤ Rattle.std.specs.Prelude.suc s.settings.hands',L+'desk_stays_sound'),
+('sound: open to every reader',O+'SoundDesk.antt','pub may_see : opens s t c ≡ true','pub may_see : (u : ℕ) → opens s u c ≡ true',L+'desk_stays_sound'),
+('sound: a run of nothing',O+'SoundDesk.antt','pub some : 1 ≤ length run.lines','pub some : length run.lines ≤ 1',L+'desk_stays_sound'),
+('sound: lines in any order',O+'SoundDesk.antt','line.container < other.container','other.container < line.container',L+'desk_stays_sound'),
+('sound: a permit for an unknown ticket alone',O+'SoundDesk.antt','is_ticket s t ≡ false → s.permits t ≡ []','is_ticket s t ≡ true → s.permits t ≡ []',L+'desk_stays_sound'),
+('sound: permits in any order',O+'SoundDesk.antt','permit.unit < other.unit','other.unit < permit.unit',L+'desk_stays_sound'),
 ]
-ROWS=['office_core::worked::worked_desk_rows','office_core::worked::worked_catalogue_rows','office_core::worked::worked_shown_rows','office_core::worked::worked_rows','office_core::worked::worked_answers','state_encoding::worked::worked_catalogue_causes','state_encoding::worked::worked_desk_causes','state_encoding::worked::worked_cell_causes']  # the functions whose rows are looked at first
+ROWS=[W+'imports',W+'checks',M+'readers_keep_what_they_have',M+'remarks_say_what_holds',M+'limits_are_these',W+'settings','office_core::worked::worked_desk_rows','office_core::worked::worked_catalogue_rows','office_core::worked::worked_shown_rows','office_core::worked::worked_rows','office_core::worked::worked_answers','state_encoding::worked::worked_catalogue_causes','state_encoding::worked::worked_desk_causes','state_encoding::worked::worked_cell_causes']  # the functions whose rows are looked at first
 def run(cmd,cwd):
     p=subprocess.run(cmd,cwd=cwd,capture_output=True,text=True); return p.stdout+p.stderr
 def errors(out):
@@ -248,24 +436,24 @@ def fails(out):
     """Whether the check says that something of this crate is not proved; libraries below it say their own verdicts before."""
     verdicts=re.findall(r'^logic=(\S+)',out,flags=re.M)
     return 'error' in out or re.search(r'^only=1 proved=0',out,flags=re.M) is not None or (verdicts!=[] and verdicts[-1]!='proved')
-def rows_say(office):
-    """What the worked rows alone say: the names of those that fail, or none. They are quick."""
+def rows_say(named):
+    """What the worked rows alone say, and the law that is named beside the rule: the names of those that fail, or none. They are quick."""
     out=''
-    for row in ROWS:
-        out=run(['rt','check','--jobs','1','--allow-holes','--only',row],W+'/crates/'+row.split('::')[0])
+    for row in named+[row for row in ROWS if row not in named]:
+        out=run(['rt','check','--jobs','1','--allow-holes','--only',row],COPY+'/crates/'+row.split('::')[0])
         if fails(out): break
     return out
 def proofs_say(office):
     return run(['rt','check','--jobs','1'],office)
-def tried(label,f,office):
+def tried(label,f,named,office):
     t=time.time()
     if f.split('/')[1] in LOWER:
         crate=f.split('/')[1]
-        out=run(['rt','lib'],W+'/crates/'+crate)
+        out=run(['rt','lib'],COPY+'/crates/'+crate)
         spec=[l for l in out.split('\n') if 'error' in l and './specs/' in l]
         if spec: return f'DOES NOT READ | {label} | {spec[0][:200]}',False
         if 'logic=proved' not in out: return f'refused {time.time()-t:4.1f}s | {label} | {crate}: {", ".join(errors(out))}',False
-    out=rows_say(office)
+    out=rows_say(named)
     if not fails(out): out=proofs_say(office)
     spec=[l for l in out.split('\n') if 'error' in l and '/specs/' in l]
     dt=time.time()-t
@@ -280,7 +468,7 @@ def readable(new,orig):
     return new
 def not_applied(only):
     """The rules whose text does not stand once in its file."""
-    return [label for label,f,old,new in E if (not only or any(o in label for o in only)) and open(SRC+'/'+f,encoding='utf-8').read().count(old)!=1]
+    return [label for label,f,old,new,*named in E if (not only or any(o in label for o in only)) and open(SRC+'/'+f,encoding='utf-8').read().count(old)!=1]
 if __name__=='__main__':
     only=[word for word in sys.argv[1:] if word!='--dry']
     if '--dry' in sys.argv[1:]:
@@ -288,21 +476,21 @@ if __name__=='__main__':
         for label in missing: print(f'NOT APPLIED | {label}')
         print(f'{len(E)} rules, {len(missing)} not applied')
         sys.exit(1 if missing else 0)
-    subprocess.run(['cp','-a',SRC,W])
-    for crate in LOWER: subprocess.run(['cp','-a',f'{W}/crates/{crate}/out',f'{W}/crates/{crate}/out.kept'])
+    subprocess.run(['cp','-a',SRC,COPY])
+    for crate in LOWER: subprocess.run(['cp','-a',f'{COPY}/crates/{crate}/out',f'{COPY}/crates/{crate}/out.kept'])
     passed=[]; untried=not_applied(only); n=0
-    for label,f,old,new in E:
+    for label,f,old,new,*named in E:
         if only and not any(o in label for o in only): continue
-        p=W+'/'+f; orig=open(p).read()
+        p=COPY+'/'+f; orig=open(p).read()
         if orig.count(old)!=1: print(f'NOT APPLIED | {label}',flush=True); continue
         open(p,'w').write(orig.replace(old,readable(new,orig),1)); n+=1
-        line,through=tried(label,f,W+'/crates/state_encoding')
+        line,through=tried(label,f,named,COPY+'/crates/state_encoding')
         print(line,flush=True)
         if through: passed.append(label)
         if line.startswith('DOES NOT READ'): untried.append(label)
         open(p,'w').write(orig)
         if f.split('/')[1] in LOWER:
-            kept=f'{W}/crates/{f.split("/")[1]}/out'
+            kept=f'{COPY}/crates/{f.split("/")[1]}/out'
             subprocess.run(f'rm -rf {kept} && cp -a {kept}.kept {kept}',shell=True)
     print(f'{n} tried, {len(passed)} let through: {passed}')
     sys.exit(1 if passed or untried or not n else 0)
