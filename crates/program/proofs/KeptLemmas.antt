@@ -1,32 +1,16 @@
 -- What a file held when it was opened, and the office that was found there.
-use Rattle.std.proofs.Common.{◌≡◌, suc, IsTrue, List, [], ◌∷◌, length, subst, subst₂, sym}
-use Rattle.std.specs.List.{AllByRecursion}
+use Rattle.std.proofs.Common.{◌≡◌, IsTrue, subst, subst₂, sym}
 use Rattle.sqlite.specs.Effect.{Database}
-use Rattle.sqlite.specs.Order.{Row}
 use Rattle.sqlite.specs.Recovery.{Image}
 use Rattle.sqlite.specs.State as store
-use Rattle.sqlite.specs.Table.{Table}
-use Rattle.sqlite.specs.Tree.{Trees}
 use Rattle.tree_core.specs.Versions.{Spans}
 use Rattle.nested_sets.specs.Represents.{RepresentsSpanRows}
-use Rattle.row_completeness.specs.WholeRows.{IsWholeTable, AreWholeTables}
 use Rattle.adoption.specs.Verdicts.{IsVerdict}
 use Rattle.adoption.specs.declared.verdict.Verdict.TheVariants as verdict
 use Rattle.office_core.specs.State.{State}
 use Rattle.refinement.specs.Represents.{RepresentsState}
-use Rattle.program.specs.Rows.{StandsInOrder, StandInOrder}
 use Rattle.office.specs.Resting.{IsIn}
-use Rattle.program.specs.Kept.{AreHeld, HaveAllCells, HoldsOffice, IsInTheStateThatWasLeft}
-
-each_whole : (db : Trees) (tables : List Table) → AllByRecursion (λ (table : Table). StandsInOrder (db table.tree)) tables
-    → AllByRecursion (λ (table : Table). AllByRecursion (λ (row : Row). length row ≡ suc (length table.columns)) (db table.tree)) tables
-    → AllByRecursion (λ (table : Table). IsWholeTable table (db table.tree)) tables
-each_whole db [] ordered cells = tt
-each_whole db (table ∷ tables) ordered cells = (record { rise = ordered.0.rise; numbers = ordered.0.numbers; cells = cells.0 }, each_whole db tables ordered.1 cells.1)
-
--- rows that stand in order and have all their cells are whole
-pub whole : (db : Database) → StandInOrder db → HaveAllCells db → AreWholeTables db
-whole db ordered cells = each_whole db.trees db.schema.tables ordered cells
+use Rattle.program.specs.Kept.{AreHeld, HoldsOffice, IsInTheStateThatWasLeft}
 
 -- a file holds one database at most
 pub left_so : (image : Image) (s : State) (found : Database) → IsInTheStateThatWasLeft image s found

@@ -1,12 +1,9 @@
 -- What a file held when it was opened, and the office that was found there.
-use Rattle.std.specs.Prelude.{◌≡◌, suc, length, IsTrue, Option, Some, None}
-use Rattle.std.specs.List.{AllByRecursion}
+use Rattle.std.specs.Prelude.{◌≡◌, IsTrue, Option, Some, None}
 use Rattle.sqlite.specs.Effect.{Database}
 use Rattle.sqlite.specs.Files.{AreFoundIn, HoldsDatabase}
-use Rattle.sqlite.specs.Order.{Row}
 use Rattle.sqlite.specs.Recovery.{Image}
 use Rattle.sqlite.specs.State as store
-use Rattle.sqlite.specs.Table.{Table}
 use Rattle.sqlite.specs.Tree.{Trees}
 use Rattle.adoption.specs.Verdicts.{IsVerdict}
 use Rattle.adoption.specs.declared.verdict.Verdict.TheVariants as verdict
@@ -27,11 +24,6 @@ pub record AreHeld (image : Image) (tables : Trees) : Type 0 where
   pub holds : (others : Trees) → HoldsDatabase image others → tables ≡ others
   pub reads : AreFoundIn image tables
 
--- Each row of each table has all its cells. It fails only where a column was added to a table that had rows.
-abbrev pub HaveAllCells : Database → Type 0
-HaveAllCells db =
-    AllByRecursion (λ (table : Table). AllByRecursion (λ (row : Row). length row ≡ suc (length table.columns)) (db.trees table.tree)) db.schema.tables
-
 -- the file and its log hold the tables of an office that is in this state
 abbrev pub HoldsOffice : Image → State → Type 0
 HoldsOffice image s =
@@ -39,7 +31,7 @@ HoldsOffice image s =
 
 -- The file's tables are a sound office's, their rows stand by whole numbers, which rise, and the connection has them
 -- while it is open. The office is in the state that the tables were left in. Whoever wrote them, it is in the state that
--- their rows say, which is sound, where these have all their cells.
+-- their rows say, which is sound.
 pub record IsFound (image : Image) (at : store.State) : Type 0 where
   pub found : Database
   pub held : AreHeld image found.trees
@@ -47,8 +39,8 @@ pub record IsFound (image : Image) (at : store.State) : Type 0 where
   pub verdict : IsVerdict Spans found verdict.Sound
   pub same : IsTrue at.is_open → at.now ≡ found
   pub left : (s : State) → HoldsOffice image s → IsIn RepresentsSpanRows Spans s at
-  pub represents : HaveAllCells found → IsIn RepresentsSpanRows Spans (state_in Spans found.trees) at
-  pub sound : HaveAllCells found → IsTrue at.is_open → IsSoundOffice (state_in Spans found.trees)
+  pub represents : IsIn RepresentsSpanRows Spans (state_in Spans found.trees) at
+  pub sound : IsTrue at.is_open → IsSoundOffice (state_in Spans found.trees)
 
 -- What is found in a file is in the state that was left there: tables that it holds, and that are a sound office's, show
 -- each state of an office that it holds.

@@ -1,17 +1,2 @@
 -- How the rows of the tables in a file stand.
-use Rattle.std.specs.Prelude.{List, IsTrue}
-use Rattle.std.specs.List.{AllByRecursion}
-use Rattle.sqlite.specs.Effect.{Database}
-use Rattle.sqlite.specs.Order.{Row}
-use Rattle.sqlite.specs.Table.{Table}
-use Rattle.sqlite.specs.Tree.{IsTable, rowid}
-use Rattle.sqlite.specs.View.{is_int}
-
--- the rows of a table stand by whole numbers, which rise, so that none comes twice
-pub record StandsInOrder (rows : List Row) : Type 0 where
-  pub rise : IsTable rows
-  pub numbers : AllByRecursion (λ (row : Row). IsTrue (is_int (rowid row))) rows
-
--- the rows of each table stand by whole numbers, which rise
-abbrev pub StandInOrder : Database → Type 0
-StandInOrder db = AllByRecursion (λ (table : Table). StandsInOrder (db.trees table.tree)) db.schema.tables
+pub use Rattle.row_completeness.specs.OrderedRows.{StandsInOrder, StandInOrder}

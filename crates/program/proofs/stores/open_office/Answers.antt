@@ -1,7 +1,7 @@
 use Rattle.sqlite.specs.Files.{file_state}
 use Rattle.office_tables.proofs.Calls.{early}
 use Rattle.program.proofs.Judgments.{unopened}
-use Rattle.program.proofs.KeptLemmas.{opens_so, whole}
+use Rattle.program.proofs.KeptLemmas.{opens_so}
 use Rattle.program.proofs.StoreLemmas.{held_in}
 use Rattle.program.proofs.stores.open_office.Goals as goal
 
@@ -19,8 +19,8 @@ returns-in-Ok-clause-found g c clean =
       verdict = opened.sound;
       same = opened.same;
       left = opens_so _ found.now (file_state c.in-Ok.office) held opened.sound opened.same;
-      represents = λ cells. c.in-Ok.ensures.represents clean (whole found.now ordered cells);
-      sound = λ cells open_still. c.in-Ok.ensures.sound clean open_still (whole found.now ordered cells);
+      represents = c.in-Ok.ensures.represents clean ordered;
+      sound = λ open_still. c.in-Ok.ensures.sound clean open_still ordered;
     }
 
 pub returns-in-Err-clause-fault : goal.returns-in-Err-clause-fault
