@@ -304,6 +304,7 @@ timeout 300 python3 "$here/sessions.py" "$program" 0 100 || wrong=1
 timeout 600 python3 "$here/../mutation/rules.py" >"$room/rules" || wrong=1
 grep -v '^refused by\|^same ' "$room/rules"
 if has cc gcc; then timeout 300 python3 "$here/../mutation/faults/init.py" "$program" "$fast" 25 || wrong=1; fi
+if has sqlite3; then timeout 300 "$here/rewritten.sh" "$program" || wrong=1; fi
 if has sqlite3 && has cc gcc; then
     timeout 300 python3 "$here/migrating.py" --program "$program" --room "$fast" 2000 || wrong=1
     timeout 900 python3 "$here/stopped.py" "$program" "$fast" all none || wrong=1
