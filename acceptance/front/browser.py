@@ -147,11 +147,15 @@ class Page:
 
     def second_click(self, button):
         """What the second click of two does on this button, wherever the first one was."""
-        place = self.js(f"({PLACE})({json.dumps(button)})")
         self.js("window.clicked = false; document.addEventListener('click', () => { window.clicked = true; }, { once: true, capture: true })")
-        for kind in ("mousePressed", "mouseReleased"):
-            self.call("Input.dispatchMouseEvent", type=kind, button="left", clickCount=2, x=place[0], y=place[1])
-        self.wait("window.clicked")
+        end = time.time() + 60
+        while not self.js("window.clicked"):  # a page that moves just then takes none
+            if time.time() > end:
+                raise AssertionError(f"{button} cannot be clicked")
+            place = self.js(f"({PLACE})({json.dumps(button)})")
+            for kind in ("mousePressed", "mouseReleased"):
+                self.call("Input.dispatchMouseEvent", type=kind, button="left", clickCount=2, x=place[0], y=place[1])
+            time.sleep(0.3)
 
     def key_in(self, label, key, card=None):
         self.js(f"({FIND})({json.dumps(label)}, {json.dumps(card)}, (input) => input.focus())")
