@@ -96,7 +96,7 @@ migrated() {
     for way in "${ways[@]}"; do
         new=$room/old_$way.db
         "$way" "$here/version1.db" "$new"
-        same "$way of version 1" "$(says check --store "$new" </dev/null)" '1, , old version'
+        same "$way of version 1" "$(says check --store "$new" </dev/null)" '1, old version, '
         same "$way of version 1: migrated" "$(says migrate --store "$new" </dev/null)" '0, migrated, '
         same "$way of version 1: then" "$(says check --store "$new" </dev/null)" '0, sound, '
         same "$way of version 1: its file" "$(told "$new")" "$(told "$room/office.db")"
