@@ -1,3 +1,5 @@
+pub mod ClosedLemmas
+pub mod HeadlineLemmas
 pub mod Ordered
 pub mod GivenSettings
 pub mod Judgments

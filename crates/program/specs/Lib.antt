@@ -1,5 +1,7 @@
 pub mod Rows
+pub mod Closed
 pub mod Faults
+pub mod Headline
 pub mod Kept
 pub mod Performed
 pub mod Served

@@ -156,8 +156,8 @@ fn check<S: Start, W: Write>(
     ensures fault { IfErr result (CheckFails ⟦<FileStoreFrom<S> as Store>⟧ (image_at S.Start)
         (W.contents out.old) (W.contents out.new)) }
 {
-    let (judged, conn) = judge_file(rt, alloc, store, start)?;
-    close(conn);
+    let (judged, files) = judge_file(rt, alloc, store, start)?;
+    drop(files);
     tell_judgment(alloc, judged, out)
 }
 

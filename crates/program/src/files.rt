@@ -1,13 +1,14 @@
 //! A connection to the file of an office.
-ghost use Rattle.std.specs.Prelude.{IfOk};
+ghost use Rattle.std.specs.Prelude.{◌≡◌, IfOk, false};
 ghost use Rattle.sqlite.specs.WalFiles.{image_at};
 ghost use Rattle.sqlite.specs.Files.{IsOpened, file_state};
 ghost use Rattle.sqlite.specs.Held.{IsNew};
 ghost use Rattle.sqlite.specs.Start.{FindsIn};
 ghost use Rattle.sqlite.specs.State.{HasCleanDisk};
+ghost use Rattle.program.specs.Closed.{HasLeft};
 ghost use Rattle.program.specs.Rows.{StandInOrder};
 
-use sqlite::{Connection, Error, ErrorCode, FileFrom, FileStore, Start};
+use sqlite::{Connection, Error, ErrorCode, FileFrom, FileStore, Files, Start};
 use std::alloc::AllocError;
 use std::fs;
 use std::fs::File;
@@ -107,7 +108,17 @@ pub fn find<S: Start>(
     }
 }
 
+/// A file and its log, once the store in them is closed.
+pub type ClosedFiles<S> = Files<FileFrom<S>>;
+
 /// Closes the file. What was committed is in it, or in its log where it could not be brought over: nothing is lost.
-pub fn close<S: Start>(conn: Connection<FileStoreFrom<S>>) {
-    let _ = conn.close();
+pub fn close<S: Start>(conn: Connection<FileStoreFrom<S>>) -> ClosedFiles<S>
+    ensures { (HasCleanDisk (file_state conn) → (file_state conn).in_transaction ≡ false) → HasLeft conn result }
+{
+    // Outside a transaction a connection that is open shows what was committed.
+    let _ = conn.is_autocommit();
+    match conn.close_files() {
+        Ok(files) => files,
+        Err((_, store)) => store.close(),
+    }
 }

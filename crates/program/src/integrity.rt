@@ -1,6 +1,5 @@
 //! Tells whether the tables of a store are those of a sound office.
-ghost use Rattle.std.specs.Prelude.{◌≡◌, None, false, IfErr, IfNone, IfOk, IfSome, OnOk};
-ghost use Rattle.sqlite.specs.Files.{file_state};
+ghost use Rattle.std.specs.Prelude.{◌≡◌, None, false, IfErr, IfNone, IfOk, IfSome, IsTrue, OnOk};
 ghost use Rattle.sqlite.specs.Held.{state};
 ghost use Rattle.sqlite.specs.State.{HasCleanDisk, Survives};
 ghost use Rattle.sqlite.specs.WalFiles.{image_at};
@@ -9,16 +8,17 @@ ghost use Rattle.adoption.specs.declared.verdict.Verdict.TheVariants as verdict;
 ghost use Rattle.office_tables.specs.Faults.{IsUnlimited};
 ghost use Rattle.office.specs.Adopting.{HasAdoptCause};
 ghost use Rattle.tree_core.specs.Versions.{Spans};
-ghost use Rattle.program.specs.Kept.{IsJudgedIn};
+ghost use Rattle.program.specs.Closed.{WasJudgedAsFound};
 ghost use Rattle.program.specs.Performed.{JudgmentFails, JudgmentPrinted};
 
 use crate::faults::Fault;
-use crate::files::{FileFault, FileStoreFrom, find};
+use crate::files::{ClosedFiles, FileFault, close, find};
 use crate::streams::write_whole;
 use isad_core::Text;
 use nested_sets::SpanPlaces;
 use office::{Office, OpenFault};
-use sqlite::{Alter, Connection, Start};
+use sqlite::{Alter, Connection, FileFrom, Start};
+use sqlite_disk::Disk;
 use std::alloc::Global;
 use std::io::Write;
 
@@ -30,6 +30,9 @@ pub fn judge<S: Alter>(alloc: Global, conn: Connection<S>) -> (Option<OpenFault>
         → IfNone result.0 (IsVerdict Spans (state S.Store conn).now verdict.Sound) }
     ensures cause { HasCleanDisk (state S.Store result.1)
         → IfSome result.0 (HasAdoptCause Spans (state S.Store conn) (state S.Store result.1)) }
+    ensures same { HasCleanDisk (state S.Store result.1) → IsTrue (state S.Store result.1).is_open
+        → (state S.Store result.1).now ≡ (state S.Store conn).now }
+    ensures ended { HasCleanDisk (state S.Store result.1) → (state S.Store result.1).in_transaction ≡ false }
     ensures crash { Survives (state S.Store conn) (state S.Store result.1) (λ _. ⊥) }
 {
     match Office::<SpanPlaces, S>::adopt(alloc, conn) {
@@ -38,17 +41,18 @@ pub fn judge<S: Alter>(alloc: Global, conn: Connection<S>) -> (Option<OpenFault>
     }
 }
 
-/// The same of the tables in a file.
+/// The same of the tables in a file, which is closed as it was found.
 pub fn judge_file<S: Start>(
     rt: &HostRuntime,
     alloc: Global,
     store: &Text,
     start: S,
-) -> Result<(Option<OpenFault>, Connection<FileStoreFrom<S>>), FileFault>
-    ensures { IfOk result (λ r. HasCleanDisk (file_state r.1) → IsJudgedIn (image_at S.Start) r.0) }
+) -> Result<(Option<OpenFault>, ClosedFiles<S>), FileFault>
+    ensures { IfOk result (λ r. WasJudgedAsFound ⟦<FileFrom<S> as Disk>⟧ (image_at S.Start) r.0 r.1) }
 {
     let conn = find(rt, store.as_str(), start)?;
-    Ok(judge(alloc, conn))
+    let (judged, conn) = judge(alloc, conn);
+    Ok((judged, close(conn)))
 }
 
 /// Prints what was judged.

@@ -1,11 +1,33 @@
-//! A law of offices in files: the contract of a function that does nothing.
+//! Laws of offices over nested sets, in memory and in files. Each function does nothing: its contract is the law.
 
 ghost use Rattle.sqlite.specs.Effect.{Database};
 ghost use Rattle.sqlite.specs.Recovery.{Image};
+ghost use Rattle.sqlite.specs.WalFiles.{image_at};
 ghost use Rattle.office_core.specs.State.{State};
+ghost use Rattle.program.specs.Closed.{ACheckChangesNothing};
+ghost use Rattle.program.specs.Headline.{TheHeadlineInAFile, TheHeadlineInMemory};
 ghost use Rattle.program.specs.Kept.{IsInTheStateThatWasLeft};
+
+use sqlite::{FileFrom, Start};
+use sqlite_disk::Disk;
 
 /// What is found in a file when an office is opened there is in the state that was left there.
 pub fn a_file_opens_in_the_state_that_was_left()
     ensures { (image : Image) (s : State) (found : Database) → IsInTheStateThatWasLeft image s found }
+{}
+
+/// Whatever sessions and calls come to a new office in memory, it shows the machine's state after the commands among
+/// them, and the rules are kept at each point.
+pub fn the_headline_in_memory()
+    ensures { TheHeadlineInMemory }
+{}
+
+/// The same of an office that a file held. When it is closed the file holds it in that state.
+pub fn the_headline_in_a_file<S: Start>()
+    ensures { TheHeadlineInAFile ⟦<FileFrom<S> as Disk>⟧ (image_at S.Start) }
+{}
+
+/// A check changes nothing: the file holds what it held.
+pub fn a_check_changes_nothing<S: Start>()
+    ensures { ACheckChangesNothing ⟦<FileFrom<S> as Disk>⟧ (image_at S.Start) }
 {}

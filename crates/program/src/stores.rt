@@ -9,11 +9,12 @@ ghost use Rattle.office.specs.Founding.{founded};
 ghost use Rattle.office.specs.Resting.{IsIn};
 ghost use Rattle.nested_sets.specs.Represents.{RepresentsSpanRows};
 ghost use Rattle.tree_core.specs.Versions.{Spans};
+ghost use Rattle.program.specs.Closed.{HasLeft};
 ghost use Rattle.program.specs.Faults.{IsUnopened};
 ghost use Rattle.program.specs.Kept.{IsFound};
 
 use crate::faults::Fault;
-use crate::files::{FileStoreFrom, close, find, make, unmake};
+use crate::files::{ClosedFiles, FileStoreFrom, close, find, make, unmake};
 use isad_core::Text;
 use nested_sets::SpanPlaces;
 use office::{Office, Settings};
@@ -67,7 +68,9 @@ pub fn open_office<S: Start>(
     }
 }
 
-/// Closes the file of an office.
-pub fn close_office<S: Start>(office: KeptOffice<S>) {
-    close(office.into_connection());
+/// Closes the file of an office. It holds what the office showed.
+pub fn close_office<S: Start>(office: KeptOffice<S>) -> ClosedFiles<S>
+    ensures { HasLeft office result }
+{
+    close(office.into_connection())
 }

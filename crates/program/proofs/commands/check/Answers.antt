@@ -10,10 +10,10 @@ returns-in_err-judged-clause-fault g c = failed_as c.from_residual.result _ _ c.
 
 pub returns-clause-done : goal.returns-clause-done
 returns-clause-done g c =
-    let was : WasJudged _ _ c.in_ok-judged.judged = record { after = c.in_ok-judged.conn; verdict = c.in_ok-judged.ensures } in
+    let was : WasJudged _ _ c.in_ok-judged.judged = record { after = c.in_ok-judged.ensures.after; verdict = c.in_ok-judged.ensures.verdict } in
     check_done _ _ _ _ c.in_ok-judged.judged c.tell_judgment.result was c.tell_judgment.ensures.done
 
 pub returns-clause-fault : goal.returns-clause-fault
 returns-clause-fault g c =
-    let was : WasJudged _ _ c.in_ok-judged.judged = record { after = c.in_ok-judged.conn; verdict = c.in_ok-judged.ensures } in
+    let was : WasJudged _ _ c.in_ok-judged.judged = record { after = c.in_ok-judged.ensures.after; verdict = c.in_ok-judged.ensures.verdict } in
     IfErr-weaker c.tell_judgment.result _ _ (λ fault why. inr (c.in_ok-judged.judged, was, why)) c.tell_judgment.ensures.fault

@@ -1,0 +1,49 @@
+-- The headline over nested sets.
+use Rattle.std.proofs.Common.{IsTrue, List, [], ◌∷◌, subst, sym}
+use Rattle.sqlite.specs.Effect.{Database}
+use Rattle.sqlite.specs.Files.{file_state, over_files}
+use Rattle.sqlite.specs.Held.{Held}
+use Rattle.sqlite.specs.Recovery.{Image}
+use Rattle.sqlite.specs.Steps.{over_memory}
+use Rattle.sqlite.proofs.Callers.{memory_is_clean}
+use Rattle.sqlite_disk.specs.declared.Disk.{Ghosts}
+use Rattle.sqlite_disk.specs.declared.Files.{Files}
+use Rattle.sqlite_store.specs.declared.store.FileStore.{FileStore}
+use Rattle.http_desk.proofs.OneRun as law
+use Rattle.http_desk.specs.Runs.{AreVisits, Visit}
+use Rattle.nested_sets.specs.Represents.{RepresentsSpanRows}
+use Rattle.office.specs.Resting.{is_clean, is_shown}
+use Rattle.office_core.specs.State.{State}
+use Rattle.office_tables.specs.Schema.{schema}
+use Rattle.refinement.specs.Represents.{RepresentsState}
+use Rattle.tree_core.specs.Versions.{Spans}
+use Rattle.program.specs.Closed.{HasLeft, HaveCleanDisk, HoldState}
+use Rattle.program.specs.Headline.{TheHeadlineInAFile, TheHeadlineInMemory}
+
+-- a disk that has returned what was written to the last visit did so before the first
+all_intact : {M : Type 0} (represents : M → State → Type 0) (is_intact : M → Type 0) (visits : List Visit) (old new : M) → AreVisits represents is_intact old new visits
+    → is_intact new → is_intact old
+all_intact represents is_intact [] old new same intact = subst is_intact (sym same) intact
+all_intact represents is_intact (visit ∷ later) old new (mid, first, rest) intact = first.intact (all_intact represents is_intact later mid new rest intact)
+
+pub in_memory : TheHeadlineInMemory
+in_memory founding visits old new shown are days =
+    law.the_headline (is_shown over_memory RepresentsSpanRows Spans) (is_clean over_memory) visits old new are days (memory_is_clean new) _ shown shown.0.sound
+
+-- the tables that show a state are of our schema
+shows : (db : Database) (s : State) → RepresentsState RepresentsSpanRows Spans db s → RepresentsState RepresentsSpanRows Spans (record { schema = schema Spans; trees = db.trees }) s
+shows db s it = subst (λ k. RepresentsState RepresentsSpanRows Spans (record { schema = k; trees = db.trees }) s) it.catalogue.catalogue.schema_is it
+
+module _ {D : Type 0} (g : Ghosts D) (image : Image) where
+  held_so : (office : Held (FileStore D g)) (files : Files D) (s : State) → HasLeft office files → HaveCleanDisk g files
+      → RepresentsState RepresentsSpanRows Spans (file_state office).now s → IsTrue (file_state office).is_open → HoldState g files s
+  held_so office files s left honest is opened = ((file_state office).now.trees, left.hold honest opened, shows (file_state office).now s is)
+
+  pub in_a_file : TheHeadlineInAFile g image
+  in_a_file s visits old new files found holds sound are days left honest =
+      let clean = left.clean honest in
+      let shown = is_shown (over_files {g = g}) RepresentsSpanRows Spans in
+      let intact = is_clean (over_files {g = g}) in
+      let first = (found (all_intact shown intact visits old new are clean)).left s holds in
+      let (t, after, run) = law.the_headline shown intact visits old new are days clean s (sound, first) sound.sound in
+      (t, run, λ opened. held_so new files t left honest (after.1 opened) opened)
