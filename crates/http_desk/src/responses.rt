@@ -49,7 +49,8 @@ fn done<M: Machine>(alloc: Global, office: &mut M, command: Command) -> Result<A
     ensures intact { M.is_intact office.new → M.is_intact office.old }
     ensures answers { IfOk result (λ a. M.is_intact office.new → (s : State) → M.represents office.old s →
         M.represents office.new (spec.done s command).1 × (answer_in a ≡ (spec.done s command).0)) }
-    ensures busy { OnErr result (M.is_intact office.new → (s : State) → M.represents office.old s → M.represents office.new s) }
+    ensures busy { OnErr result (M.is_intact office.new → (s : State) → M.represents office.old s
+        → M.represents office.new s) }
 {
     match office.apply(alloc, command) {
         Ok(reply) => Ok(of_reply(reply)),
@@ -62,7 +63,8 @@ fn asked<M: Machine>(alloc: Global, office: &mut M, query: Query) -> Result<Answ
     ensures intact { M.is_intact office.new → M.is_intact office.old }
     ensures answers { IfOk result (λ a. M.is_intact office.new → (s : State) → M.represents office.old s →
         M.represents office.new s × (answer_in a ≡ spec.of_told (answer s query))) }
-    ensures busy { OnErr result (M.is_intact office.new → (s : State) → M.represents office.old s → M.represents office.new s) }
+    ensures busy { OnErr result (M.is_intact office.new → (s : State) → M.represents office.old s
+        → M.represents office.new s) }
 {
     match office.ask(alloc, query) {
         Ok(told) => Ok(of_told(told)),
@@ -79,7 +81,8 @@ fn done_if_read<M: Machine>(
     ensures intact { M.is_intact office.new → M.is_intact office.old }
     ensures answers { IfOk result (λ a. M.is_intact office.new → (s : State) → M.represents office.old s →
         M.represents office.new (spec.done_if_read s command).1 × (answer_in a ≡ (spec.done_if_read s command).0)) }
-    ensures busy { OnErr result (M.is_intact office.new → (s : State) → M.represents office.old s → M.represents office.new s) }
+    ensures busy { OnErr result (M.is_intact office.new → (s : State) → M.represents office.old s
+        → M.represents office.new s) }
 {
     match command {
         Some(command) => done(alloc, office, command),
@@ -120,7 +123,8 @@ fn carried_out<M: Machine>(
     ensures answers { IfOk result (λ a. M.is_intact office.new → (s : State) → M.represents office.old s →
         M.represents office.new (spec.carried_out s body.now (route_in route.entry)).1
         × (answer_in a ≡ (spec.carried_out s body.now (route_in route.entry)).0)) }
-    ensures busy { OnErr result (M.is_intact office.new → (s : State) → M.represents office.old s → M.represents office.new s) }
+    ensures busy { OnErr result (M.is_intact office.new → (s : State) → M.represents office.old s
+        → M.represents office.new s) }
 {
     match route {
         Route::Asks(query) => asked(alloc, office, query),
@@ -151,7 +155,8 @@ fn by_route<M: Machine>(
     ensures answers { IfOk result (λ a. M.is_intact office.new → (s : State) → M.represents office.old s →
         M.represents office.new (spec.by_route s (request_in block.now head) body.now (Some (route_in route.entry))).1
         × (answer_in a ≡ (spec.by_route s (request_in block.now head) body.now (Some (route_in route.entry))).0)) }
-    ensures busy { OnErr result (M.is_intact office.new → (s : State) → M.represents office.old s → M.represents office.new s) }
+    ensures busy { OnErr result (M.is_intact office.new → (s : State) → M.represents office.old s
+        → M.represents office.new s) }
 {
     let post = is_post(route);
     if !is_method(head.method.of(block), post) {
@@ -177,7 +182,8 @@ pub fn respond<M: Machine>(
     ensures answers { IfOk result (λ a. M.is_intact office.new → (s : State) → M.represents office.old s →
         M.represents office.new (spec.answered s (request_in block.now head) body.now).1
         × (answer_in a ≡ (spec.answered s (request_in block.now head) body.now).0)) }
-    ensures busy { OnErr result (M.is_intact office.new → (s : State) → M.represents office.old s → M.represents office.new s) }
+    ensures busy { OnErr result (M.is_intact office.new → (s : State) → M.represents office.old s
+        → M.represents office.new s) }
 {
     match means.routes.route_of(path_of(head.target.of(block))) {
         None => Ok(Answered::Error(Status::NotFound)),
