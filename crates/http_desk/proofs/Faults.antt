@@ -1,10 +1,12 @@
--- Which faults are told after a sending, and how many calls were made.
+-- Which faults are told after a sending, what was flushed, and how many calls were made.
 use Rattle.std.proofs.Common.{◌≡◌, refl, ap, ◌∙◌, ◌+◌, ◌≤◌, sym, true, false, subst, arith}
 use Rattle.std.specs.Prelude.{◌||◌, Bool}
 use Rattle.http_desk.specs.declared.session_end.Next.{Next}
+use Rattle.http_desk.specs.declared.session_end.Next.TheVariants.{Goes, Ends}
+use Rattle.http_desk.specs.declared.session_end.Ended.TheVariants as ends
 use Rattle.http_desk.specs.declared.output.Sent.{Sent}
 use Rattle.http_desk.specs.declared.output.Sent.TheVariants.{All, Failed, Bound}
-use Rattle.http_desk.specs.Quiet.{is_read_fault, is_write_fault, send_failed, TakesTurns}
+use Rattle.http_desk.specs.Quiet.{is_read_fault, is_write_fault, send_failed, IsFlushed, TakesTurns}
 use Rattle.http_desk.specs.Streams.{Stream}
 use Rattle.http_desk.specs.Talking.{IsNoEnd, after_answer, after_sending}
 
@@ -45,3 +47,27 @@ one_more a b c (same, few) again more one = (again ∙ same, omega arith)
 -- calls, and more calls
 pub takes_on : (a b c : Stream) → TakesTurns a b → TakesTurns b c → TakesTurns a c
 takes_on a b c (same, few) (again, more) = (again ∙ same, omega arith)
+
+-- where nothing waits to be flushed, that holds whatever comes next
+pub flushed_then : (writer : Stream) (next : Next) → writer.flushed ≡ true → IsFlushed writer next
+flushed_then writer Goes e = e
+flushed_then writer (Ends ends.End) e = e
+flushed_then writer (Ends ends.Closed) e = e
+flushed_then writer (Ends ends.Cut) e = e
+flushed_then writer (Ends ends.ReadFault) e = e
+flushed_then writer (Ends ends.WriteFault) e = tt
+flushed_then writer (Ends ends.Bound) e = tt
+
+flushed_by : (writer : Stream) (sent : Sent) (next : Next) → (sent ≡ All → writer.flushed ≡ true) → IsFlushed writer (after_sending sent next)
+flushed_by writer All next f = flushed_then writer next (f refl)
+flushed_by writer Failed next f = tt
+flushed_by writer Bound next f = tt
+
+-- what was sent was flushed, or a fault is told
+pub flushed_after : (writer : Stream) (sent : Sent) (next result : Next) → result ≡ after_sending sent next → (sent ≡ All → writer.flushed ≡ true)
+    → IsFlushed writer result
+flushed_after writer sent next result e f = subst (IsFlushed writer) (sym e) (flushed_by writer sent next f)
+
+-- the same, where not all was sent, whatever was flushed
+pub not_all_sent : (writer : Stream) (sent : Sent) (next result : Next) → (sent ≡ All → ⊥) → result ≡ after_sending sent next → IsFlushed writer result
+not_all_sent writer sent next result n e = flushed_after writer sent next result e (λ all. absurd (n all))

@@ -12,12 +12,14 @@ pub record Stream : Type 0 where
   pub interrupted : Bool  -- a call was interrupted
   pub calls : ℕ  -- so many were made; the count stops at 2^64 - 1
   pub turns : ℕ  -- so many more may be made for this message, or for this text
+  pub flushed : Bool  -- all that was written was flushed, as of a reader, which writes nothing
 
 -- it was not called yet
 pub record IsNew (stream : Stream) : Type 0 where
   pub none_failed : stream.failed ≡ false
   pub none_interrupted : stream.interrupted ≡ false
   pub none_made : stream.calls ≡ 0
+  pub none_waits : stream.flushed ≡ true
 
 -- the reads of one message: a byte each of the longest head and the longest body, and one more
 abbrev pub most_reads : ℕ
@@ -38,3 +40,13 @@ abbrev pub was_interrupted : {A : Type 0} → Result A Undone → Bool
 was_interrupted (Ok a) = false
 was_interrupted (Err Failed) = false
 was_interrupted (Err Interrupted) = true
+
+-- ---- whether all is flushed after a write, and after a flush
+
+abbrev pub after_write : Bool → Result ℕ Undone → Bool
+after_write flushed (Ok n) = false
+after_write flushed (Err undone) = flushed
+
+abbrev pub after_flush : Bool → Result (Unit {0}) Undone → Bool
+after_flush flushed (Ok done) = true
+after_flush flushed (Err undone) = flushed

@@ -3,7 +3,6 @@
 
 pub mod input_buffer;
 pub mod laws;
-pub mod means;
 pub mod message_input;
 pub mod output;
 pub mod reply;

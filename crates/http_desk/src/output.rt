@@ -1,5 +1,6 @@
 //! Writes whole answers, in few writes. Nothing here takes an allocator.
-ghost use Rattle.std.specs.Prelude.{◌≡◌, ◌≢◌, ◌+◌, ◌<◌, ◌≤◌, ◌||◌, ◌^◌, ℕ, List, [], ◌++◌, length, false};
+ghost use Rattle.std.specs.Prelude.{◌≡◌, ◌≢◌, ◌+◌, ◌<◌, ◌≤◌, ◌||◌, ◌^◌, ℕ, List, [], ◌++◌, length};
+ghost use Rattle.std.specs.Prelude.{true, false};
 ghost use Rattle.http_desk.specs.Quiet.{QuietSend, TakesCalls, TakesTurns, send_failed};
 ghost use Rattle.std.specs.List.{flat_map};
 ghost use Rattle.std.specs.Io.KnownBytes.{Appends};
@@ -51,6 +52,7 @@ fn send_piece<W: Write>(writer: &mut Sink<'_, W>, piece: &[u8]) -> Sent
 /// Flushes, in as many turns as are left.
 fn flush<W: Write>(writer: &mut Sink<'_, W>) -> Sent
     ensures nothing { Appends writer.old.bytes writer.new.bytes [] }
+    ensures flushed { result ≡ Sent.All → writer.new.flushed ≡ true }
     ensures failed { writer.new.failed ≡ (send_failed result || writer.old.failed) }
     ensures bound { writer.new.interrupted ≡ false
         → (writer.old.interrupted ≡ false) × (0 < writer.old.turns → result ≢ Sent.Bound) }
@@ -112,6 +114,7 @@ pub fn send<W: Write>(writer: &mut Sink<'_, W>, pieces: &[&[u8]]) -> Sent
     requires { length (flat_map (λ p. p.now) pieces.now) + more_writes < 2 ^ 64 }
     ensures all { result ≡ Sent.All
         → Appends writer.old.bytes writer.new.bytes (flat_map (λ p. p.now) pieces.now) }
+    ensures flushed { result ≡ Sent.All → writer.new.flushed ≡ true }
     ensures failed { writer.new.failed ≡ (send_failed result || writer.old.failed) }
     ensures bound { writer.new.interrupted ≡ false → (writer.old.interrupted ≡ false) × (result ≢ Sent.Bound) }
     ensures calls { TakesCalls (length (flat_map (λ p. p.now) pieces.now) + more_writes) writer.old writer.new }

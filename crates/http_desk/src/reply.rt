@@ -1,5 +1,5 @@
 //! Writes answers. Nothing here takes an allocator.
-ghost use Rattle.std.specs.Prelude.{◌≡◌, ◌≢◌, ◌+◌, ◌<◌, ◌^◌, ◌||◌, length, false};
+ghost use Rattle.std.specs.Prelude.{◌≡◌, ◌≢◌, ◌+◌, ◌<◌, ◌^◌, ◌||◌, length, true, false};
 ghost use Rattle.http_messages.specs.Answers.{answer_text, continue_text};
 ghost use Rattle.http_messages.specs.Replies.{answer_in};
 ghost use Rattle.http_desk.specs.Sending.{Sends};
@@ -28,6 +28,7 @@ struct Parts<'a> {
 /// Writes an answer's parts, with what stands between them.
 fn send_parts<W: Write>(writer: &mut Sink<'_, W>, parts: Parts<'_>) -> Sent
     requires { length (parts_text parts) + more_writes < 2 ^ 64 }
+    ensures flushed { result ≡ Sent.All → writer.new.flushed ≡ true }
     ensures failed { writer.new.failed ≡ (send_failed result || writer.old.failed) }
     ensures bound { writer.new.interrupted ≡ false → (writer.old.interrupted ≡ false) × (result ≢ Sent.Bound) }
     ensures calls { TakesCalls (length (parts_text parts.entry) + more_writes) writer.old writer.new }
@@ -60,6 +61,7 @@ pub fn send_answer<W: Write>(
     closing: bool,
     answer: &Answered,
 ) -> Sent
+    ensures flushed { result ≡ Sent.All → writer.new.flushed ≡ true }
     ensures failed { writer.new.failed ≡ (send_failed result || writer.old.failed) }
     ensures bound { writer.new.interrupted ≡ false → (writer.old.interrupted ≡ false) × (result ≢ Sent.Bound) }
     ensures calls { TakesCalls (length (answer_text bare closing (answer_in answer.now)) + more_writes)
@@ -86,6 +88,7 @@ pub fn send_answer<W: Write>(
 
 /// Writes that a body may come.
 pub fn send_continue<W: Write>(writer: &mut Sink<'_, W>) -> Sent
+    ensures flushed { result ≡ Sent.All → writer.new.flushed ≡ true }
     ensures failed { writer.new.failed ≡ (send_failed result || writer.old.failed) }
     ensures bound { writer.new.interrupted ≡ false → (writer.old.interrupted ≡ false) × (result ≢ Sent.Bound) }
     ensures calls { TakesCalls (length continue_text + more_writes) writer.old writer.new }

@@ -1,5 +1,5 @@
 //! What is answered to a request.
-ghost use Rattle.std.specs.Prelude.{◌&&◌, ◌≡◌, length, IfOk, OnErr, is_none, Some};
+ghost use Rattle.std.specs.Prelude.{◌&&◌, ◌≡◌, [], length, IfOk, OnErr, is_none, Some};
 ghost use Rattle.httparse.specs.Spans.{IsWithin};
 ghost use Rattle.office_core.specs.State.{State};
 ghost use Rattle.office_core.specs.Rules as rules;
@@ -11,16 +11,37 @@ ghost use Rattle.http_messages.specs.Replies.{answer_in};
 ghost use Rattle.http_messages.specs.Routing.{route_in};
 ghost use Rattle.office_core.specs.declared.command.Command.TheVariants as commands;
 
-use crate::means::Means;
 use http_messages::answers::Answered;
 use http_messages::head_verdict::Head;
 use http_messages::members::command_in;
-use http_messages::routes::{Route, is_method, is_post};
+use http_messages::routes::{Route, Routes, is_method, is_post};
 use http_messages::status::Status;
 use http_messages::targets::path_of;
 use isad_core::{List, Text};
 use office_core::{Answer, Busy, Command, Machine, Query, Reply};
 use std::alloc::{AllocError, Global};
+
+/// What a session answers with, beside its office: memory, and the routes that its paths are looked up in. Nothing outside
+/// this module can take of its memory but an empty buffer.
+#[derive(Drop)]
+pub struct Means {
+    alloc: Global,
+    routes: Routes,
+}
+
+impl Means {
+    pub fn new(alloc: Global) -> Result<Means, AllocError> {
+        let routes = Routes::new(alloc)?;
+        Ok(Means { alloc, routes })
+    }
+
+    /// A buffer with nothing in it.
+    pub fn empty_buffer(&self) -> Vec<u8>
+        ensures { result.items ≡ [] }
+    {
+        Vec::new(self.alloc)
+    }
+}
 
 /// The answer of a reply.
 fn of_reply(reply: Reply) -> Answered

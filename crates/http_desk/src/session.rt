@@ -1,5 +1,5 @@
 //! Talks with one peer.
-ghost use Rattle.std.specs.Prelude.{◌≢◌, ◌||◌, ◌<◌, false, ◌≡◌, ◌≤◌, ◌+◌, ◌*◌, ◌++◌};
+ghost use Rattle.std.specs.Prelude.{◌≢◌, ◌||◌, ◌<◌, true, false, ◌≡◌, ◌≤◌, ◌+◌, ◌*◌, ◌++◌};
 ghost use Rattle.std.specs.Prelude.{length, take, drop, unwrap_or, nat_eq};
 ghost use Rattle.std.specs.Io.KnownBytes.{Appends};
 ghost use Rattle.httparse.specs.Spans.{IsWithin, span_bytes};
@@ -15,14 +15,14 @@ ghost use Rattle.http_desk.specs.Session.{leave_if, most_answers};
 ghost use Rattle.http_desk.specs.Streams.{most_reads};
 ghost use Rattle.http_desk.specs.Talking.{Turn, Through, Exchange, Talks, TalksWhole, AtEndIf, IsNoEnd};
 ghost use Rattle.http_desk.specs.Talking.{Refused, Replies, after_answer, after_sending};
-ghost use Rattle.http_desk.specs.Quiet.{IsQuiet, NoBound, NoWriteBound, TellsReadFault, TellsWriteFault};
+ghost use Rattle.http_desk.specs.Quiet.{FlushesAll, IsFlushed, IsQuiet, NoBound, NoWriteBound};
+ghost use Rattle.http_desk.specs.Quiet.{TellsReadFault, TellsWriteFault};
 ghost use Rattle.http_desk.specs.Quiet.{TakesCalls, TakesTurns, send_failed};
 
-use crate::means::Means;
 use crate::message_input::{FoundBody, FoundHead, gather_body, gather_head};
 use crate::output::Sent;
 use crate::reply::{send_answer, send_continue};
-use crate::responses::respond;
+use crate::responses::{Means, respond};
 use crate::session_end::{Ended, Next};
 use crate::streams::{Sink, Source};
 use http_messages::answers::Answered;
@@ -49,6 +49,7 @@ fn after(sent: Sent, next: Next) -> Next
 /// Writes a fixed answer, and closes.
 fn refuse<W: Write>(writer: &mut Sink<'_, W>, bare: bool, status: Status) -> Next
     ensures sent { Refused writer.old.bytes writer.new.bytes bare status result }
+    ensures flushed { IsFlushed writer.new result }
     ensures writes { TellsWriteFault writer.old writer.new result }
     ensures turns { NoWriteBound writer.old writer.new result }
     ensures same { writer.new.name ≡ writer.old.name }
@@ -57,11 +58,12 @@ fn refuse<W: Write>(writer: &mut Sink<'_, W>, bare: bool, status: Status) -> Nex
     after(sent, Next::Ends(Ended::Closed))
 }
 
-/// Writes the office's answer, all of it, and says what comes then. It is passed no allocator, so that nothing takes
-/// memory before the last byte.
+/// Writes the office's answer, all of it, and says what comes then. It is passed no allocator, and nothing that has one
+/// but the answer.
 fn reply<W: Write>(writer: &mut Sink<'_, W>, bare: bool, closing: bool, answer: &Answered) -> Next
     ensures sent { Replies writer.old.bytes writer.new.bytes closing
         (answer_text bare closing (answer_in answer.now)) result }
+    ensures flushed { IsFlushed writer.new result }
     ensures writes { TellsWriteFault writer.old writer.new result }
     ensures turns { NoWriteBound writer.old writer.new result }
     ensures same { writer.new.name ≡ writer.old.name }
@@ -80,6 +82,7 @@ fn give_leave<W: Write>(writer: &mut Sink<'_, W>, head: Head) -> Sent
     ensures turns { writer.new.interrupted ≡ false → (writer.old.interrupted ≡ false) × (result ≢ Sent.Bound) }
     ensures same { writer.new.name ≡ writer.old.name }
     ensures sends { Sends writer.old.bytes writer.new.bytes (leave_if head.waits) result }
+    ensures flushed { result ≡ Sent.All → writer.old.flushed ≡ true → writer.new.flushed ≡ true }
 {
     if head.waits {
         send_continue(writer)
@@ -143,6 +146,7 @@ fn act<W: Write, M: Machine>(
         Turn number s buffer.old.items result (leave_if head.waits ++ written) t buffer.new.items) }
     ensures intact { M.is_intact office.new → M.is_intact office.old }
     ensures no_end { IsNoEnd result }
+    ensures flushed { IsFlushed writer.new result }
     ensures writes { TellsWriteFault writer.old writer.new result }
     ensures turns { NoWriteBound writer.old writer.new result }
     ensures same { writer.new.name ≡ writer.old.name }
@@ -182,6 +186,7 @@ fn receive<R: Read, W: Write, M: Machine>(
         writer.old.bytes writer.new.bytes office.old buffer.old.items result office.new buffer.new.items }
     ensures intact { M.is_intact office.new → M.is_intact office.old }
     ensures at_end { AtEndIf reader.new.bytes result }
+    ensures flushed { FlushesAll writer.old writer.new result }
     ensures reads { TellsReadFault reader.old reader.new result }
     ensures writes { TellsWriteFault writer.old writer.new result }
     ensures turns { NoBound reader.old reader.new writer.old writer.new result }
@@ -215,6 +220,7 @@ fn exchange<R: Read, W: Write, M: Machine>(
         writer.old.bytes writer.new.bytes office.old buffer.old.items result office.new buffer.new.items }
     ensures intact { M.is_intact office.new → M.is_intact office.old }
     ensures at_end { AtEndIf reader.new.bytes result }
+    ensures flushed { FlushesAll writer.old writer.new result }
     ensures reads { TellsReadFault reader.old reader.new result }
     ensures writes { TellsWriteFault writer.old writer.new result }
     ensures turns { NoBound reader.old reader.new writer.old writer.new result }
@@ -249,13 +255,14 @@ fn talk_with<R: Read, W: Write, M: Machine>(
         writer.old.bytes writer.new.bytes office.old result office.new }
     ensures intact { M.is_intact office.new → M.is_intact office.old }
     ensures at_end { AtEndIf reader.new.bytes (Next.Ends result) }
+    ensures flushed { FlushesAll writer.old writer.new (Next.Ends result) }
     ensures read_fault { TellsReadFault reader.old reader.new (Next.Ends result) }
     ensures write_fault { TellsWriteFault writer.old writer.new (Next.Ends result) }
     ensures bound { reader.new.interrupted ≡ false → writer.new.interrupted ≡ false → result ≢ Ended.Bound }
     ensures calls { TakesCalls (most_answers * most_reads) reader.old reader.new }
     ensures same { writer.new.name ≡ writer.old.name }
 {
-    let mut buffer = Vec::new(means.alloc);
+    let mut buffer = means.empty_buffer();
     for number in 1..10_001u32 {
         match exchange(means, reader, writer, office, &mut buffer, number) {
             Next::Goes => {}
@@ -280,6 +287,8 @@ pub fn talk<R: Read, W: Write, M: Machine>(
         writer.old.bytes writer.new.bytes office.old result office.new }
     ensures intact { M.is_intact office.new → M.is_intact office.old }
     ensures at_end { AtEndIf reader.new.bytes (Next.Ends result) }
+    // All that was written was flushed, unless a fault of the writer or a bound ends the session.
+    ensures flushed { FlushesAll writer.old writer.new (Next.Ends result) }
     // Each fault comes exactly where such a call has failed, and a bound only where one was interrupted.
     ensures read_fault { TellsReadFault reader.old reader.new (Next.Ends result) }
     ensures write_fault { TellsWriteFault writer.old writer.new (Next.Ends result) }

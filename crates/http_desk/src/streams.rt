@@ -2,7 +2,8 @@
 ghost use Rattle.std.specs.Prelude.{◌≡◌, ◌≢◌, ◌+◌, ◌<◌, ◌≤◌, ◌||◌, ◌^◌, [], length, take, nat_lt, IfOk, OnErr};
 ghost use Rattle.std.specs.Io.KnownBytes.{Appends, ReadConsumes};
 ghost use Rattle.std.specs.Io.{ReadsAtMost};
-ghost use Rattle.http_desk.specs.Streams.{IsNew, has_failed, most_reads, more_writes, was_interrupted};
+ghost use Rattle.http_desk.specs.Streams.{IsNew, after_flush, after_write, has_failed, most_reads, more_writes};
+ghost use Rattle.http_desk.specs.Streams.{was_interrupted};
 
 use std::io::{ErrorKind, Read, Write};
 use std::marker::Model;
@@ -33,6 +34,7 @@ pub struct Source<'a, R: Read> {
 }
 
 impl<'a, R: Read> Model for Source<'a, R> {
+    ghost use Rattle.std.specs.Prelude.{true};
     ghost use Rattle.http_desk.specs.Streams.{Stream};
 
     ghost Value = { Stream };
@@ -44,6 +46,7 @@ impl<'a, R: Read> Model for Source<'a, R> {
       interrupted = s.interrupted;
       calls = s.calls;
       turns = s.turns;
+      flushed = true;
     } };
 }
 
@@ -143,6 +146,7 @@ pub struct Sink<'a, W: Write> {
     interrupted: bool,
     calls: u64,
     turns: u64,
+    flushed: bool,
 }
 
 impl<'a, W: Write> Model for Sink<'a, W> {
@@ -157,6 +161,7 @@ impl<'a, W: Write> Model for Sink<'a, W> {
       interrupted = s.interrupted;
       calls = s.calls;
       turns = s.turns;
+      flushed = s.flushed;
     } };
 }
 
@@ -173,6 +178,7 @@ impl<'a, W: Write> Sink<'a, W> {
             interrupted: false,
             calls: 0,
             turns: 0,
+            flushed: true,
         }
     }
 
@@ -214,6 +220,13 @@ impl<'a, W: Write> Sink<'a, W> {
         self.interrupted
     }
 
+    /// Whether all that was written was flushed.
+    pub fn is_flushed(&self) -> bool
+        ensures { result ≡ self.now.flushed }
+    {
+        self.flushed
+    }
+
     /// How many writes and flushes were made.
     pub fn calls(&self) -> u64
         ensures { result ≡ self.now.calls }
@@ -228,6 +241,7 @@ impl<'a, W: Write> Sink<'a, W> {
             × Appends self.old.bytes self.new.bytes (take n piece.now)) }
         ensures nothing { OnErr result (Appends self.old.bytes self.new.bytes []) }
         ensures same { self.new.name ≡ self.old.name }
+        ensures flushed { self.new.flushed ≡ after_write self.old.flushed result }
         ensures failed { self.new.failed ≡ (has_failed result || self.old.failed) }
         ensures interrupted { self.new.interrupted ≡ (was_interrupted result || self.old.interrupted) }
         ensures calls { self.new.calls ≤ self.old.calls + 1 }
@@ -240,7 +254,10 @@ impl<'a, W: Write> Sink<'a, W> {
                 self.failed = true;
                 Err(Undone::Failed)
             }
-            Ok(n) => Ok(n),
+            Ok(n) => {
+                self.flushed = false;
+                Ok(n)
+            }
             Err(e) => {
                 if e.kind() == ErrorKind::Interrupted {
                     self.interrupted = true;
@@ -258,6 +275,7 @@ impl<'a, W: Write> Sink<'a, W> {
         requires { 0 < self.old.turns }
         ensures nothing { Appends self.old.bytes self.new.bytes [] }
         ensures same { self.new.name ≡ self.old.name }
+        ensures flushed { self.new.flushed ≡ after_flush self.old.flushed result }
         ensures failed { self.new.failed ≡ (has_failed result || self.old.failed) }
         ensures interrupted { self.new.interrupted ≡ (was_interrupted result || self.old.interrupted) }
         ensures calls { self.new.calls ≤ self.old.calls + 1 }
@@ -266,7 +284,10 @@ impl<'a, W: Write> Sink<'a, W> {
         self.turns -= 1;
         self.calls = self.calls.saturating_add(1);
         match self.writer.flush() {
-            Ok(()) => Ok(()),
+            Ok(()) => {
+                self.flushed = true;
+                Ok(())
+            }
             Err(e) => {
                 if e.kind() == ErrorKind::Interrupted {
                     self.interrupted = true;

@@ -36,6 +36,7 @@ returns-in_default g c =
     let h : c.loop-piece.piece-index < length c.args.pieces.now = omega arith in
     record {
       all = λ e. absurd (c.in_default.not-All e);
+      flushed = λ e. absurd (c.in_default.not-All e);
       failed = c.gather_or_send.ensures.failed ∙ ap (λ b. send_failed c.gather_or_send.result || b) (rw c.begin_text.ensures at c.loop-piece.invariant.failed);
       bound = λ q.
           let (before, here) = c.gather_or_send.ensures.bound q in (
@@ -73,6 +74,7 @@ returns-in_default-send_piece g c =
     let here_front = subst (λ l. IsFront front l) c.as_slice.ensures.value is_front in
     record {
       all = λ e. absurd (c.in_default-send_piece.not-All e);
+      flushed = λ e. absurd (c.in_default-send_piece.not-All e);
       failed = c.send_piece.ensures.failed ∙ ap (λ b. send_failed c.send_piece.result || b) (rw c.begin_text.ensures at c.loop-piece.invariant.failed);
       bound = λ q.
           let (before, here) = c.send_piece.ensures.bound q in

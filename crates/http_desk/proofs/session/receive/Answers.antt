@@ -13,7 +13,7 @@ use Rattle.http_desk.specs.declared.session_end.Next.{Next}
 use Rattle.http_desk.specs.declared.session_end.Next.TheVariants.{Ends}
 use Rattle.http_desk.specs.declared.output.Sent.{Sent}
 use Rattle.http_desk.specs.declared.output.Sent.TheVariants.{All as SendAll, Failed as SendFailed, Bound as SendBound}
-use Rattle.http_desk.proofs.Faults.{no_read_told, writes_told}
+use Rattle.http_desk.proofs.Faults.{no_read_told, not_all_sent, writes_told}
 use Rattle.http_desk.proofs.session.receive.Goals as goal
 
 no_bound : (sent : Sent) (next : Next) → next ≡ after_sending sent (Ends Closed) → (sent ≢ SendBound)
@@ -36,6 +36,7 @@ returns-in_default g c =
       turn = turn;
       intact = λ i. i;
       at_end = at_end;
+      flushed = λ q. not_all_sent c.give_leave.new.writer c.give_leave.result _ c.after.result c.in_default.not-All c.after.ensures;
       reads =
           let none = no_read_told c.give_leave.result (Ends Closed) c.after.result refl c.after.ensures in
           ap (λ b. b || c.args.reader.now.failed) (sym none);

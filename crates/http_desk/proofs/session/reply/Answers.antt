@@ -1,5 +1,5 @@
 use Rattle.std.proofs.Common.{refl}
-use Rattle.http_desk.proofs.Faults.{writes_told}
+use Rattle.http_desk.proofs.Faults.{flushed_after, writes_told}
 use Rattle.http_desk.proofs.session.reply.Goals as goal
 
 pub returns-then-closing-clause-writes : goal.returns-then-closing-clause-writes
@@ -7,3 +7,9 @@ returns-then-closing-clause-writes g c = writes_told c.send_answer-sent.result _
 
 pub returns-else-closing-clause-writes : goal.returns-else-closing-clause-writes
 returns-else-closing-clause-writes g c = writes_told c.send_answer-sent.result _ c.after-else-closing.result _ _ refl c.after-else-closing.ensures c.send_answer-sent.ensures.failed
+
+pub returns-then-closing-clause-flushed : goal.returns-then-closing-clause-flushed
+returns-then-closing-clause-flushed g c = flushed_after c.send_answer-sent.new.writer c.send_answer-sent.result _ c.after.result c.after.ensures c.send_answer-sent.ensures.flushed
+
+pub returns-else-closing-clause-flushed : goal.returns-else-closing-clause-flushed
+returns-else-closing-clause-flushed g c = flushed_after c.send_answer-sent.new.writer c.send_answer-sent.result _ c.after-else-closing.result c.after-else-closing.ensures c.send_answer-sent.ensures.flushed

@@ -1,16 +1,17 @@
 use Rattle.std.proofs.Common.{◌≡◌, arith, subst, refl, ap, ◌∙◌}
 use Rattle.std.specs.Prelude.{◌||◌}
-use Rattle.http_desk.specs.Quiet.{is_read_fault, is_write_fault}
+use Rattle.http_desk.specs.Quiet.{IsFlushed, is_read_fault, is_write_fault}
 use Rattle.http_desk.specs.declared.session_end.Ended.TheVariants.{Closed}
 use Rattle.http_desk.proofs.Sessions.{Carried, carried_none, carried_on, carried_to_end, carried_over}
 use Rattle.http_desk.proofs.session.talk_with.Goals as goal
 
 pub loop-number-init : goal.loop-number-init
 loop-number-init g c = record {
-  carried = carried_none g.M.Machine.represents g.M.Machine.is_intact _ _ c.args.office.now c.new-buffer.result.items c.new-buffer.ensures.items;
+  carried = carried_none g.M.Machine.represents g.M.Machine.is_intact _ _ c.args.office.now c.empty_buffer-buffer.result.items c.empty_buffer-buffer.ensures;
   reads = refl;
   writes = refl;
   quiet = λ p q. (p, q);
+  flushed = λ q. q;
   calls = (refl, omega arith);
   same = refl;
 }
@@ -21,6 +22,7 @@ loop-number-preserved g c = record {
   reads = c.exchange.ensures.reads ∙ ap (λ n. is_read_fault n || c.loop-number.reader.failed) c.in-Goes.is ∙ c.loop-number.invariant.reads;
   writes = c.exchange.ensures.writes ∙ ap (λ n. is_write_fault n || c.loop-number.writer.failed) c.in-Goes.is ∙ c.loop-number.invariant.writes;
   quiet = λ p q. let (r, w, here) = c.exchange.ensures.turns p q in c.loop-number.invariant.quiet r w;
+  flushed = λ q. subst (IsFlushed c.exchange.new.writer) c.in-Goes.is (c.exchange.ensures.flushed (c.loop-number.invariant.flushed q));
   calls = (
     c.exchange.ensures.calls.0 ∙ c.loop-number.invariant.calls.0,
     omega (arith, c.exchange.ensures.calls.1, c.loop-number.invariant.calls.1),
@@ -35,6 +37,10 @@ returns-in-Ends-clause-read_fault g c =
 pub returns-in-Ends-clause-write_fault : goal.returns-in-Ends-clause-write_fault
 returns-in-Ends-clause-write_fault g c =
     c.exchange.ensures.writes ∙ (λ i. is_write_fault (c.in-Ends.is i) || c.loop-number.invariant.writes i)
+
+pub returns-in-Ends-clause-flushed : goal.returns-in-Ends-clause-flushed
+returns-in-Ends-clause-flushed g c = λ q.
+    subst (IsFlushed c.exchange.new.writer) c.in-Ends.is (c.exchange.ensures.flushed (c.loop-number.invariant.flushed q))
 
 pub returns-in-Ends-clause-session : goal.returns-in-Ends-clause-session
 returns-in-Ends-clause-session g c =
