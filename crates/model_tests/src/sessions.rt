@@ -20,6 +20,12 @@ const FONDS: &[u8] =
 const REGISTER: &[u8] =
     b"POST /desk/register HTTP/1.1\r\nHost: x\r\nContent-Length: 35\r\n\r\n{\"name\":\"Ann\",\"until\":\"2024-12-31\"}";
 
+const REGISTER_TWICE: &[u8] =
+    b"POST /desk/register HTTP/1.1\r\nHost: x\r\nContent-Length: 35\r\n\r\n{\"name\":\"Ann\",\"until\":\"2024-12-31\"}POST /desk/register HTTP/1.1\r\nHost: x\r\nContent-Length: 35\r\n\r\n{\"name\":\"Bob\",\"until\":\"2024-12-31\"}";
+
+const TICKET: &[u8] =
+    b"HTTP/1.1 200 OK\r\nContent-Type: application/json\r\nContent-Length: 12\r\n\r\n{\"ticket\":1}";
+
 const WAITS: &[u8] =
     b"POST /desk/register HTTP/1.1\r\nHost: x\r\nContent-Length: 35\r\nExpect: 100-continue\r\n\r\n";
 
@@ -42,6 +48,7 @@ fn two_requests(rt: HostRuntime) -> Result<(), Fail> {
             assert!(rt; writer.held.starts_with(FONDS));
             assert!(rt; writer.held.ends_with(FONDS));
             assert_eq!(rt; talked.interrupted, shy);
+            assert!(rt; talked.flushed);
             assert!(rt; !talked.read_failed);
         }
     }
@@ -85,6 +92,7 @@ fn a_narrow_writer(rt: HostRuntime) -> Result<(), Fail> {
             assert_eq!(rt; talked.ended, Ended::WriteFault);
             assert_eq!(rt; writer.held.len(), room);
             assert!(rt; talked.write_failed);
+            assert_eq!(rt; talked.flushed, room == 0 || room == 120);
             assert!(rt; !talked.read_failed);
         }
     }
@@ -100,6 +108,21 @@ fn a_message_after_a_fault(rt: HostRuntime) -> Result<(), Fail> {
     let talked = talk_over(rt.alloc(), &mut reader, &mut writer, &mut desk);
     assert_eq!(rt; talked.ended, Ended::WriteFault);
     assert_eq!(rt; desk.tickets, 1);
+    Ok(())
+}
+
+// Two registrations in one piece: the second is acted on only once the first is answered.
+#[test]
+fn two_registrations_in_one_piece(rt: HostRuntime) -> Result<(), Fail> {
+    for room in 0..166usize {
+        let mut desk = Counter { tickets: 0 };
+        let mut reader = Pieces::new(REGISTER_TWICE, 1000, Then::Ends);
+        let mut writer = Narrow::new(rt.alloc(), room, 7, Then::Fails);
+        let talked = talk_over(rt.alloc(), &mut reader, &mut writer, &mut desk);
+        assert_eq!(rt; talked.ended, Ended::WriteFault);
+        assert_eq!(rt; writer.held.len(), room);
+        assert_eq!(rt; desk.tickets, if room < TICKET.len() { 1 } else { 2 });
+    }
     Ok(())
 }
 
@@ -169,6 +192,7 @@ fn leave_without_end(rt: HostRuntime) -> Result<(), Fail> {
         assert_eq!(rt; talked.ended, Ended::Bound);
         assert_eq!(rt; writer.calls, 41);
         assert_eq!(rt; writer.held.len(), room);
+        assert_eq!(rt; talked.flushed, room == 0);
         assert_eq!(rt; desk.tickets, 0);
     }
     Ok(())

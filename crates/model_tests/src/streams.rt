@@ -18,6 +18,7 @@ pub struct Talked {
     pub read_failed: bool,
     pub write_failed: bool,
     pub interrupted: bool,
+    pub flushed: bool,
     pub reads: u64,
     pub writes: u64,
 }
@@ -37,6 +38,7 @@ pub fn talk_over<R: Read, W: Write, M: Machine>(
         read_failed: source.has_failed(),
         write_failed: sink.has_failed(),
         interrupted: source.was_interrupted() || sink.was_interrupted(),
+        flushed: sink.is_flushed(),
         reads: source.calls(),
         writes: sink.calls(),
     }
