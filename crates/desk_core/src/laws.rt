@@ -12,13 +12,13 @@ pub fn a_run_is_least()
         → IsRun candidates (run_of candidates most) most }
 {}
 
-/// The lines of a slip are those of its containers, each once, as they stand on the shelves.
+/// The lines of a slip are those of its containers, each as often as it was taken, as they stand on the shelves.
 pub fn slip_lines_are_in_order()
     ensures { (candidates : List Candidate)
         → IsInOrder is_shelved_before candidates (in_order is_shelved_before candidates) }
 {}
 
-/// What goes back to the shelf is told in ascending order, each container once.
+/// What goes back to the shelf is told in ascending order, each container as often as it was handed in.
 pub fn reshelved_are_in_order()
     ensures { (containers : List ℕ) → IsInOrder nat_lt containers (in_order nat_lt containers) }
 {}

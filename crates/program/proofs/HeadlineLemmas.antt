@@ -35,7 +35,7 @@ shows : (db : Database) (s : State) → RepresentsState RepresentsSpanRows Spans
 shows db s it = subst (λ k. RepresentsState RepresentsSpanRows Spans (record { schema = k; trees = db.trees }) s) it.catalogue.catalogue.schema_is it
 
 module _ {D : Type 0} (g : Ghosts D) (image : Image) where
-  held_so : (office : Held (FileStore D g)) (files : Files D) (s : State) → HasLeft office files → HaveCleanDisk g files
+  pub held_so : (office : Held (FileStore D g)) (files : Files D) (s : State) → HasLeft office files → HaveCleanDisk g files
       → RepresentsState RepresentsSpanRows Spans (file_state office).now s → IsTrue (file_state office).is_open → HoldState g files s
   held_so office files s left honest is opened = ((file_state office).now.trees, left.hold honest opened, shows (file_state office).now s is)
 

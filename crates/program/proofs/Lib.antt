@@ -1,4 +1,5 @@
 pub mod ClosedLemmas
+pub mod DoneLemmas
 pub mod HeadlineLemmas
 pub mod Ordered
 pub mod GivenSettings
@@ -10,3 +11,4 @@ pub mod StreamLemmas
 pub mod RefusalLines
 pub mod StoreLemmas
 pub mod Trials
+pub mod ServedLemmas

@@ -1,11 +1,13 @@
 -- Lemmas on what a command did with its streams.
-use Rattle.std.proofs.Common.{◌≡◌, List, [], Result, Ok, Err, Option, Some, None, inl, inr, ℕ, IfErr, subst, sym}
-use Rattle.std.specs.Prelude.{IsErrAnd}
+use Rattle.std.proofs.Common.{◌≡◌, List, Result, Ok, Err, Option, Some, None, false, inl, inr, ℕ, IfErr, subst, sym}
+use Rattle.std.specs.Prelude.{IsErrAnd, IsSomeAnd}
 use Rattle.std.specs.Io.KnownBytes.{Appends, Consumes}
-use Rattle.std.proofs.KnownBytes.{Appends-nil}
-use Rattle.sqlite_trees.specs.declared.store.Store.{Ghosts}
+use Rattle.std.proofs.KnownBytes.{Appends-nil, Consumes-nil}
+use Rattle.sqlite_disk.specs.declared.Disk.{Ghosts}
+use Rattle.sqlite_disk.specs.declared.Files.{Files}
 use Rattle.sqlite.specs.Recovery.{Image}
 use Rattle.clap.specs.Simple.{subcommand_of}
+use Rattle.clap.specs.Takes.{takes}
 use Rattle.clap.specs.Walk.{Text}
 use Rattle.atom_csv.specs.declared.file.FileFault.{FileFault}
 use Rattle.atom_csv.specs.declared.file.FileFault.TheVariants as files
@@ -15,13 +17,16 @@ use Rattle.office.specs.Founding.{Founding}
 use Rattle.command_line.specs.CommandLine.{program}
 use Rattle.office.specs.declared.faults.OpenFault.{OpenFault}
 use Rattle.office.specs.declared.faults.OpenFault.TheVariants as opening
-use Rattle.program.specs.Faults.{IsUnopened, RefusesFile, fault_of_opening}
-use Rattle.program.specs.Performed.{ComplaintFails, Fails, FailsWith, IsSilent, JudgmentFails, Known, LineFails, PreviewFails, PrintsNothing, Reads, ReplyFails, ServerFails, TalkFails, TrialFails, complaint_of, previewed}
+use Rattle.program.specs.Faults.{IsUnopened, RefusesFile, fault_of_opening, fault_of_words}
+use Rattle.program.specs.Performed.{ComplaintFails, Fails, FailsWith, ImportFails, IsBusy, JudgmentFails, Known, LineFails, MigrateFails, PreviewFails, Reads, ReplyFails, ServerFails, TalkFails, TrialFails, complaint_of, previewed}
+use Rattle.program.specs.Stores.{IsNotBroughtOver}
 use Rattle.program.specs.Streams.{IsFront}
-use Rattle.program.specs.Tasks.{IsTaskOf}
+use Rattle.program.specs.Tasks.{AreRefusedFor, IsTaskOf, IsWords}
 use Rattle.program.specs.declared.faults.Fault.{Fault}
 use Rattle.program.specs.declared.faults.Fault.TheVariants.{Refused, Words, Date, Settings, File, Memory}
 use Rattle.program.specs.declared.tasks.Task.{Task}
+use Rattle.program.specs.declared.tasks.TaskFault.{TaskFault}
+use Rattle.program.specs.declared.tasks.TaskFault.TheVariants as tasks
 use Rattle.program.specs.declared.tasks.Task.TheVariants.{Preview, Init, Trial, Import, Talk, Serve, Check, Migrate}
 
 -- a preview that was broken off while it printed
@@ -44,7 +49,7 @@ refused_fails country repo path left left_after held file gone (files.Bad row ca
 refused_fails country repo path left left_after held file gone files.Memory fault told reads refused front =
     subst (PreviewFails country repo path left left_after held held) (sym told) (gone, front, Appends-nil held)
 
--- ---- no task fails by its words, and where memory is wanting nothing is printed
+-- ---- no task fails by its words
 
 abbrev OfWords : Fault → Type 0
 OfWords (Words text) = Unit {0}
@@ -107,63 +112,72 @@ trial_no founding left left_after held held_after Date of why = why
 trial_no founding left left_after held held_after Settings of why = why
 trial_no founding left left_after held held_after _ of why = of
 
-silent_reply : (reply : Reply) (held held_after : Known) → ReplyFails reply held held_after Memory → IsSilent held held_after
-silent_reply (Ok done) held held_after why = absurd why
-silent_reply (Err refusal) held held_after why = why.1
+-- ---- with an office in a file
 
-silent_complaint : (why_not : OpenFault) (line : Option (List ℕ)) (held held_after : Known) → ComplaintFails why_not line held held_after Memory → IsSilent held held_after
-silent_complaint why_not (Some line) held held_after why = why
-silent_complaint why_not None held held_after why = why.1
+module _ {D : Type 0} (g : Ghosts D) (image : Image) where
+  talk_no : (left left_after held held_after : Known) (closed : Option (Files D)) (f : Fault) → OfWords f → TalkFails g image left left_after held held_after closed f → ⊥
+  talk_no left left_after held held_after closed f of (inl why) = unopened_no f of why.1.0
+  talk_no left left_after held held_after closed f of (inr (broken, is, why)) = subst OfWords is of
 
-silent_judgment : (judged : Option OpenFault) (held held_after : Known) → JudgmentFails judged held held_after Memory → IsSilent held held_after
-silent_judgment None held held_after why = why
-silent_judgment (Some why_not) held held_after why = silent_complaint why_not (complaint_of why_not) held held_after why
+  busy_no : (f : Fault) → OfWords f → IsBusy f → ⊥
+  busy_no (Words text) of why = why
+  busy_no Date of why = why
+  busy_no Settings of why = why
+  busy_no _ of why = of
 
--- ---- with an office in a store
+  not_brought_no : (closed : Option (Files D)) (f : Fault) → OfWords f → IsSomeAnd closed (IsNotBroughtOver g image f) → ⊥
+  not_brought_no None f of why = why
+  not_brought_no (Some files) f of why = opening_no why.why f of why.told
 
-module _ {S : Type 0} (store : Ghosts S) (image : Image) where
-  talk_no : (left left_after held held_after : Known) (f : Fault) → OfWords f → TalkFails store image left left_after held held_after f → ⊥
-  talk_no left left_after held held_after (Words text) of why = why.0
-  talk_no left left_after held held_after Date of why = why.0
-  talk_no left left_after held held_after Settings of why = why.0
-  talk_no left left_after held held_after _ of why = of
+  import_no : (source : Text) (held held_after : Known) (closed : Option (Files D)) (f : Fault) → OfWords f → ImportFails g image source held held_after closed f → ⊥
+  import_no source held held_after closed f of fails = elim fails.why [
+    | inl why ↦ unopened_no f of why.0
+    | inr (inl why) ↦ busy_no f of why.0
+    | inr (inr (reply, taken, why)) ↦ reply_no reply held held_after f of why
+  ]
 
-  none_of_words : (task : Task) (left left_after held held_after : Known) (f : Fault) → OfWords f → FailsWith store image task left left_after held held_after f → ⊥
-  none_of_words (Preview country repo path) left left_after held held_after f of why = preview_no country repo path left left_after held held_after f of why
-  none_of_words (Init path founding) left left_after held held_after f of why = unopened_no f of why.0
-  none_of_words (Trial founding) left left_after held held_after f of why = trial_no founding left left_after held held_after f of why
-  none_of_words (Import path source file) left left_after held held_after f of (unread, inl why) = unopened_no f of why.0
-  none_of_words (Import path source file) left left_after held held_after f of (unread, inr (reply, taken, why)) = reply_no reply held held_after f of why
-  none_of_words (Talk path) left left_after held held_after f of why = talk_no left left_after held held_after f of why
-  none_of_words (Serve path port connections) left left_after held held_after f of (unread, inl why) = unopened_no f of why.0
-  none_of_words (Serve path port connections) left left_after held held_after f of (unread, inr (served, why)) = server_no port held held_after f of why
-  none_of_words (Check path) left left_after held held_after f of (unread, inl why) = unopened_no f of why.0
-  none_of_words (Check path) left left_after held held_after f of (unread, inr (judged, was, why)) = judgment_no judged held held_after f of why
-  none_of_words (Migrate path) left left_after held held_after f of (unread, inl why) = unopened_no f of why.0
-  none_of_words (Migrate path) left left_after held held_after f of (unread, inr (inl (stays, quiet))) = opening_no stays.why f of stays.told
-  none_of_words (Migrate path) left left_after held held_after f of (unread, inr (inr (brought, why))) = line_no _ held held_after f of why
+  migrate_no : (held held_after : Known) (closed : Option (Files D)) (f : Fault) → OfWords f → MigrateFails g image held held_after closed f → ⊥
+  migrate_no held held_after closed f of fails = elim fails.why [
+    | inl why ↦ unopened_no f of why.0
+    | inr (inl (stays, quiet)) ↦ not_brought_no closed f of stays
+    | inr (inr (brought, why)) ↦ line_no _ held held_after f of why
+  ]
 
-  silent : (task : Task) (left left_after held held_after : Known) → FailsWith store image task left left_after held held_after Memory → PrintsNothing left left_after held held_after
-  silent (Preview country repo path) left left_after held held_after why = why
-  silent (Init path founding) left left_after held held_after why = ([], why.1.0, why.1.1)
-  silent (Trial founding) left left_after held held_after why = ([], why.0, why.1)
-  silent (Import path source file) left left_after held held_after (unread, inl why) = ([], unread, why.1)
-  silent (Import path source file) left left_after held held_after (unread, inr (reply, taken, why)) = ([], unread, silent_reply reply held held_after why)
-  silent (Talk path) left left_after held held_after why = ([], why.1.0, why.1.1)
-  silent (Serve path port connections) left left_after held held_after (unread, inl why) = ([], unread, why.1)
-  silent (Serve path port connections) left left_after held held_after (unread, inr (served, why)) = ([], unread, why)
-  silent (Check path) left left_after held held_after (unread, inl why) = ([], unread, why.1)
-  silent (Check path) left left_after held held_after (unread, inr (judged, was, why)) = ([], unread, silent_judgment judged held held_after why)
-  silent (Migrate path) left left_after held held_after (unread, inl why) = ([], unread, why.1)
-  silent (Migrate path) left left_after held held_after (unread, inr (inl (stays, quiet))) = ([], unread, quiet)
-  silent (Migrate path) left left_after held held_after (unread, inr (inr (brought, why))) = ([], unread, why)
+  none_of_words : (task : Task) (left left_after held held_after : Known) (closed : Option (Files D)) (f : Fault) → OfWords f → FailsWith g image task left left_after held held_after closed f → ⊥
+  none_of_words (Preview country repo path) left left_after held held_after closed f of why = preview_no country repo path left left_after held held_after f of why
+  none_of_words (Init path founding) left left_after held held_after closed f of why = unopened_no f of why.0
+  none_of_words (Trial founding) left left_after held held_after closed f of why = trial_no founding left left_after held held_after f of why
+  none_of_words (Import path source file) left left_after held held_after closed f of why = import_no source held held_after closed f of why.1
+  none_of_words (Talk path) left left_after held held_after closed f of why = talk_no left left_after held held_after closed f of why
+  none_of_words (Serve path port connections) left left_after held held_after closed f of (unread, inl why) = unopened_no f of why.0
+  none_of_words (Serve path port connections) left left_after held held_after closed f of (unread, inr (served, why)) = server_no port held held_after f of why
+  none_of_words (Check path) left left_after held held_after closed f of (unread, inl why) = unopened_no f of why.0
+  none_of_words (Check path) left left_after held held_after closed f of (unread, inr (judged, was, why)) = judgment_no judged held held_after f of why
+  none_of_words (Migrate path) left left_after held held_after closed f of why = migrate_no held held_after closed f of why.1
 
-  -- a fault that ended a task ended its words
-  pub fails : (words : List Text) (task : Task) (left left_after held held_after : Known) (fault : Fault)
-      → IsTaskOf (subcommand_of program words) task → FailsWith store image task left left_after held held_after fault
-      → Fails store image words left left_after held held_after fault
-  fails words task left left_after held held_after (Words text) is why = absurd (none_of_words task left left_after held held_after (Words text) tt why)
-  fails words task left left_after held held_after Date is why = absurd (none_of_words task left left_after held held_after Date tt why)
-  fails words task left left_after held held_after Settings is why = absurd (none_of_words task left left_after held held_after Settings tt why)
-  fails words task left left_after held held_after Memory is why = silent task left left_after held held_after why
-  fails words task left left_after held held_after _ is why = (task, is, why)
+  -- words that name no task
+  words_fail : (words : List Text) (left held : Known) (closed : Option (Files D)) (f : TaskFault) → (IsWords f → takes program words ≡ false) → AreRefusedFor (subcommand_of program words) f
+      → Fails g image words left left held held closed (fault_of_words f)
+  words_fail words left held closed tasks.Memory refused values = inl (Consumes-nil left, Appends-nil held)
+  words_fail words left held closed (tasks.Words text) refused values = (refused tt, (Consumes-nil left, Appends-nil held))
+  words_fail words left held closed tasks.Date refused values = (values, (Consumes-nil left, Appends-nil held))
+  words_fail words left held closed tasks.Settings refused values = (values, (Consumes-nil left, Appends-nil held))
+
+  pub words_failed : {X : Type 0} (words : List Text) (left held : Known) (closed : Option (Files D)) (r : Result X Fault) (f : TaskFault) → IsErrAnd r (λ e. e ≡ fault_of_words f)
+      → (IsWords f → takes program words ≡ false) → AreRefusedFor (subcommand_of program words) f → IfErr r (Fails g image words left left held held closed)
+  words_failed words left held closed (Ok x) f is refused values = tt
+  words_failed words left held closed (Err e) f is refused values = subst (Fails g image words left left held held closed) (sym is) (words_fail words left held closed f refused values)
+
+  -- so a task's fault is one of the task
+  fails : (words : List Text) (task : Task) (left left_after held held_after : Known) (closed : Option (Files D)) (f : Fault) → IsTaskOf (subcommand_of program words) task
+      → FailsWith g image task left left_after held held_after closed f → Fails g image words left left_after held held_after closed f
+  fails words task left left_after held held_after closed (Words text) is why = absurd (none_of_words task left left_after held held_after closed (Words text) tt why)
+  fails words task left left_after held held_after closed Date is why = absurd (none_of_words task left left_after held held_after closed Date tt why)
+  fails words task left left_after held held_after closed Settings is why = absurd (none_of_words task left left_after held held_after closed Settings tt why)
+  fails words task left left_after held held_after closed Memory is why = inr (task, is, why)
+  fails words task left left_after held held_after closed _ is why = (task, is, why)
+
+  pub task_failed : {X : Type 0} (words : List Text) (task : Task) (left left_after held held_after : Known) (closed : Option (Files D)) (r : Result X Fault) → IsTaskOf (subcommand_of program words) task
+      → IfErr r (FailsWith g image task left left_after held held_after closed) → IfErr r (Fails g image words left left_after held held_after closed)
+  task_failed words task left left_after held held_after closed (Ok x) is why = tt
+  task_failed words task left left_after held held_after closed (Err f) is why = fails words task left left_after held held_after closed f is why

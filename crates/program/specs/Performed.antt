@@ -1,9 +1,12 @@
--- What a command did with its streams: left and left_after are the bytes that standard input has before and
--- after it, held and held_after those that standard output holds.
+-- What a command did with its streams and its files: left and left_after are the bytes that standard input has before
+-- and after it, held and held_after those that standard output holds, and closed are the files that were opened as a
+-- store, once they are closed.
 use Rattle.std.specs.Prelude.{◌≡◌, ◌⊎◌, ◌++◌, [], List, Option, Some, None, Result, Ok, Err, ℕ, codes, true, false}
+use Rattle.std.specs.Prelude.{IfSome, IsSomeAnd}
 use Rattle.std.specs.Fmt.{decimal}
 use Rattle.std.specs.Io.KnownBytes.{Appends, Consumes, IsAtEnd}
-use Rattle.sqlite_trees.specs.declared.store.Store.{Ghosts}
+use Rattle.sqlite_disk.specs.declared.Disk.{Ghosts}
+use Rattle.sqlite_disk.specs.declared.Files.{Files}
 use Rattle.sqlite.specs.Recovery.{Image}
 use Rattle.clap.specs.Simple.{subcommand_of}
 use Rattle.clap.specs.Takes.{takes}
@@ -23,7 +26,8 @@ use Rattle.command_line.specs.CommandLine.{program}
 use Rattle.office.specs.declared.faults.OpenFault.{OpenFault}
 use Rattle.office.specs.declared.faults.OpenFault.TheVariants as opening
 use Rattle.program.specs.Faults.{IsUnopened, Refuses, fault_of_opening, line_of, message_of, status_of}
-use Rattle.program.specs.Stores.{HasServed, HasTakenIn, IsBroughtOver, IsMade, IsNotBroughtOver, IsTalkedWith, WasJudged}
+use Rattle.program.specs.Closed.{AreAsFound, WasJudgedAsFound}
+use Rattle.program.specs.Stores.{HasServed, HasTakenIn, IsBroughtOver, IsMade, IsNotBroughtOver, IsTalkedWith, WasBusy}
 use Rattle.program.specs.Streams.{IsFront}
 use Rattle.program.specs.Tasks.{IsRefusedIn, IsTaskOf}
 use Rattle.program.specs.declared.faults.Break.{Break}
@@ -185,119 +189,143 @@ migrated = codes "migrated\n"
 abbrev pub Unread : Known → Known → Type 0
 Unread left left_after = Consumes left left_after []
 
--- ---- offices in stores, of which one with this image was found
+-- ---- offices in files, in which a store with this image was found
 
-module _ {S : Type 0} (store : Ghosts S) (image : Image) where
+module _ {D : Type 0} (g : Ghosts D) (image : Image) where
+  -- no office was opened, and nothing printed; files that were opened are closed as they were found
+  abbrev pub NotOpened : Known → Known → Option (Files D) → Fault → Type 0
+  NotOpened held held_after closed fault =
+      IsUnopened fault × IsSilent held held_after × IfSome closed (AreAsFound g image)
+
   -- a new office that is made
-  abbrev pub InitDone : Founding → Known → Known → Known → Known → Type 0
-  InitDone founding left left_after held held_after =
-      IsMade store image founding × DoesNothing left left_after held held_after
+  abbrev pub InitDone : Founding → Known → Known → Known → Known → Option (Files D) → Type 0
+  InitDone founding left left_after held held_after closed =
+      IsSomeAnd closed (IsMade g image founding) × DoesNothing left left_after held held_after
 
   -- an import that is done: it was one step, whose reply was printed
-  abbrev pub ImportDone : Text → Known → Known → Type 0
-  ImportDone source held held_after =
-      (reply : Reply) × HasTakenIn store image source reply × ReplyPrinted reply held held_after
+  abbrev pub ImportDone : Text → Known → Known → Option (Files D) → Type 0
+  ImportDone source held held_after closed =
+      (reply : Reply) × IsSomeAnd closed (HasTakenIn g image source reply) × ReplyPrinted reply held held_after
+
+  -- an office was busy, and nothing printed
+  abbrev pub BusyFor : Text → Known → Known → Option (Files D) → Fault → Type 0
+  BusyFor source held held_after closed fault =
+      IsBusy fault × IsSilent held held_after × IsSomeAnd closed (WasBusy g image source)
 
   -- an import that a fault ended: the office was not opened or is busy; or its step was refused, or was not printed
-  abbrev pub ImportFails : Text → Known → Known → Fault → Type 0
-  ImportFails source held held_after fault =
-      (IsUnopened fault × IsSilent held held_after)
-      ⊎ ((reply : Reply) × HasTakenIn store image source reply × ReplyFails reply held held_after fault)
+  pub record ImportFails (source : Text) (held held_after : Known) (closed : Option (Files D)) (fault : Fault)
+      : Type 0 where
+    pub why : NotOpened held held_after closed fault
+        ⊎ (BusyFor source held held_after closed fault
+        ⊎ ((reply : Reply) × IsSomeAnd closed (HasTakenIn g image source reply)
+        × ReplyFails reply held held_after fault))
 
   -- a talk that is done: a session that ended after an answer
-  abbrev pub TalkDone : Known → Known → Known → Known → Type 0
-  TalkDone left left_after held held_after =
-      (end : Ended) × EndsWell end × IsTalkedWith store image left left_after held held_after end
+  abbrev pub TalkDone : Known → Known → Known → Known → Option (Files D) → Type 0
+  TalkDone left left_after held held_after closed =
+      (end : Ended) × EndsWell end × IsSomeAnd closed (IsTalkedWith g image left left_after held held_after end)
 
   -- a talk that a fault ended: its session broke off, or the office was not opened
-  abbrev pub TalkFails : Known → Known → Known → Known → Fault → Type 0
-  TalkFails left left_after held held_after (Session broken) =
-      IsTalkedWith store image left left_after held held_after (ended_by broken)
-  TalkFails left left_after held held_after fault = IsUnopened fault × DoesNothing left left_after held held_after
+  abbrev pub TalkFails : Known → Known → Known → Known → Option (Files D) → Fault → Type 0
+  TalkFails left left_after held held_after closed fault =
+      (Unread left left_after × NotOpened held held_after closed fault)
+      ⊎ ((broken : Break) × (fault ≡ Session broken)
+      × IsSomeAnd closed (IsTalkedWith g image left left_after held held_after (ended_by broken)))
 
   -- a server that is done: it has said that it listens, and served all connections
-  abbrev pub ServeDone : ℕ → ℕ → Known → Known → Type 0
-  ServeDone port connections held held_after =
-      HasServed store image connections true × Listens port held held_after
+  abbrev pub ServeDone : ℕ → ℕ → Known → Known → Option (Files D) → Type 0
+  ServeDone port connections held held_after closed =
+      IsSomeAnd closed (HasServed g image connections true) × Listens port held held_after
 
   -- a server that a fault ended: the office was not opened, or it did not listen or not take all connections
-  abbrev pub ServeFails : ℕ → ℕ → Known → Known → Fault → Type 0
-  ServeFails port connections held held_after fault =
-      (IsUnopened fault × IsSilent held held_after)
-      ⊎ (HasServed store image connections false × ServerFails port held held_after fault)
+  abbrev pub ServeFails : ℕ → ℕ → Known → Known → Option (Files D) → Fault → Type 0
+  ServeFails port connections held held_after closed fault =
+      NotOpened held held_after closed fault
+      ⊎ (IsSomeAnd closed (HasServed g image connections false) × ServerFails port held held_after fault)
 
   -- a check that is done: the tables are a sound office's, and that was printed
-  abbrev pub CheckDone : Known → Known → Type 0
-  CheckDone held held_after = WasJudged store image None × JudgmentPrinted None held held_after
+  abbrev pub CheckDone : Known → Known → Option (Files D) → Type 0
+  CheckDone held held_after closed =
+      IsSomeAnd closed (WasJudgedAsFound g image None) × JudgmentPrinted None held held_after
 
   -- a check that a fault ended: no store was opened; or its tables are not such, or that they are was not printed
-  abbrev pub CheckFails : Known → Known → Fault → Type 0
-  CheckFails held held_after fault =
-      (IsUnopened fault × IsSilent held held_after)
-      ⊎ ((judged : Option OpenFault) × WasJudged store image judged × JudgmentFails judged held held_after fault)
+  abbrev pub CheckFails : Known → Known → Option (Files D) → Fault → Type 0
+  CheckFails held held_after closed fault =
+      NotOpened held held_after closed fault
+      ⊎ ((judged : Option OpenFault) × IsSomeAnd closed (WasJudgedAsFound g image judged)
+      × JudgmentFails judged held held_after fault)
 
   -- a migration that is done, and was told
-  abbrev pub MigrateDone : Known → Known → Type 0
-  MigrateDone held held_after = IsBroughtOver store image × Appends held held_after migrated
+  abbrev pub MigrateDone : Known → Known → Option (Files D) → Type 0
+  MigrateDone held held_after closed = IsSomeAnd closed (IsBroughtOver g image) × Appends held held_after migrated
 
   -- a migration that a fault ended: no store was opened; or its tables stay as they are; or it was done, and not told
   -- whole
-  abbrev pub MigrateFails : Known → Known → Fault → Type 0
-  MigrateFails held held_after fault =
-      (IsUnopened fault × IsSilent held held_after)
-      ⊎ ((IsNotBroughtOver store image fault × IsSilent held held_after)
-      ⊎ (IsBroughtOver store image × LineFails migrated held held_after fault))
+  pub record MigrateFails (held held_after : Known) (closed : Option (Files D)) (fault : Fault) : Type 0 where
+    pub why : NotOpened held held_after closed fault
+        ⊎ ((IsSomeAnd closed (IsNotBroughtOver g image fault) × IsSilent held held_after)
+        ⊎ (IsSomeAnd closed (IsBroughtOver g image) × LineFails migrated held held_after fault))
 
   -- a task that is done
-  abbrev pub Does : Task → Known → Known → Known → Known → Type 0
-  Does (Preview country repo path) left left_after held held_after =
+  abbrev pub Does : Task → Known → Known → Known → Known → Option (Files D) → Type 0
+  Does (Preview country repo path) left left_after held held_after closed =
       PreviewDone country repo path left left_after held held_after
-  Does (Init path founding) left left_after held held_after = InitDone founding left left_after held held_after
-  Does (Trial founding) left left_after held held_after = TrialDone founding left left_after held held_after
-  Does (Import path source file) left left_after held held_after =
-      Unread left left_after × ImportDone source held held_after
-  Does (Talk path) left left_after held held_after = TalkDone left left_after held held_after
-  Does (Serve path port connections) left left_after held held_after =
-      Unread left left_after × ServeDone port connections held held_after
-  Does (Check path) left left_after held held_after = Unread left left_after × CheckDone held held_after
-  Does (Migrate path) left left_after held held_after = Unread left left_after × MigrateDone held held_after
+  Does (Init path founding) left left_after held held_after closed =
+      InitDone founding left left_after held held_after closed
+  Does (Trial founding) left left_after held held_after closed = TrialDone founding left left_after held held_after
+  Does (Import path source file) left left_after held held_after closed =
+      Unread left left_after × ImportDone source held held_after closed
+  Does (Talk path) left left_after held held_after closed = TalkDone left left_after held held_after closed
+  Does (Serve path port connections) left left_after held held_after closed =
+      Unread left left_after × ServeDone port connections held held_after closed
+  Does (Check path) left left_after held held_after closed = Unread left left_after × CheckDone held held_after closed
+  Does (Migrate path) left left_after held held_after closed =
+      Unread left left_after × MigrateDone held held_after closed
 
   -- a task that a fault ended
-  abbrev pub FailsWith : Task → Known → Known → Known → Known → Fault → Type 0
-  FailsWith (Preview country repo path) left left_after held held_after fault =
+  abbrev pub FailsWith : Task → Known → Known → Known → Known → Option (Files D) → Fault → Type 0
+  FailsWith (Preview country repo path) left left_after held held_after closed fault =
       PreviewFails country repo path left left_after held held_after fault
-  FailsWith (Init path founding) left left_after held held_after fault =
+  FailsWith (Init path founding) left left_after held held_after closed fault =
       IsUnopened fault × DoesNothing left left_after held held_after
-  FailsWith (Trial founding) left left_after held held_after fault =
+  FailsWith (Trial founding) left left_after held held_after closed fault =
       TrialFails founding left left_after held held_after fault
-  FailsWith (Import path source file) left left_after held held_after fault =
-      Unread left left_after × ImportFails source held held_after fault
-  FailsWith (Talk path) left left_after held held_after fault = TalkFails left left_after held held_after fault
-  FailsWith (Serve path port connections) left left_after held held_after fault =
-      Unread left left_after × ServeFails port connections held held_after fault
-  FailsWith (Check path) left left_after held held_after fault =
-      Unread left left_after × CheckFails held held_after fault
-  FailsWith (Migrate path) left left_after held held_after fault =
-      Unread left left_after × MigrateFails held held_after fault
+  FailsWith (Import path source file) left left_after held held_after closed fault =
+      Unread left left_after × ImportFails source held held_after closed fault
+  FailsWith (Talk path) left left_after held held_after closed fault =
+      TalkFails left left_after held held_after closed fault
+  FailsWith (Serve path port connections) left left_after held held_after closed fault =
+      Unread left left_after × ServeFails port connections held held_after closed fault
+  FailsWith (Check path) left left_after held held_after closed fault =
+      Unread left left_after × CheckFails held held_after closed fault
+  FailsWith (Migrate path) left left_after held held_after closed fault =
+      Unread left left_after × MigrateFails held held_after closed fault
 
   -- words whose task is done
-  abbrev pub IsDone : List Text → Known → Known → Known → Known → Type 0
-  IsDone words left left_after held held_after =
+  abbrev pub IsDone : List Text → Known → Known → Known → Known → Option (Files D) → Type 0
+  IsDone words left left_after held held_after closed =
       (task : Task) × IsTaskOf (subcommand_of program words) task
-      × Does task left left_after held held_after
+      × Does task left left_after held held_after closed
 
-  -- words that a fault ended: they name no task, or its values are refused, and nothing was read or printed; or their
-  -- task failed
-  abbrev pub Fails : List Text → Known → Known → Known → Known → Fault → Type 0
-  Fails words left left_after held held_after (Words text) =
+  -- their task failed with that fault
+  abbrev pub TaskFails : List Text → Known → Known → Known → Known → Option (Files D) → Fault → Type 0
+  TaskFails words left left_after held held_after closed fault =
+      (task : Task) × IsTaskOf (subcommand_of program words) task
+      × FailsWith task left left_after held held_after closed fault
+
+  -- words that a fault ended: they name no task, or its values are refused, or there was no memory to read them, and
+  -- nothing was read or printed; or their task failed
+  abbrev pub Fails : List Text → Known → Known → Known → Known → Option (Files D) → Fault → Type 0
+  Fails words left left_after held held_after closed (Words text) =
       (takes program words ≡ false) × DoesNothing left left_after held held_after
-  Fails words left left_after held held_after Date =
+  Fails words left left_after held held_after closed Date =
       IsRefusedIn (subcommand_of program words) tasks.Date × DoesNothing left left_after held held_after
-  Fails words left left_after held held_after Settings =
+  Fails words left left_after held held_after closed Settings =
       IsRefusedIn (subcommand_of program words) tasks.Settings × DoesNothing left left_after held held_after
-  Fails words left left_after held held_after Memory = PrintsNothing left left_after held held_after
-  Fails words left left_after held held_after fault =
-      (task : Task) × IsTaskOf (subcommand_of program words) task × FailsWith task left left_after held held_after fault
+  Fails words left left_after held held_after closed Memory =
+      DoesNothing left left_after held held_after ⊎ TaskFails words left left_after held held_after closed Memory
+  Fails words left left_after held held_after closed fault =
+      TaskFails words left left_after held held_after closed fault
 
 -- ---- with standard error
 
@@ -308,8 +336,9 @@ Tells told told_after text = (front : List ℕ) × IsFront front text × Appends
 
 -- the words were done, and nothing was told, or a fault ended them, and its message was told; this is the
 -- exit status
-abbrev pub Performs : {S : Type 0} → Ghosts S → Image → List Text → Known → Known → Known → Known → Known → Known → ℕ → Type 0
-Performs store image words left left_after held held_after told told_after status =
-    ((status ≡ 0) × IsDone store image words left left_after held held_after × Appends told told_after [])
-    ⊎ ((fault : Fault) × (status ≡ status_of fault) × Fails store image words left left_after held held_after fault
+abbrev pub Performs : {D : Type 0} → Ghosts D → Image → List Text → Known → Known → Known → Known → Known → Known
+    → Option (Files D) → ℕ → Type 0
+Performs g image words left left_after held held_after told told_after closed status =
+    ((status ≡ 0) × IsDone g image words left left_after held held_after closed × Appends told told_after [])
+    ⊎ ((fault : Fault) × (status ≡ status_of fault) × Fails g image words left left_after held held_after closed fault
     × Tells told told_after (message_of fault))

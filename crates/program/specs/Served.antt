@@ -1,25 +1,98 @@
--- Sessions, one after the other.
-use Rattle.std.specs.Prelude.{◌≡◌, ◌≤◌, ℕ, zero, suc, Bool, true, false}
+-- Connections that were served, one after the other.
+use Rattle.std.specs.Prelude.{◌≡◌, ◌≢◌, ◌≤◌, ℕ, Bool, true, false, List, [], ◌∷◌, length, Option, Some, None}
+use Rattle.std.specs.List.{AllByRecursion}
+use Rattle.std.specs.Io.KnownBytes.{Appends, Consumes}
+use Rattle.std.specs.Net.Addr.{ipv4_octets}
+use Rattle.std.specs.Net.Socket.{v4_ip, v4_port}
+use Rattle.std.specs.declared.net.socket_addr.SocketAddr.{SocketAddr}
+use Rattle.std.specs.declared.net.socket_addr.SocketAddr.TheVariants.{V4, V6}
 use Rattle.isad_core.specs.Texts.{Bytes}
 use Rattle.office_core.specs.State.{State}
+use Rattle.http_desk.specs.Quiet.{is_read_fault, is_write_fault}
 use Rattle.http_desk.specs.Session.{Session}
+use Rattle.http_desk.specs.Streams.{Stream}
+use Rattle.http_desk.specs.Talking.{AtEndIf, Through}
 use Rattle.http_desk.specs.declared.session_end.Ended.{Ended}
+use Rattle.http_desk.specs.declared.session_end.Ended.TheVariants.{Bound}
+use Rattle.http_desk.specs.declared.session_end.Next.TheVariants.{Ends}
 
--- so many sessions lead from one state to another, each with an input of its own
-abbrev pub AreSessions : ℕ → State → State → Type 0
-AreSessions zero s t = s ≡ t
-AreSessions (suc n) s t =
-    (mid : State) × AreSessions n s mid
-    × ((input output : Bytes) × (end : Ended) × Session mid input output end t)
+-- the address 127.0.0.1, which no other machine reaches, with that port
+abbrev pub IsHere : ℕ → SocketAddr → Type 0
+IsHere port (V4 address) = (ipv4_octets (v4_ip address) ≡ 127 ∷ 0 ∷ 0 ∷ 1 ∷ []) × (v4_port address ≡ port)
+IsHere port (V6 address) = ⊥
 
--- one, where a connection could be taken
-abbrev pub sessions_of : Bool → ℕ
-sessions_of true = 1
-sessions_of false = 0
+-- What a port can tell of its connections, the last first: of each that was taken, what its reader still gave and its
+-- writer held; of each that was left, how they were then, and how its session ended.
+pub record History : Type 0 where
+  pub taken : List (Option Bytes × Option Bytes)
+  pub left : List (Stream × (Stream × Ended))
 
--- From one office to another, while its store has returned what was written: at most so many sessions, and all of them
--- where that is told.
-abbrev pub Serves : {M : Type 0} → (M → State → Type 0) → (M → Type 0) → ℕ → M → M → Bool → Type 0
-Serves represents is_intact most old new all =
-    is_intact new → (s : State) → represents old s
-    → (n : ℕ) × (t : State) × represents new t × AreSessions n s t × (n ≤ most) × (all ≡ true → n ≡ most)
+abbrev pub after_taking : Option History → Option Bytes → Option Bytes → Option History
+after_taking None left held = None
+after_taking (Some before) left held = Some (record before { taken = (left, held) ∷ before.taken })
+
+abbrev pub after_leaving : Option History → Stream → Stream → Ended → Option History
+after_leaving None reader writer end = None
+after_leaving (Some before) reader writer end = Some (record before { left = (reader, (writer, end)) ∷ before.left })
+
+-- A connection that was served: what its reader still gave and its writer held when it was taken; the session with its
+-- client; and how reader and writer were when it was left.
+pub record Connection : Type 0 where
+  pub left : Option Bytes
+  pub held : Option Bytes
+  pub input : Bytes
+  pub output : Bytes
+  pub end : Ended
+  pub reader : Stream
+  pub writer : Stream
+
+-- The input is what its reader gave, and the output what its writer took. The end is the one that the calls of both
+-- tell.
+pub record IsHeard (it : Connection) : Type 0 where
+  pub read : Consumes it.left it.reader.bytes it.input
+  pub written : Appends it.held it.writer.bytes it.output
+  pub at_end : AtEndIf it.reader.bytes (Ends it.end)
+  pub read_fault : it.reader.failed ≡ is_read_fault (Ends it.end)
+  pub write_fault : it.writer.failed ≡ is_write_fault (Ends it.end)
+  pub bound : it.reader.interrupted ≡ false → it.writer.interrupted ≡ false → it.end ≢ Bound
+
+-- what a port tells after one connection more, and after some, of which the last stands first
+abbrev pub after_one : Option History → Connection → Option History
+after_one before it = after_leaving (after_taking before it.left it.held) it.reader it.writer it.end
+
+abbrev pub after_all : Option History → List Connection → Option History
+after_all before [] = before
+after_all before (it ∷ earlier) = after_one (after_all before earlier) it
+
+-- their sessions lead from one state to another
+abbrev pub AreSessions : List Connection → State → State → Type 0
+AreSessions [] s t = s ≡ t
+AreSessions (it ∷ earlier) s t = (mid : State) × AreSessions earlier s mid × Session mid it.input it.output it.end t
+
+-- A connection of which this was known when it was taken was heard and left.
+abbrev pub Answers : {M : Type 0} → (M → State → Type 0) → (M → Type 0) → Option Bytes → Option Bytes
+    → Option History → Option History → M → M → Type 0
+Answers represents is_intact left held told told_after old new =
+    (it : Connection) × (it.left ≡ left) × (it.held ≡ held) × IsHeard it
+    × (told_after ≡ after_leaving told it.reader it.writer it.end)
+    × Through represents is_intact old new (λ s t. Session s it.input it.output it.end t)
+
+-- One connection was taken, heard and left; or none could be taken.
+abbrev pub ServesOne : {M : Type 0} → (M → State → Type 0) → (M → Type 0) → Option History → Option History
+    → M → M → Bool → Type 0
+ServesOne represents is_intact told told_after old new true =
+    (it : Connection) × IsHeard it × (told_after ≡ after_one told it)
+    × Through represents is_intact old new (λ s t. Session s it.input it.output it.end t)
+ServesOne represents is_intact told told_after old new false =
+    (told_after ≡ told) × Through represents is_intact old new (λ s t. s ≡ t)
+
+-- Connections were taken, heard and left: at most so many, and all of them where that is said. Their sessions lead the
+-- office from one state to another, while its store has returned what was written.
+pub record Serves {M : Type 0} (represents : M → State → Type 0) (is_intact : M → Type 0) (most : ℕ)
+    (told told_after : Option History) (old new : M) (all : Bool) : Type 0 where
+  pub connections : List Connection
+  pub heard : AllByRecursion IsHeard connections
+  pub tells : told_after ≡ after_all told connections
+  pub few : length connections ≤ most
+  pub whole : all ≡ true → length connections ≡ most
+  pub sessions : Through represents is_intact old new (AreSessions connections)

@@ -1,112 +1,166 @@
--- Offices in stores: what a command did with one. A store is found with an image: the bytes that its file and its log
--- held. That these are the files of the name that was given is the system's part. What is said of an office is said
--- while its disk has returned what was written; a disk that has done so to the end did so before (`intact`).
-use Rattle.std.specs.Prelude.{◌≡◌, ℕ, Bool, IsOk, IsTrue, Option}
+-- Offices in files: what a command did with one, and what the files hold now that it is closed. A store is found with
+-- an image: the bytes that its file and its log held. That these are the files of the name that was given is the
+-- system's part. What is said of an office is said while its disk has returned what was written; a disk that has done
+-- so to the end did so before (`intact`, and the first field of `crash`, which says what files may hold that a failure had shut).
+use Rattle.std.specs.Prelude.{◌≡◌, ℕ, Bool, IsOk, IsTrue, Ok, Option, None}
 use Rattle.std.specs.Io.KnownBytes.{Appends, Consumes}
-use Rattle.sqlite_trees.specs.declared.store.Store.{Ghosts}
-use Rattle.sqlite.specs.Held.{Held, state}
+use Rattle.sqlite.specs.Files.{file_state, over_files}
+use Rattle.sqlite.specs.Held.{Held}
 use Rattle.sqlite.specs.Recovery.{Image}
-use Rattle.sqlite.specs.State.{HasCleanDisk}
+use Rattle.sqlite.specs.State.{HasCleanDisk, Survives}
+use Rattle.sqlite_disk.specs.declared.Disk.{Ghosts}
+use Rattle.sqlite_disk.specs.declared.Files.{Files}
+use Rattle.sqlite_store.specs.declared.store.FileStore.{FileStore}
 use Rattle.isad_core.specs.Texts.{Bytes}
 use Rattle.tree_core.specs.Versions.{Links, Spans}
 use Rattle.nested_sets.specs.Represents.{RepresentsSpanRows}
-use Rattle.office_core.specs.Rules.{Reply}
+use Rattle.office_core.specs.Rules.{Reply, step}
 use Rattle.office_core.specs.SoundOffice.{IsSoundOffice}
 use Rattle.office_core.specs.State.{State}
 use Rattle.office_core.specs.declared.command.Command.TheVariants.{Import}
+use Rattle.office_core.specs.declared.done.Done.{Done}
 use Rattle.office.specs.Founding.{Founding, founded}
 use Rattle.program.specs.Rows.{StandInOrder}
-use Rattle.office.specs.Adopting.{HasAdoptCause}
-use Rattle.office.specs.Applying.{TakesStep}
-use Rattle.office.specs.Migrating.{IsMigrated}
+use Rattle.office.specs.Adopting.{HasAdoptCause, state_in}
+use Rattle.office.specs.Applying.{MayFind, TakesStep}
+use Rattle.office.specs.Migrating.{IsMigrated, MayFindMigrated}
 use Rattle.office.specs.Resting.{IsAsBefore, IsIn, is_clean, is_shown}
 use Rattle.office.specs.declared.faults.OpenFault.{OpenFault}
 use Rattle.http_desk.specs.Session.{Session}
 use Rattle.http_desk.specs.Talking.{AtEndIf}
 use Rattle.http_desk.specs.declared.session_end.Ended.{Ended}
 use Rattle.http_desk.specs.declared.session_end.Next.TheVariants.{Ends}
+use Rattle.program.specs.Closed.{HasLeft, HaveCleanDisk, HoldState}
 use Rattle.program.specs.Faults.{fault_of_opening}
-use Rattle.program.specs.Kept.{AreHeld, IsFound, IsJudgedIn}
-use Rattle.program.specs.Served.{Serves}
+use Rattle.program.specs.Kept.{AreHeld, HoldsOffice, IsFound}
+use Rattle.program.specs.Served.{AreSessions, Serves}
 use Rattle.program.specs.declared.faults.Fault.{Fault}
 
-module _ {S : Type 0} (store : Ghosts S) (image : Image) where
+module _ {D : Type 0} (g : Ghosts D) (image : Image) where
   -- an office was opened: the one that was found in the image
-  abbrev pub IsOpened : Held S → Type 0
-  IsOpened office = HasCleanDisk (state store office) → IsFound image (state store office)
+  abbrev pub IsOpened : Held (FileStore D g) → Type 0
+  IsOpened office = HasCleanDisk (file_state office) → IsFound image (file_state office)
 
   -- the tables of a store, as it was found: the image holds them, and their rows stand by whole numbers, which rise
-  abbrev pub IsStore : Held S → Type 0
-  IsStore found = HasCleanDisk (state store found) → AreHeld image (state store found).now.trees × StandInOrder (state store found).now
+  abbrev pub IsStore : Held (FileStore D g) → Type 0
+  IsStore found = HasCleanDisk (file_state found)
+      → AreHeld image (file_state found).now.trees × StandInOrder (file_state found).now
 
-  abbrev is_kept : Held S → State → Type 0
-  is_kept = is_shown store RepresentsSpanRows Spans
+  abbrev is_kept : Held (FileStore D g) → State → Type 0
+  is_kept = is_shown (over_files {g = g}) RepresentsSpanRows Spans
 
-  -- a new office was made, and its connection is open, so it is in that state
-  pub record IsMade (founding : Founding) : Type 0 where
-    pub office : Held S
-    pub represents : HasCleanDisk (state store office) → IsIn RepresentsSpanRows Spans (founded founding) (state store office)
-    pub kept : HasCleanDisk (state store office) → IsTrue (state store office).is_open
+  -- A new office was made, and its connection was open, so it was in that state. These are its files.
+  pub record IsMade (founding : Founding) (files : Files D) : Type 0 where
+    pub office : Held (FileStore D g)
+    pub represents : HasCleanDisk (file_state office)
+        → IsIn RepresentsSpanRows Spans (founded founding) (file_state office)
+    pub kept : HasCleanDisk (file_state office) → IsTrue (file_state office).is_open
+    pub left : HasLeft office files
 
-  -- A session with an office that was opened. What was read is its input, and what was written its output; where it
-  -- ends with its input, all was read.
-  pub record IsTalkedWith (left left_after held held_after : Option Bytes) (end : Ended) : Type 0 where
-    pub office : Held S
-    pub after : Held S
+  -- A session with an office that was opened. What was read is its input, and what was written its output; where it ends
+  -- with its input, all was read. These are the office's files.
+  pub record IsTalkedWith (left left_after held held_after : Option Bytes) (end : Ended) (files : Files D)
+      : Type 0 where
+    pub office : Held (FileStore D g)
+    pub after : Held (FileStore D g)
     pub opened : IsOpened office
-    pub intact : HasCleanDisk (state store after) → HasCleanDisk (state store office)
+    pub intact : HasCleanDisk (file_state after) → HasCleanDisk (file_state office)
     pub input : Bytes
     pub output : Bytes
     pub read : Consumes left left_after input
     pub at_end : AtEndIf left_after (Ends end)
     pub written : Appends held held_after output
-    pub session : is_clean store after → (s : State) → is_kept office s
+    pub session : is_clean (over_files {g = g}) after → (s : State) → is_kept office s
         → (t : State) × is_kept after t × Session s input output end t
+    pub closed : HasLeft after files
 
   -- An office that was opened took a file in, and replied so: that was one step. After a reply that is no refusal its
-  -- connection is open, so the tables show what that step leads to.
-  pub record HasTakenIn (source : Bytes) (reply : Reply) : Type 0 where
-    pub office : Held S
-    pub after : Held S
+  -- connection was open, so the tables showed what that step leads to. These are its files.
+  pub record HasTakenIn (source : Bytes) (reply : Reply) (files : Files D) : Type 0 where
+    pub office : Held (FileStore D g)
+    pub after : Held (FileStore D g)
     pub opened : IsOpened office
-    pub intact : HasCleanDisk (state store after) → HasCleanDisk (state store office)
     pub file : Bytes
-    pub step : HasCleanDisk (state store after) → (s : State) → IsSoundOffice s
-        → IsIn RepresentsSpanRows Spans s (state store office)
-        → TakesStep RepresentsSpanRows Spans s (Import source file) reply (state store after)
-    pub kept : HasCleanDisk (state store after) → IsOk reply → IsTrue (state store after).is_open
+    pub step : HasCleanDisk (file_state after) → (s : State) → IsSoundOffice s
+        → IsIn RepresentsSpanRows Spans s (file_state office)
+        → TakesStep RepresentsSpanRows Spans s (Import source file) reply (file_state after)
+    pub kept : HasCleanDisk (file_state after) → IsOk reply → IsTrue (file_state after).is_open
+    pub crash : Survives (file_state office) (file_state after)
+        (MayFind RepresentsSpanRows Spans (Import source file) (file_state office))
+    pub closed : HasLeft after files
 
-  -- an office that was opened served so many connections, or fewer where not all could be taken: one session after the
-  -- other
-  pub record HasServed (connections : ℕ) (all : Bool) : Type 0 where
-    pub office : Held S
-    pub after : Held S
+  -- An office that was opened was busy when it was to take a file in: its tables were as before. These are its files.
+  pub record WasBusy (source : Bytes) (files : Files D) : Type 0 where
+    pub office : Held (FileStore D g)
+    pub after : Held (FileStore D g)
     pub opened : IsOpened office
-    pub intact : HasCleanDisk (state store after) → HasCleanDisk (state store office)
-    pub sessions : Serves is_kept (is_clean store) connections office after all
+    pub file : Bytes
+    pub same : HasCleanDisk (file_state after) → IsAsBefore (file_state office) (file_state after)
+    pub crash : Survives (file_state office) (file_state after)
+        (MayFind RepresentsSpanRows Spans (Import source file) (file_state office))
+    pub closed : HasLeft after files
 
-  -- a store that was found was judged
-  pub record WasJudged (judged : Option OpenFault) : Type 0 where
-    pub after : Held S
-    pub verdict : HasCleanDisk (state store after) → IsJudgedIn image judged
+  -- An office that was opened served so many connections, or fewer where not all could be taken: one session after the
+  -- other. These are its files.
+  pub record HasServed (connections : ℕ) (all : Bool) (files : Files D) : Type 0 where
+    pub office : Held (FileStore D g)
+    pub after : Held (FileStore D g)
+    pub opened : IsOpened office
+    pub intact : HasCleanDisk (file_state after) → HasCleanDisk (file_state office)
+    pub sessions : Serves is_kept (is_clean (over_files {g = g})) connections None None office after all
+    pub closed : HasLeft after files
 
-  -- the tables of a store were a sound office's of version 1, and are one's of version 2, in the same state, over a
-  -- connection that is open
-  pub record IsBroughtOver : Type 0 where
-    pub found : Held S
-    pub after : Held S
+  -- The tables of a store were a sound office's of version 1, and then one's of version 2, in the same state, over a
+  -- connection that was open. These are its files.
+  pub record IsBroughtOver (files : Files D) : Type 0 where
+    pub found : Held (FileStore D g)
+    pub after : Held (FileStore D g)
     pub is_store : IsStore found
-    pub intact : HasCleanDisk (state store after) → HasCleanDisk (state store found)
-    pub same : HasCleanDisk (state store after) → IsMigrated (state store found).now (state store after).now
-    pub kept : HasCleanDisk (state store after) → IsTrue (state store after).is_open
+    pub same : HasCleanDisk (file_state after) → IsMigrated (file_state found).now (file_state after).now
+    pub kept : HasCleanDisk (file_state after) → IsTrue (file_state after).is_open
+    pub crash : Survives (file_state found) (file_state after) (MayFindMigrated (file_state found))
+    pub closed : HasLeft after files
 
-  -- the tables of a store are as they were, and why
-  pub record IsNotBroughtOver (fault : Fault) : Type 0 where
-    pub found : Held S
-    pub after : Held S
+  -- the tables of a store were as before, and why; these are its files
+  pub record IsNotBroughtOver (fault : Fault) (files : Files D) : Type 0 where
+    pub found : Held (FileStore D g)
+    pub after : Held (FileStore D g)
     pub is_store : IsStore found
-    pub intact : HasCleanDisk (state store after) → HasCleanDisk (state store found)
     pub why : OpenFault
     pub told : fault ≡ fault_of_opening why
-    pub back : HasCleanDisk (state store after) → IsAsBefore (state store found) (state store after)
-    pub cause : HasCleanDisk (state store after) → HasAdoptCause Links (state store found) (state store after) why
+    pub back : HasCleanDisk (file_state after) → IsAsBefore (file_state found) (file_state after)
+    pub cause : HasCleanDisk (file_state after) → HasAdoptCause Links (file_state found) (file_state after) why
+    pub crash : Survives (file_state found) (file_state after) (MayFindMigrated (file_state found))
+    pub closed : HasLeft after files
+
+  -- ---- in one sentence each
+
+  abbrev pub WhatWasMadeIsHeld : Type 0
+  WhatWasMadeIsHeld =
+      (founding : Founding) (files : Files D) → IsMade founding files → HaveCleanDisk g files
+      → HoldState g files (founded founding)
+
+  -- of an import that is not refused
+  abbrev pub WhatWasTakenInIsHeld : Type 0
+  WhatWasTakenInIsHeld =
+      (source : Bytes) (done : Done) (files : Files D) (it : HasTakenIn source (Ok done) files) → HaveCleanDisk g files
+      → (s : State) → HoldsOffice image s → IsSoundOffice s → HoldState g files (step s (Import source it.file)).0
+
+  -- unless a failure of the disk had shut the office
+  abbrev pub WhatWasSaidIsHeld : Type 0
+  WhatWasSaidIsHeld =
+      (left left_after held held_after : Option Bytes) (end : Ended) (files : Files D)
+      (it : IsTalkedWith left left_after held held_after end files) → HaveCleanDisk g files
+      → (s : State) → HoldsOffice image s → IsSoundOffice s → IsTrue (file_state it.after).is_open
+      → (t : State) × Session s it.input it.output end t × HoldState g files t
+
+  abbrev pub WhatWasServedIsHeld : Type 0
+  WhatWasServedIsHeld =
+      (connections : ℕ) (all : Bool) (files : Files D) (it : HasServed connections all files) → HaveCleanDisk g files
+      → (s : State) → HoldsOffice image s → IsSoundOffice s → IsTrue (file_state it.after).is_open
+      → (t : State) × AreSessions it.sessions.connections s t × HoldState g files t
+
+  abbrev pub WhatWasBroughtOverIsHeld : Type 0
+  WhatWasBroughtOverIsHeld =
+      (files : Files D) (it : IsBroughtOver files) → HaveCleanDisk g files
+      → HoldState g files (state_in Links (file_state it.found).now.trees)

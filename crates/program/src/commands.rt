@@ -1,5 +1,5 @@
 //! Does the task that the words name.
-ghost use Rattle.std.specs.Prelude.{true, false, IfErr, OnOk, map};
+ghost use Rattle.std.specs.Prelude.{◌≡◌, None, true, false, IfErr, IsSomeAnd, OnOk, map};
 ghost use Rattle.std.specs.String.{string_bytes};
 ghost use Rattle.sqlite.specs.WalFiles.{image_at};
 ghost use Rattle.program.specs.Faults.{IsUnopened};
@@ -10,9 +10,10 @@ ghost use Rattle.program.specs.Served.{Serves};
 ghost use Rattle.program.specs.Stores.{IsMade};
 
 use crate::faults::Fault;
-use crate::files::{FileStoreFrom, close, find};
+use crate::files::{ClosedFiles, close, find};
 use crate::imports::{take_in, tell_reply};
 use crate::integrity::{judge_file, tell_judgment};
+use crate::ports::LocalPort;
 use crate::previews::{file_bytes, print_preview};
 use crate::server::serve;
 use crate::sessions::{talk_with, try_office};
@@ -22,19 +23,25 @@ use crate::tasks::Task;
 use crate::words::task;
 use isad_core::Text;
 use office::{Machine, Settings};
-use sqlite::Start;
-use sqlite_trees::store::Store;
+use sqlite::{FileFrom, Start};
+use sqlite_disk::Disk;
 use std::alloc::Global;
 use std::io::{Read, Write};
-use std::net::{Ipv4Addr, SocketAddr, SocketAddrV4, TcpListener};
 
 // Makes a new office in a file.
-fn init<S: Start>(rt: &HostRuntime, store: &Text, settings: Settings, start: S) -> Result<(), Fault>
-    ensures done { OnOk result (IsMade ⟦<FileStoreFrom<S> as Store>⟧ (image_at S.Start) settings) }
+fn init<S: Start>(
+    rt: &HostRuntime,
+    store: &Text,
+    settings: Settings,
+    start: S,
+    closed: &mut Option<ClosedFiles<S>>,
+) -> Result<(), Fault>
+    ensures done { OnOk result (IsSomeAnd closed.new
+        (IsMade ⟦<FileFrom<S> as Disk>⟧ (image_at S.Start) settings)) }
     ensures fault { IfErr result IsUnopened }
 {
     let office = make_office(rt, store, settings, start)?;
-    close_office(office);
+    *closed = Some(close_office(office));
     Ok(())
 }
 
@@ -47,16 +54,18 @@ fn import<S: Start, W: Write>(
     file: &Text,
     out: &mut W,
     start: S,
+    closed: &mut Option<ClosedFiles<S>>,
 ) -> Result<(), Fault>
-    ensures done { OnOk result (ImportDone ⟦<FileStoreFrom<S> as Store>⟧ (image_at S.Start) source
-        (W.contents out.old) (W.contents out.new)) }
-    ensures fault { IfErr result (ImportFails ⟦<FileStoreFrom<S> as Store>⟧ (image_at S.Start) source
-        (W.contents out.old) (W.contents out.new)) }
+    requires { closed.old ≡ None }
+    ensures done { OnOk result (ImportDone ⟦<FileFrom<S> as Disk>⟧ (image_at S.Start) source
+        (W.contents out.old) (W.contents out.new) closed.new) }
+    ensures fault { IfErr result (ImportFails ⟦<FileFrom<S> as Disk>⟧ (image_at S.Start) source
+        (W.contents out.old) (W.contents out.new) closed.new) }
 {
     let bytes = file_bytes(rt, alloc, file)?;
-    let mut office = open_office(rt, alloc, store, start)?;
+    let mut office = open_office(rt, alloc, store, start, closed)?;
     let taken = take_in(alloc, &mut office, source, bytes);
-    close_office(office);
+    *closed = Some(close_office(office));
     tell_reply(alloc, taken?, out)
 }
 
@@ -68,15 +77,17 @@ fn talk<S: Start, R: Read, W: Write>(
     reader: &mut R,
     out: &mut W,
     start: S,
+    closed: &mut Option<ClosedFiles<S>>,
 ) -> Result<(), Fault>
-    ensures done { OnOk result (TalkDone ⟦<FileStoreFrom<S> as Store>⟧ (image_at S.Start)
-        (R.remaining reader.old) (R.remaining reader.new) (W.contents out.old) (W.contents out.new)) }
-    ensures fault { IfErr result (TalkFails ⟦<FileStoreFrom<S> as Store>⟧ (image_at S.Start)
-        (R.remaining reader.old) (R.remaining reader.new) (W.contents out.old) (W.contents out.new)) }
+    requires { closed.old ≡ None }
+    ensures done { OnOk result (TalkDone ⟦<FileFrom<S> as Disk>⟧ (image_at S.Start)
+        (R.remaining reader.old) (R.remaining reader.new) (W.contents out.old) (W.contents out.new) closed.new) }
+    ensures fault { IfErr result (TalkFails ⟦<FileFrom<S> as Disk>⟧ (image_at S.Start)
+        (R.remaining reader.old) (R.remaining reader.new) (W.contents out.old) (W.contents out.new) closed.new) }
 {
-    let mut office = open_office(rt, alloc, store, start)?;
+    let mut office = open_office(rt, alloc, store, start, closed)?;
     let talked = talk_with(alloc, &mut office, reader, out);
-    close_office(office);
+    *closed = Some(close_office(office));
     talked
 }
 
@@ -86,17 +97,16 @@ fn listen<W: Write>(
     alloc: Global,
     port: u16,
     out: &mut W,
-) -> Result<TcpListener, Fault>
+) -> Result<LocalPort, Fault>
     ensures done { OnOk result (Listens port (W.contents out.old) (W.contents out.new)) }
     ensures fault { IfErr result (ServerFails port (W.contents out.old) (W.contents out.new)) }
 {
-    let here = SocketAddr::V4(SocketAddrV4::new(Ipv4Addr::LOCALHOST, port));
-    let Ok(listener) = TcpListener::bind(rt, here) else {
+    let Some(local) = LocalPort::listen(rt, port) else {
         return Err(Fault::Net);
     };
     let line = format!(in alloc; "listening {port}\n")?;
     write_whole(out, line.as_bytes())?;
-    Ok(listener)
+    Ok(local)
 }
 
 // Serves an office on a port of this machine, and says so once the port is there.
@@ -109,13 +119,13 @@ fn serve_on_port<M: Machine, W: Write>(
     out: &mut W,
 ) -> Result<(), Fault>
     ensures done { OnOk result (Listens port (W.contents out.old) (W.contents out.new)
-        × Serves M.represents M.is_intact connections office.old office.new true) }
+        × Serves M.represents M.is_intact connections None None office.old office.new true) }
     ensures fault { IfErr result (λ f. ServerFails port (W.contents out.old) (W.contents out.new) f
-        × Serves M.represents M.is_intact connections office.old office.new false) }
+        × Serves M.represents M.is_intact connections None None office.old office.new false) }
     ensures intact { M.is_intact office.new → M.is_intact office.old }
 {
-    let listener = listen(rt, alloc, port, out)?;
-    if serve(alloc, listener, connections, office) {
+    let mut local = listen(rt, alloc, port, out)?;
+    if serve(alloc, &mut local, connections, office) {
         Ok(())
     } else {
         Err(Fault::Net)
@@ -131,15 +141,17 @@ fn serve_store<S: Start, W: Write>(
     connections: u32,
     out: &mut W,
     start: S,
+    closed: &mut Option<ClosedFiles<S>>,
 ) -> Result<(), Fault>
-    ensures done { OnOk result (ServeDone ⟦<FileStoreFrom<S> as Store>⟧ (image_at S.Start) port connections
-        (W.contents out.old) (W.contents out.new)) }
-    ensures fault { IfErr result (ServeFails ⟦<FileStoreFrom<S> as Store>⟧ (image_at S.Start) port connections
-        (W.contents out.old) (W.contents out.new)) }
+    requires { closed.old ≡ None }
+    ensures done { OnOk result (ServeDone ⟦<FileFrom<S> as Disk>⟧ (image_at S.Start) port connections
+        (W.contents out.old) (W.contents out.new) closed.new) }
+    ensures fault { IfErr result (ServeFails ⟦<FileFrom<S> as Disk>⟧ (image_at S.Start) port connections
+        (W.contents out.old) (W.contents out.new) closed.new) }
 {
-    let mut office = open_office(rt, alloc, store, start)?;
+    let mut office = open_office(rt, alloc, store, start, closed)?;
     let served = serve_on_port(rt, alloc, port, connections, &mut office, out);
-    close_office(office);
+    *closed = Some(close_office(office));
     served
 }
 
@@ -150,14 +162,16 @@ fn check<S: Start, W: Write>(
     store: &Text,
     out: &mut W,
     start: S,
+    closed: &mut Option<ClosedFiles<S>>,
 ) -> Result<(), Fault>
-    ensures done { OnOk result (CheckDone ⟦<FileStoreFrom<S> as Store>⟧ (image_at S.Start)
-        (W.contents out.old) (W.contents out.new)) }
-    ensures fault { IfErr result (CheckFails ⟦<FileStoreFrom<S> as Store>⟧ (image_at S.Start)
-        (W.contents out.old) (W.contents out.new)) }
+    requires { closed.old ≡ None }
+    ensures done { OnOk result (CheckDone ⟦<FileFrom<S> as Disk>⟧ (image_at S.Start)
+        (W.contents out.old) (W.contents out.new) closed.new) }
+    ensures fault { IfErr result (CheckFails ⟦<FileFrom<S> as Disk>⟧ (image_at S.Start)
+        (W.contents out.old) (W.contents out.new) closed.new) }
 {
     let (judged, files) = judge_file(rt, alloc, store, start)?;
-    drop(files);
+    *closed = Some(files);
     tell_judgment(alloc, judged, out)
 }
 
@@ -168,15 +182,17 @@ fn migrate<S: Start, W: Write>(
     store: &Text,
     out: &mut W,
     start: S,
+    closed: &mut Option<ClosedFiles<S>>,
 ) -> Result<(), Fault>
-    ensures done { OnOk result (MigrateDone ⟦<FileStoreFrom<S> as Store>⟧ (image_at S.Start)
-        (W.contents out.old) (W.contents out.new)) }
-    ensures fault { IfErr result (MigrateFails ⟦<FileStoreFrom<S> as Store>⟧ (image_at S.Start)
-        (W.contents out.old) (W.contents out.new)) }
+    requires { closed.old ≡ None }
+    ensures done { OnOk result (MigrateDone ⟦<FileFrom<S> as Disk>⟧ (image_at S.Start)
+        (W.contents out.old) (W.contents out.new) closed.new) }
+    ensures fault { IfErr result (MigrateFails ⟦<FileFrom<S> as Disk>⟧ (image_at S.Start)
+        (W.contents out.old) (W.contents out.new) closed.new) }
 {
     let mut conn = find(rt, store.as_str(), start)?;
     let brought = office::migrate(alloc, &mut conn);
-    close(conn);
+    *closed = Some(close(conn));
     brought?;
     write_whole(out, b"migrated\n")?;
     Ok(())
@@ -190,11 +206,13 @@ fn do_task<S: Start, R: Read, W: Write>(
     reader: &mut R,
     out: &mut W,
     start: S,
+    closed: &mut Option<ClosedFiles<S>>,
 ) -> Result<(), Fault>
-    ensures done { OnOk result (Does ⟦<FileStoreFrom<S> as Store>⟧ (image_at S.Start) task
-        (R.remaining reader.old) (R.remaining reader.new) (W.contents out.old) (W.contents out.new)) }
-    ensures fault { IfErr result (FailsWith ⟦<FileStoreFrom<S> as Store>⟧ (image_at S.Start) task
-        (R.remaining reader.old) (R.remaining reader.new) (W.contents out.old) (W.contents out.new)) }
+    requires { closed.old ≡ None }
+    ensures done { OnOk result (Does ⟦<FileFrom<S> as Disk>⟧ (image_at S.Start) task
+        (R.remaining reader.old) (R.remaining reader.new) (W.contents out.old) (W.contents out.new) closed.new) }
+    ensures fault { IfErr result (FailsWith ⟦<FileFrom<S> as Disk>⟧ (image_at S.Start) task
+        (R.remaining reader.old) (R.remaining reader.new) (W.contents out.old) (W.contents out.new) closed.new) }
 {
     match task {
         Task::Preview {
@@ -202,25 +220,26 @@ fn do_task<S: Start, R: Read, W: Write>(
             repo,
             file,
         } => print_preview(rt, alloc, &country, &repo, file.as_ref(), reader, out),
-        Task::Init { store, settings } => init(rt, &store, settings, start),
+        Task::Init { store, settings } => init(rt, &store, settings, start, closed),
         Task::Trial { settings } => try_office(alloc, settings, reader, out),
         Task::Import {
             store,
             source,
             file,
-        } => import(rt, alloc, &store, source, &file, out, start),
-        Task::Talk { store } => talk(rt, alloc, &store, reader, out, start),
+        } => import(rt, alloc, &store, source, &file, out, start, closed),
+        Task::Talk { store } => talk(rt, alloc, &store, reader, out, start, closed),
         Task::Serve {
             store,
             port,
             connections,
-        } => serve_store(rt, alloc, &store, port, connections, out, start),
-        Task::Check { store } => check(rt, alloc, &store, out, start),
-        Task::Migrate { store } => migrate(rt, alloc, &store, out, start),
+        } => serve_store(rt, alloc, &store, port, connections, out, start, closed),
+        Task::Check { store } => check(rt, alloc, &store, out, start, closed),
+        Task::Migrate { store } => migrate(rt, alloc, &store, out, start, closed),
     }
 }
 
 /// Does the task that the words name, with these as standard input and output, and with files that held what `S` says.
+/// The files that it opened as a store are handed back, closed.
 pub fn run<S: Start, R: Read, W: Write>(
     rt: &HostRuntime,
     alloc: Global,
@@ -228,12 +247,14 @@ pub fn run<S: Start, R: Read, W: Write>(
     reader: &mut R,
     out: &mut W,
     start: S,
+    closed: &mut Option<ClosedFiles<S>>,
 ) -> Result<(), Fault>
-    ensures done { OnOk result (IsDone ⟦<FileStoreFrom<S> as Store>⟧ (image_at S.Start) (map string_bytes words.now)
-        (R.remaining reader.old) (R.remaining reader.new) (W.contents out.old) (W.contents out.new)) }
-    ensures fault { IfErr result (Fails ⟦<FileStoreFrom<S> as Store>⟧ (image_at S.Start) (map string_bytes words.now)
-        (R.remaining reader.old) (R.remaining reader.new) (W.contents out.old) (W.contents out.new)) }
+    requires { closed.old ≡ None }
+    ensures done { OnOk result (IsDone ⟦<FileFrom<S> as Disk>⟧ (image_at S.Start) (map string_bytes words.now)
+        (R.remaining reader.old) (R.remaining reader.new) (W.contents out.old) (W.contents out.new) closed.new) }
+    ensures fault { IfErr result (Fails ⟦<FileFrom<S> as Disk>⟧ (image_at S.Start) (map string_bytes words.now)
+        (R.remaining reader.old) (R.remaining reader.new) (W.contents out.old) (W.contents out.new) closed.new) }
 {
     let task = task(alloc, words)?;
-    do_task(rt, alloc, task, reader, out, start)
+    do_task(rt, alloc, task, reader, out, start, closed)
 }

@@ -1,12 +1,12 @@
 //! Takes the descriptions of a file into an office.
-ghost use Rattle.std.specs.Prelude.{◌≡◌, IfErr, IfOk, IsOk, IsTrue, OnOk};
+ghost use Rattle.std.specs.Prelude.{◌≡◌, IfErr, IfOk, IsOk, IsTrue, OnErr, OnOk};
 ghost use Rattle.sqlite.specs.Held.{state};
 ghost use Rattle.sqlite.specs.State.{HasCleanDisk, Survives};
 ghost use Rattle.office_core.specs.Json.{reply_text};
 ghost use Rattle.office_core.specs.SoundOffice.{IsSoundOffice};
 ghost use Rattle.office_core.specs.State.{State};
 ghost use Rattle.office.specs.Applying.{MayFind, TakesStep};
-ghost use Rattle.office.specs.Resting.{IsIn};
+ghost use Rattle.office.specs.Resting.{IsAsBefore, IsIn};
 ghost use Rattle.program.specs.Performed.{IsBusy, ReplyFails, ReplyPrinted};
 
 use crate::faults::{Fault, refused};
@@ -33,6 +33,8 @@ pub fn take_in<P: Places, S: Alter>(
         → IfOk result (λ reply. IsOk reply.done → IsTrue (state S.Store office.new).is_open) }
     ensures bytes { IfOk result (λ reply. reply.json ≡ reply_text reply.done) }
     ensures busy { IfErr result IsBusy }
+    ensures back { HasCleanDisk (state S.Store office.new)
+        → OnErr result (IsAsBefore (state S.Store office.old) (state S.Store office.new)) }
     ensures crash { Survives (state S.Store office.old) (state S.Store office.new)
         (MayFind P.represents P.version (Command.Import source file.items) (state S.Store office.old)) }
 {

@@ -7,6 +7,8 @@ ghost use Rattle.office_core.specs.State.{State};
 ghost use Rattle.program.specs.Closed.{ACheckChangesNothing};
 ghost use Rattle.program.specs.Headline.{TheHeadlineInAFile, TheHeadlineInMemory};
 ghost use Rattle.program.specs.Kept.{IsInTheStateThatWasLeft};
+ghost use Rattle.program.specs.Stores.{WhatWasBroughtOverIsHeld, WhatWasMadeIsHeld, WhatWasSaidIsHeld};
+ghost use Rattle.program.specs.Stores.{WhatWasServedIsHeld, WhatWasTakenInIsHeld};
 
 use sqlite::{FileFrom, Start};
 use sqlite_disk::Disk;
@@ -30,4 +32,14 @@ pub fn the_headline_in_a_file<S: Start>()
 /// A check changes nothing: the file holds what it held.
 pub fn a_check_changes_nothing<S: Start>()
     ensures { ACheckChangesNothing ⟦<FileFrom<S> as Disk>⟧ (image_at S.Start) }
+{}
+
+/// Once `init` is done, the file holds the new office. Once an import, a session, some connections or a migration is
+/// done, it holds the office in the state that these have led to from the one that the file held.
+pub fn what_was_done_is_in_the_file<S: Start>()
+    ensures made { WhatWasMadeIsHeld ⟦<FileFrom<S> as Disk>⟧ (image_at S.Start) }
+    ensures taken_in { WhatWasTakenInIsHeld ⟦<FileFrom<S> as Disk>⟧ (image_at S.Start) }
+    ensures said { WhatWasSaidIsHeld ⟦<FileFrom<S> as Disk>⟧ (image_at S.Start) }
+    ensures served { WhatWasServedIsHeld ⟦<FileFrom<S> as Disk>⟧ (image_at S.Start) }
+    ensures brought_over { WhatWasBroughtOverIsHeld ⟦<FileFrom<S> as Disk>⟧ (image_at S.Start) }
 {}

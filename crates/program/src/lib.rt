@@ -8,6 +8,7 @@ pub mod imports;
 pub mod integrity;
 pub mod laws;
 pub mod perform;
+pub mod ports;
 pub mod previews;
 pub mod server;
 pub mod sessions;

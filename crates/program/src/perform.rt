@@ -7,15 +7,15 @@ ghost use Rattle.program.specs.Performed.{Performs, Tells};
 
 use crate::commands::run;
 use crate::faults::Fault;
-use crate::files::FileStoreFrom;
+use crate::files::ClosedFiles;
 use crate::streams::write_whole;
-use sqlite::Start;
-use sqlite_trees::store::Store;
+use sqlite::{FileFrom, Start};
+use sqlite_disk::Disk;
 use std::alloc::Global;
 use std::io::{Read, Write};
 
-/// Does one command with these as standard input, output and error, and gives the exit status. A file that it opens
-/// as a store may have held anything: that is what `S` says.
+/// Does one command with these as standard input, output and error, and gives the exit status, and the file that it
+/// opened as a store, with its log, closed. They may have held anything: that is what `S` says.
 pub fn perform<S: Start, R: Read, W: Write, E: Write>(
     rt: &HostRuntime,
     alloc: Global,
@@ -24,16 +24,18 @@ pub fn perform<S: Start, R: Read, W: Write, E: Write>(
     out: &mut W,
     err: &mut E,
     start: S,
-) -> u8
-    ensures performs { Performs ⟦<FileStoreFrom<S> as Store>⟧ (image_at S.Start) (map string_bytes words.now)
+) -> (u8, Option<ClosedFiles<S>>)
+    ensures performs { Performs ⟦<FileFrom<S> as Disk>⟧ (image_at S.Start) (map string_bytes words.now)
         (R.remaining reader.old) (R.remaining reader.new) (W.contents out.old) (W.contents out.new)
-        (E.contents err.old) (E.contents err.new) result }
-    ensures status { result ≤ 3 }
+        (E.contents err.old) (E.contents err.new) result.1 result.0 }
+    ensures status { result.0 ≤ 3 }
 {
-    match run(rt, alloc, words, reader, out, start) {
+    let mut closed = None;
+    let status = match run(rt, alloc, words, reader, out, start, &mut closed) {
         Ok(()) => 0,
         Err(fault) => tell(&fault, err),
-    }
+    };
+    (status, closed)
 }
 
 /// Tells on standard error why a command was not done, and gives the exit status, which stands whether or not

@@ -1,7 +1,7 @@
 //! Offices in files.
 //!
 //! What is said of a file's content is said for every start `S`: for whatever the file held when it was opened.
-ghost use Rattle.std.specs.Prelude.{IfErr, IfOk, IsTrue};
+ghost use Rattle.std.specs.Prelude.{◌≡◌, None, IfErr, IfOk, IfSome, IsTrue, OnErr};
 ghost use Rattle.sqlite.specs.Files.{file_state};
 ghost use Rattle.sqlite.specs.State.{HasCleanDisk};
 ghost use Rattle.sqlite.specs.WalFiles.{image_at};
@@ -9,7 +9,7 @@ ghost use Rattle.office.specs.Founding.{founded};
 ghost use Rattle.office.specs.Resting.{IsIn};
 ghost use Rattle.nested_sets.specs.Represents.{RepresentsSpanRows};
 ghost use Rattle.tree_core.specs.Versions.{Spans};
-ghost use Rattle.program.specs.Closed.{HasLeft};
+ghost use Rattle.program.specs.Closed.{AreAsFound, HasLeft};
 ghost use Rattle.program.specs.Faults.{IsUnopened};
 ghost use Rattle.program.specs.Kept.{IsFound};
 
@@ -18,7 +18,8 @@ use crate::files::{ClosedFiles, FileStoreFrom, close, find, make, unmake};
 use isad_core::Text;
 use nested_sets::SpanPlaces;
 use office::{Office, Settings};
-use sqlite::Start;
+use sqlite::{FileFrom, Start};
+use sqlite_disk::Disk;
 use std::alloc::Global;
 
 /// An office in a file that held what `S` says.
@@ -47,22 +48,27 @@ pub fn make_office<S: Start>(
     }
 }
 
-/// Opens the office in a file: the one that the tables in the file say.
+/// Opens the office in a file: the one that the tables in the file say. Where they say none, the file is closed as it
+/// was found.
 pub fn open_office<S: Start>(
     rt: &HostRuntime,
     alloc: Global,
     store: &Text,
     start: S,
+    closed: &mut Option<ClosedFiles<S>>,
 ) -> Result<KeptOffice<S>, Fault>
+    requires { closed.old ≡ None }
     ensures found { IfOk result (λ office. HasCleanDisk (file_state office)
         → IsFound (image_at S.Start) (file_state office)) }
     ensures fault { IfErr result IsUnopened }
+    ensures as_found { OnErr result (IfSome closed.new
+        (AreAsFound ⟦<FileFrom<S> as Disk>⟧ (image_at S.Start))) }
 {
     let conn = find(rt, store.as_str(), start)?;
     match KeptOffice::<S>::adopt(alloc, conn) {
         Ok(office) => Ok(office),
         Err((fault, conn)) => {
-            close(conn);
+            *closed = Some(close(conn));
             Err(Fault::from(fault))
         }
     }

@@ -1,8 +1,11 @@
 //! Streams for tests: they give and take bytes in pieces, are interrupted, and fail where a test says.
 ghost use Rattle.std.specs.Prelude.{IsErr};
 
+use http_desk::session_end::Ended;
+use http_desk::streams::{Sink, Source};
+use program::ports::Port;
 use std::env::{Env, FillError};
-use std::io::{self, ErrorKind, Read, Write};
+use std::io::{self, ErrorKind, PipeWriter, Read, Write};
 
 fn broken<T>() -> io::Result<T>
     ensures { IsErr result }
@@ -158,6 +161,51 @@ impl Write for Page {
         }
         self.is_ready = false;
         if self.holds_back { broken() } else { Ok(()) }
+    }
+}
+
+/// Clients that stand in a queue, each with what it sends. What each is sent goes to one line, with a bar after it.
+#[derive(Drop)]
+pub struct Queue<'a> {
+    waiting: &'a [&'a str],
+    line: PipeWriter,
+    pub is_shut: bool,
+}
+
+impl<'a> Queue<'a> {
+    /// Nobody was talked to yet.
+    pub fn of(waiting: &'a [&'a str], line: PipeWriter) -> Queue<'a> {
+        Queue {
+            waiting,
+            line,
+            is_shut: false,
+        }
+    }
+}
+
+impl<'a> Port for Queue<'a> {
+    type Reader = Pieces<'a>;
+
+    type Writer = PipeWriter;
+
+    fn take(&mut self) -> Option<(Pieces<'a>, PipeWriter)> {
+        let (client, others) = self.waiting.split_first()?;
+        let writer = self.line.try_clone().ok()?;
+        self.waiting = others;
+        Some((Pieces::of(client.as_bytes()), writer))
+    }
+
+    fn leave<R: Read, W: Write>(
+        &mut self,
+        _reader: &Source<'_, R>,
+        _writer: &Sink<'_, W>,
+        _ended: Ended,
+    ) {
+        let _ = self.line.write_all(b"|");
+    }
+
+    fn shut(&mut self) {
+        self.is_shut = true;
     }
 }
 

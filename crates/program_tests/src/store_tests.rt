@@ -1,12 +1,13 @@
 //! The commands on an office in a file.
 
-use crate::fakes::{Page, Pieces};
+use crate::fakes::{Page, Pieces, Queue};
 use crate::tests::{FONDS, Host, expect};
 use catalogue_store::LinkPlaces;
 use isad_core::Day;
 use nested_sets::SpanPlaces;
 use office::{Office, Settings};
 use program::files::{FileStoreFrom, close, find, make, unmake};
+use program::ports::LocalPort;
 use program::server::serve;
 use sqlite::{Connection, MemStore, Wary};
 use std::alloc::Global;
@@ -14,7 +15,7 @@ use std::io::{Read, Write};
 use std::net::{Ipv4Addr, Shutdown, SocketAddr, SocketAddrV4, TcpListener, TcpStream};
 use std::process::Abort;
 use std::test::Fail;
-use std::{env, fs};
+use std::{env, fs, io};
 
 const SETTINGS: &str =
     "--country GB --repo 0999 --seats 2 --daily 3 --hands 1 --run 2 --day 2024-03-01";
@@ -32,6 +33,15 @@ const ANSWERED: &str =
 
 const NONE_ANSWERED: &str =
     "HTTP/1.1 200 OK\r\nContent-Type: text/plain; charset=utf-8\r\nContent-Length: 0\r\n\r\n";
+
+const REGISTERED: &str =
+    "POST /desk/register HTTP/1.1\r\nHost: x\r\nContent-Length: 35\r\n\r\n{\"name\":\"Ann\",\"until\":\"2024-12-31\"}";
+
+const TICKET_1: &str =
+    "HTTP/1.1 200 OK\r\nContent-Type: application/json\r\nContent-Length: 12\r\n\r\n{\"ticket\":1}";
+
+const TICKET_2: &str =
+    "HTTP/1.1 200 OK\r\nContent-Type: application/json\r\nContent-Length: 12\r\n\r\n{\"ticket\":2}";
 
 // A file for a test, which is not there yet.
 fn new_path(rt: &HostRuntime, alloc: Global, name: &str) -> Result<String, Fail> {
@@ -176,6 +186,9 @@ fn a_file_is_no_store(rt: HostRuntime) -> Result<(), Fail> {
         fs::write(&rt, store, bytes)?;
         let init = format!(in alloc; "init --store {store} {SETTINGS}")?;
         says(&rt, alloc, init.as_str(), "", (3, "", "file fault\n"))?;
+        // The file of descriptions is read before the store is opened.
+        let import = format!(in alloc; "import --store {store} --source a /none/none")?;
+        says(&rt, alloc, import.as_str(), "", (3, "", "file fault\n"))?;
         for command in ["check", "talk", "migrate"] {
             let words = format!(in alloc; "{command} --store {store}")?;
             says(&rt, alloc, words.as_str(), "", (3, "", "store fault\n"))?;
@@ -254,20 +267,70 @@ fn faults_have_an_order(rt: HostRuntime) -> Result<(), Fail> {
 #[test]
 fn a_connection_is_served(rt: HostRuntime) -> Result<(), Fail> {
     let alloc = rt.alloc();
+    // A port that is free, as the system says.
     let here = SocketAddr::V4(SocketAddrV4::new(Ipv4Addr::LOCALHOST, 0));
-    let listener = TcpListener::bind(&rt, here)?;
-    let mut stream = TcpStream::connect(&rt, listener.local_addr()?)?;
+    let probe = TcpListener::bind(&rt, here)?;
+    let there = probe.local_addr()?;
+    drop(probe);
+    let mut local = LocalPort::listen(&rt, there.port()).ok_or("no port")?;
+    let mut stream = TcpStream::connect(&rt, there)?;
     stream.write_all(ASKED.as_bytes())?;
     stream.shutdown(Shutdown::Write)?;
     let conn = Connection::open_in_memory(alloc)?;
     let mut office = Office::<SpanPlaces, MemStore>::create(conn, settings(alloc)?)
         .ok()
         .ok_or("no office")?;
-    let is_served = serve(alloc, listener, 1, &mut office);
+    let is_served = serve(alloc, &mut local, 1, &mut office);
     let _ = office.into_connection();
     assert!(rt; is_served);
     let mut read = String::new(alloc);
     let _length = stream.read_to_string(&mut read)?;
     assert_eq!(rt; read.as_str(), NONE_ANSWERED);
+    assert!(rt; TcpStream::connect(&rt, there).is_err());
+    Ok(())
+}
+
+// Serves these clients, so many, and gives whether all came, and what they were sent; the port was shut where all came.
+fn sent_to(
+    rt: &HostRuntime,
+    alloc: Global,
+    clients: &[&str],
+    connections: u32,
+) -> Result<(bool, String), Fail> {
+    let (mut line, end) = io::pipe(rt)?;
+    let conn = Connection::open_in_memory(alloc)?;
+    let mut office = Office::<SpanPlaces, MemStore>::create(conn, settings(alloc)?)
+        .ok()
+        .ok_or("no office")?;
+    let mut port = Queue::of(clients, end);
+    let is_served = serve(alloc, &mut port, connections, &mut office);
+    let _ = office.into_connection();
+    let is_shut = port.is_shut;
+    drop(port);
+    let mut sent = String::new(alloc);
+    let _length = line.read_to_string(&mut sent)?;
+    Ok((is_served && is_shut, sent))
+}
+
+// Each client that comes is talked to, in turn, and what one has changed the next one sees.
+#[test]
+fn each_client_is_talked_to(rt: HostRuntime) -> Result<(), Fail> {
+    let alloc = rt.alloc();
+    let clients = [REGISTERED, "", ASKED, REGISTERED];
+    let (all_came, sent) = sent_to(&rt, alloc, &clients, 4)?;
+    let wanted = format!(in alloc; "{TICKET_1}||{NONE_ANSWERED}|{TICKET_2}|")?;
+    assert!(rt; all_came);
+    assert_eq!(rt; sent.as_str(), wanted.as_str());
+    Ok(())
+}
+
+// A client who does not come is told.
+#[test]
+fn a_client_is_missing(rt: HostRuntime) -> Result<(), Fail> {
+    let alloc = rt.alloc();
+    let (all_came, sent) = sent_to(&rt, alloc, &[ASKED], 3)?;
+    let wanted = format!(in alloc; "{NONE_ANSWERED}|")?;
+    assert!(rt; !all_came);
+    assert_eq!(rt; sent.as_str(), wanted.as_str());
     Ok(())
 }

@@ -89,7 +89,7 @@ pub fn expect<R: Abort + Host>(
 ) -> Result<(), Fail> {
     let mut err = Page::new(Vec::new(alloc));
     let said = words_of(alloc, words)?;
-    let status = perform(
+    let (status, _files) = perform(
         rt.host(),
         alloc,
         said.as_slice(),
@@ -256,7 +256,7 @@ fn a_status_stands_without_its_text(rt: HostRuntime) -> Result<(), Fail> {
         let mut out = Page::new(Vec::new(alloc));
         let mut err = Page::narrow(Vec::new(alloc), n);
         let mut reader = Pieces::of(b"");
-        let status = perform(
+        let (status, _files) = perform(
             &rt,
             alloc,
             words.as_slice(),

@@ -1,8 +1,10 @@
 use Rattle.sqlite.specs.Files.{file_state}
+use Rattle.std.proofs.Common.{inl, refl}
 use Rattle.office_tables.proofs.Calls.{early}
+use Rattle.program.proofs.ClosedLemmas.{as_found}
 use Rattle.program.proofs.Judgments.{unopened}
 use Rattle.program.proofs.KeptLemmas.{opens_so}
-use Rattle.program.proofs.StoreLemmas.{held_in}
+use Rattle.program.proofs.StoreLemmas.{held_in, none_left, on_err}
 use Rattle.program.proofs.stores.open_office.Goals as goal
 
 pub returns-in-Ok-clause-found : goal.returns-in-Ok-clause-found
@@ -25,3 +27,12 @@ returns-in-Ok-clause-found g c clean =
 
 pub returns-in-Err-clause-fault : goal.returns-in-Err-clause-fault
 returns-in-Err-clause-fault g c = unopened c.in-Err.fault c.from.result c.from.ensures
+
+pub returns-in_err-conn-clause-as_found : goal.returns-in_err-conn-clause-as_found
+returns-in_err-conn-clause-as_found g c = on_err c.from_residual.result _ (none_left _ _ c.requires)
+
+pub returns-in-Err-clause-as_found : goal.returns-in-Err-clause-as_found
+returns-in-Err-clause-as_found g c =
+    as_found _ c.in_ok-conn.conn c.in-Err.conn c.close.result (λ f. inl refl) (λ clean. (c.in_ok-conn.ensures.opened clean).0)
+    c.in_ok-conn.ensures.found c.in-Err.ensures.crash_back (λ clean. (c.in-Err.ensures.back clean).now)
+    (c.close.ensures (λ clean. (c.in-Err.ensures.back clean).ended))

@@ -1,0 +1,40 @@
+-- What the files hold once a command is done.
+use Rattle.std.proofs.Common.{refl}
+use Rattle.sqlite.specs.Files.{file_state}
+use Rattle.sqlite.specs.Recovery.{Image}
+use Rattle.sqlite_disk.specs.declared.Disk.{Ghosts}
+use Rattle.office_tables.proofs.Calls.{early}
+use Rattle.program.proofs.HeadlineLemmas.{held_so}
+use Rattle.program.specs.Stores.{WhatWasBroughtOverIsHeld, WhatWasMadeIsHeld, WhatWasSaidIsHeld, WhatWasServedIsHeld, WhatWasTakenInIsHeld}
+
+module _ {D : Type 0} (g : Ghosts D) (image : Image) where
+  pub made : WhatWasMadeIsHeld g image
+  made founding files it honest =
+      let clean = it.left.clean honest in
+      held_so g image it.office files _ it.left honest (it.represents clean (it.kept clean)) (it.kept clean)
+
+  pub taken_in : WhatWasTakenInIsHeld g image
+  taken_in source done files it honest s holds sound =
+      let clean = it.closed.clean honest in
+      let before = early (file_state it.office) (file_state it.after) _ it.crash clean in
+      let opened = it.kept clean refl in
+      let after = (it.step clean s sound ((it.opened before).left s holds)).1 in
+      held_so g image it.after files _ it.closed honest (after opened) opened
+
+  pub said : WhatWasSaidIsHeld g image
+  said left left_after held held_after end files it honest s holds sound opened =
+      let clean = it.closed.clean honest in
+      let (t, shown, session) = it.session clean s (sound, (it.opened (it.intact clean)).left s holds) in
+      (t, session, held_so g image it.after files t it.closed honest (shown.1 opened) opened)
+
+  pub served : WhatWasServedIsHeld g image
+  served connections all files it honest s holds sound opened =
+      let clean = it.closed.clean honest in
+      let (t, shown, are) = it.sessions.sessions clean s (sound, (it.opened (it.intact clean)).left s holds) in
+      (t, are, held_so g image it.after files t it.closed honest (shown.1 opened) opened)
+
+  pub brought_over : WhatWasBroughtOverIsHeld g image
+  brought_over files it honest =
+      let clean = it.closed.clean honest in
+      let before = early (file_state it.found) (file_state it.after) _ it.crash clean in
+      held_so g image it.after files _ it.closed honest ((it.same clean).represents (it.is_store before).1) (it.kept clean)

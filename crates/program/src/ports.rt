@@ -1,0 +1,152 @@
+//! Where clients connect.
+ghost use Rattle.std.specs.Prelude.{◌≡◌, IfNone, IfSome, None, Option};
+ghost use Rattle.program.specs.Served.{History, IsHere, after_leaving, after_taking};
+
+use http_desk::session_end::Ended;
+use http_desk::streams::{Sink, Source};
+use std::io::{ErrorKind, Read, Write};
+use std::net::{Ipv4Addr, Shutdown, SocketAddr, SocketAddrV4, TcpListener, TcpStream};
+use std::time::Duration;
+
+/// A port that clients connect to, one after the other.
+pub trait Port {
+    /// What reads from a client.
+    type Reader: Read + Drop;
+
+    /// What writes to a client.
+    type Writer: Write + Drop;
+
+    /// What it can tell of its connections. Of those of a system nothing is known.
+    ghost history: { Self → Option History } = { λ _. None };
+
+    /// Takes the next connection, or none where that fails.
+    fn take(&mut self) -> Option<(Self::Reader, Self::Writer)>
+        ensures none { IfNone result (history self.new ≡ history self.old) }
+        ensures taken { IfSome result (λ it. history self.new
+            ≡ after_taking (history self.old) (Self.Reader.remaining it.0) (Self.Writer.contents it.1)) };
+
+    /// Leaves the connection, after a session over these.
+    fn leave<R: Read, W: Write>(
+        &mut self,
+        reader: &Source<'_, R>,
+        writer: &Sink<'_, W>,
+        ended: Ended,
+    )
+        ensures { history self.new ≡ after_leaving (history self.old) reader.now writer.now ended };
+
+    /// Nobody connects any more.
+    fn shut(&mut self)
+        ensures { history self.new ≡ history self.old };
+}
+
+/// How many seconds a read or a write waits for the client.
+const PATIENCE: u64 = 10;
+
+/// How many milliseconds a read waits, once the last answer is written.
+const LAST_PATIENCE: u64 = 50;
+
+/// How many such reads are made: 26 seconds at most, and 8 MiB where each takes 16 KiB.
+const LAST_READS: u32 = 512;
+
+/// How many of them may find nothing: two seconds.
+const LAST_SILENCES: u32 = 40;
+
+/// How many bytes such a read takes at most.
+const LAST_CHUNK: usize = 65_536;
+
+/// A port of this machine, which no other machine reaches, with the client that is served.
+#[derive(Drop)]
+pub struct LocalPort {
+    listener: Option<TcpListener>,
+    client: Option<TcpStream>,
+}
+
+// The address that a server listens on.
+fn here(port: u16) -> SocketAddr
+    ensures { IsHere port result }
+{
+    SocketAddr::V4(SocketAddrV4::new(Ipv4Addr::new(127, 0, 0, 1), port))
+}
+
+impl LocalPort {
+    /// Listens on the port of that number, where it can be had.
+    pub fn listen(rt: &HostRuntime, port: u16) -> Option<LocalPort> {
+        match TcpListener::bind(rt, here(port)) {
+            Ok(listener) => Some(LocalPort {
+                listener: Some(listener),
+                client: None,
+            }),
+            Err(_) => None,
+        }
+    }
+}
+
+impl Port for LocalPort {
+    type Reader = TcpStream;
+
+    type Writer = TcpStream;
+
+    fn take(&mut self) -> Option<(TcpStream, TcpStream)> {
+        let Some(listener) = &self.listener else {
+            return None;
+        };
+        let Ok((stream, _)) = listener.accept() else {
+            return None;
+        };
+        set_up(&stream);
+        let (Ok(reader), Ok(writer)) = (stream.try_clone(), stream.try_clone()) else {
+            return None;
+        };
+        self.client = Some(stream);
+        Some((reader, writer))
+    }
+
+    fn leave<R: Read, W: Write>(
+        &mut self,
+        _reader: &Source<'_, R>,
+        _writer: &Sink<'_, W>,
+        ended: Ended,
+    ) {
+        if let Some(stream) = &self.client
+            && ended == Ended::Closed
+        {
+            close(stream);
+        }
+        self.client = None;
+    }
+
+    fn shut(&mut self) {
+        self.listener = None;
+    }
+}
+
+// Has each write sent at once, and each read and write fail that waits too long. A system that refuses an option is
+// asked for the answers all the same.
+fn set_up(stream: &TcpStream) {
+    let patience = Some(Duration::from_secs(PATIENCE));
+    let _ = stream.set_nodelay(true);
+    let _ = stream.set_read_timeout(patience);
+    let _ = stream.set_write_timeout(patience);
+}
+
+// Ends what is written, and reads away what still comes, so that the last answer reaches its client: a system that
+// closes a connection with bytes unread resets it (RFC 9112, 9.6).
+fn close(stream: &TcpStream) {
+    let patience = Some(Duration::from_millis(LAST_PATIENCE));
+    if stream.shutdown(Shutdown::Write).is_err() || stream.set_read_timeout(patience).is_err() {
+        return;
+    }
+    let mut reader = stream;
+    let mut chunk = [0u8; LAST_CHUNK];
+    let mut silences = 0;
+    for _read in 0..LAST_READS {
+        match reader.read(&mut chunk) {
+            Ok(0) => return,
+            Ok(_) => {}
+            Err(error) if error.kind() == ErrorKind::WouldBlock && silences < LAST_SILENCES => {
+                silences += 1;
+            }
+            Err(_) => return,
+        }
+    }
+}
