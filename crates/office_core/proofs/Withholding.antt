@@ -2,7 +2,7 @@
 use Rattle.std.proofs.Common.{◌≡◌, ℕ, zero, suc, ◌≤◌, Bool, true, false, not, cond, List, [], ◌∷◌, ◌++◌, length, Option, Some, None, Ok, Err, refl, sym, ap, ◌∙◌, subst, inl, inr, ◌⊎◌, arith}
 use Rattle.std.specs.Prelude.{option_map, nat_lt}
 use Rattle.std.specs.List.{AllByRecursion}
-use Rattle.std.proofs.lemmas.Bool.{cases_lt, false≢true}
+use Rattle.std.proofs.lemmas.Bool.{cases_lt, false≢true, le-ltb}
 use Rattle.isad_core.specs.Limits.{most_deep}
 use Rattle.tree_core.specs.Forest.{has_place}
 use Rattle.desk_core.specs.Refusals.{Check, when, unless, first_that_holds}
@@ -10,7 +10,7 @@ use Rattle.desk_core.specs.declared.refusal.Refusal.{Refusal}
 use Rattle.desk_core.specs.declared.refusal.Refusal.TheVariants as refusal
 use Rattle.desk_core.specs.declared.refusal.Refusal.TheVariants.{WithReader}
 use Rattle.catalogue_core.specs.Finding.{has_unit}
-use Rattle.catalogue_core.specs.Intake.{Taken}
+use Rattle.catalogue_core.specs.Intake.{Intake, Taken, is_full}
 use Rattle.catalogue_core.specs.Moves.{is_into_itself, depth_after}
 use Rattle.catalogue_core.specs.Sources.{is_source}
 use Rattle.catalogue_core.specs.Units.{has_id}
@@ -22,7 +22,7 @@ use Rattle.office_core.specs.State.{Order, State, is_ticket, is_container, order
 use Rattle.office_core.specs.ImportReply.{bad_file, too_much}
 use Rattle.office_core.specs.Rules.{is_kept_from_holder, kept, gate, imported, taken, after, checks, told, decided, refusal as refusal_of}
 use Rattle.office_core.specs.SoundDesk.{IsSoundDesk}
-use Rattle.office_core.specs.Withholding.{WouldBeWithheld, IsLowestWithheld, may_withhold, AsksForReaders, AsksForNone}
+use Rattle.office_core.specs.Withholding.{WouldBeWithheld, IsLowestWithheld, may_withhold, AsksForReaders, AsksForNone, MayBeDone, AsksForReadersAlone}
 use Rattle.office_core.proofs.Counts.{none_to, none_that, numbered_from_one}
 use Rattle.office_core.proofs.Extends.{imported_extends}
 use Rattle.office_core.proofs.Places.{out_known, places_after}
@@ -293,6 +293,132 @@ asks_for_readers s asked g m =
       accepted = λ done e c w.
           let r = accepted_so (refusal_of s asked) s (after s asked) (told s asked) done e in
           nothing_withheld s asked m g r c (subst (λ t. WouldBeWithheld s t c) (after_accepted (refusal_of s asked) s (after s asked) (told s asked) r) w);
+    }
+
+-- ---- where nothing else refuses it
+
+abbrev Passes : Check → Type 0
+Passes check = check ≡ None
+
+unless_passes : (b : Bool) (why : Refusal) → b ≡ true → Passes (unless b why)
+unless_passes true why h = refl
+unless_passes false why h = absurd (false≢true h)
+
+when_passes : (b : Bool) (why : Refusal) → b ≡ false → Passes (when b why)
+when_passes true why h = absurd (false≢true (sym h))
+when_passes false why h = refl
+
+bad_file_passes : (r : Taken) (intake : Intake) → r ≡ Ok intake → Passes (bad_file r)
+bad_file_passes r intake e = ap bad_file e
+
+too_much_passes : (r : Taken) (intake : Intake) → r ≡ Ok intake → is_full intake.catalogue ≡ false → Passes (too_much r)
+too_much_passes r intake e room = ap too_much e ∙ when_passes (is_full intake.catalogue) refusal.Full room
+
+to_last : (cs : List Check) (g : Check) → AllByRecursion Passes cs → first_that_holds (cs ++ g ∷ []) ≡ g
+to_last [] None h = refl
+to_last [] (Some why) h = refl
+to_last (None ∷ cs) g h = to_last cs g h.1
+to_last (Some why ∷ cs) g h = absurd (let e : Some why ≡ None = h.0 in cc)
+
+-- what may be done is asked the gate alone
+gate_alone : (s : State) (asked : Command) → MayBeDone s asked → refusal_of s asked ≡ gate (after s asked)
+gate_alone s (command.Import source file) h =
+    to_last (unless (is_source source) refusal.BadName ∷ bad_file (taken s source file) ∷ too_much (taken s source file) ∷ []) (gate (after s (command.Import source file)))
+    (unless_passes (is_source source) refusal.BadName h.name, (bad_file_passes (taken s source file) h.intake h.read, (too_much_passes (taken s source file) h.intake h.read h.room, tt)))
+gate_alone s (command.SetStatus u draft whole) h =
+    to_last (unless (has_unit s.catalogue.forest u) refusal.UnknownUnit ∷ []) (gate (after s (command.SetStatus u draft whole)))
+    (unless_passes (has_unit s.catalogue.forest u) refusal.UnknownUnit h, tt)
+gate_alone s (command.SetClosure u until) h =
+    to_last (unless (has_unit s.catalogue.forest u) refusal.UnknownUnit ∷ []) (gate (after s (command.SetClosure u until)))
+    (unless_passes (has_unit s.catalogue.forest u) refusal.UnknownUnit h, tt)
+gate_alone s (command.Move u parent) h =
+    let place : Bool = has_place has_id parent s.catalogue.forest in
+    let inside : Bool = is_into_itself u parent s.catalogue.forest in
+    let deep : Bool = nat_lt most_deep (depth_after u parent s.catalogue.forest) in
+    to_last (unless (has_unit s.catalogue.forest u) refusal.UnknownUnit ∷ unless place refusal.UnknownUnit ∷ when inside refusal.IntoItself ∷ when deep refusal.TooDeep ∷ []) (gate (after s (command.Move u parent)))
+    (unless_passes (has_unit s.catalogue.forest u) refusal.UnknownUnit h.unit, (unless_passes place refusal.UnknownUnit h.place, (when_passes inside refusal.IntoItself h.apart, (when_passes deep refusal.TooDeep (le-ltb most_deep (depth_after u parent s.catalogue.forest) h.depth), tt))))
+gate_alone s (command.Remove u) h =
+    to_last (unless (has_unit s.catalogue.forest u) refusal.UnknownUnit ∷ []) (gate (after s (command.Remove u)))
+    (unless_passes (has_unit s.catalogue.forest u) refusal.UnknownUnit h, tt)
+gate_alone s (command.Revoke t u) h =
+    to_last (unless (is_ticket s t) refusal.UnknownTicket ∷ unless (has_unit s.catalogue.forest u) refusal.UnknownUnit ∷ unless (has_permit s t u) refusal.NoPermit ∷ []) (gate (after s (command.Revoke t u)))
+    (unless_passes (is_ticket s t) refusal.UnknownTicket h.ticket, (unless_passes (has_unit s.catalogue.forest u) refusal.UnknownUnit h.unit, (unless_passes (has_permit s t u) refusal.NoPermit h.permit, tt)))
+gate_alone s (command.OpenDay day) h = absurd h
+gate_alone s (command.Register name until) h = absurd h
+gate_alone s (command.Renew t until) h = absurd h
+gate_alone s (command.TakeSeat t) h = absurd h
+gate_alone s (command.LeaveSeat t) h = absurd h
+gate_alone s (command.Order t k) h = absurd h
+gate_alone s (command.Cancel o) h = absurd h
+gate_alone s command.Run h = absurd h
+gate_alone s command.Reshelve h = absurd h
+gate_alone s (command.Issue k t) h = absurd h
+gate_alone s (command.Return k) h = absurd h
+gate_alone s (command.Permit t u until) h = absurd h
+
+may_withhold_so : (s : State) (asked : Command) → MayBeDone s asked → may_withhold asked ≡ true
+may_withhold_so s (command.Import source file) h = refl
+may_withhold_so s (command.SetStatus u draft whole) h = refl
+may_withhold_so s (command.SetClosure u until) h = refl
+may_withhold_so s (command.Move u parent) h = refl
+may_withhold_so s (command.Remove u) h = refl
+may_withhold_so s (command.Revoke t u) h = refl
+may_withhold_so s (command.OpenDay day) h = absurd h
+may_withhold_so s (command.Register name until) h = absurd h
+may_withhold_so s (command.Renew t until) h = absurd h
+may_withhold_so s (command.TakeSeat t) h = absurd h
+may_withhold_so s (command.LeaveSeat t) h = absurd h
+may_withhold_so s (command.Order t k) h = absurd h
+may_withhold_so s (command.Cancel o) h = absurd h
+may_withhold_so s command.Run h = absurd h
+may_withhold_so s command.Reshelve h = absurd h
+may_withhold_so s (command.Issue k t) h = absurd h
+may_withhold_so s (command.Return k) h = absurd h
+may_withhold_so s (command.Permit t u until) h = absurd h
+
+module _ (s : State) (asked : Command) (sound : IsSoundDesk s) (m : may_withhold asked ≡ true) where
+  kept_lowest : (c : ℕ) → kept (after s asked) ≡ Some c → IsLowestWithheld s (after s asked) c
+  kept_lowest = lowest_would s (after s asked) (same_place s asked m) (same_orders s asked m) (still_known s asked m sound) sound
+
+  -- what would be withheld is kept by the gate, if nothing lower is
+  is_kept : (c : ℕ) → WouldBeWithheld s (after s asked) c → kept (after s asked) ≡ None → ⊥
+  is_kept c w e =
+      let known = still_known s asked m sound c (out_known s c w.number sound.filed sound.orders w.out) in
+      let boxes = (after s asked).catalogue.containers in
+      let none = none_to (is_kept_from_holder (after s asked)) (length boxes) c (none_that (is_kept_from_holder (after s asked)) (numbers_to (length boxes)) e)
+      (numbered_from_one boxes c known) (numbered_within boxes c known) in
+      false≢true (sym none ∙ would_kept s (after s asked) (same_place s asked m) (same_orders s asked m) c w)
+
+  lowest_kept : (c : ℕ) → IsLowestWithheld s (after s asked) c → kept (after s asked) ≡ Some c
+  lowest_kept c low = at (kept (after s asked)) refl
+    where
+      at : (r : Option ℕ) → kept (after s asked) ≡ r → r ≡ Some c
+      at None e = absurd (is_kept c low.withheld e)
+      at (Some d) e =
+          let it = kept_lowest d e in
+          let up = it.lowest c low.withheld in
+          let down = low.lowest d it.withheld in
+          let same : d ≡ c = omega (arith, up, down) in
+          ap Some same
+
+  none_kept : ((c : ℕ) → WouldBeWithheld s (after s asked) c → ⊥) → kept (after s asked) ≡ None
+  none_kept none = at (kept (after s asked)) refl
+    where
+      at : (r : Option ℕ) → kept (after s asked) ≡ r → r ≡ None
+      at None e = refl
+      at (Some d) e = absurd (none d (kept_lowest d e).withheld)
+
+decided_by : (r q : Option Refusal) (s t : State) (d : Done) → r ≡ q → decided r s t d ≡ decided q s t d
+decided_by r q s t d e = ap (λ x. decided x s t d) e
+
+pub asks_for_readers_alone : (s : State) (asked : Command) → IsSoundDesk s → MayBeDone s asked → AsksForReadersAlone s asked
+asks_for_readers_alone s asked g h =
+    let m = may_withhold_so s asked h in
+    record {
+      refused = λ c low. decided_by (refusal_of s asked) (Some (WithReader c)) s (after s asked) (told s asked)
+          (gate_alone s asked h ∙ ap (option_map WithReader) (lowest_kept s asked g m c low));
+      done = λ none. decided_by (refusal_of s asked) None s (after s asked) (told s asked)
+          (gate_alone s asked h ∙ ap (option_map WithReader) (none_kept s asked g m none));
     }
 
 other_refusals : (s : State) (asked : Command) (c : ℕ) → may_withhold asked ≡ false → refusal_of s asked ≡ Some (WithReader c) → ⊥

@@ -1,12 +1,20 @@
 -- What a change would withhold from the readers who have it.
-use Rattle.std.specs.Prelude.{◌≡◌, ℕ, ◌≤◌, Bool, true, false, Some, Ok, Err}
+use Rattle.std.specs.Prelude.{◌≡◌, ℕ, ◌≤◌, Bool, true, false, Option, Some, Ok, Err}
+use Rattle.isad_core.specs.Limits.{most_deep}
+use Rattle.isad_core.specs.Texts.{Bytes}
+use Rattle.tree_core.specs.Forest.{has_place}
+use Rattle.catalogue_core.specs.Finding.{has_unit}
+use Rattle.catalogue_core.specs.Intake.{Intake, is_full}
+use Rattle.catalogue_core.specs.Moves.{is_into_itself, depth_after}
+use Rattle.catalogue_core.specs.Sources.{is_source}
+use Rattle.catalogue_core.specs.Units.{has_id}
 use Rattle.desk_core.specs.declared.refusal.Refusal.TheVariants.{WithReader}
 use Rattle.office_core.specs.declared.command.Command.{Command}
 use Rattle.office_core.specs.declared.command.Command.TheVariants as command
 use Rattle.office_core.specs.declared.done.Done.{Done}
 use Rattle.office_core.specs.Words.{numbered}
-use Rattle.office_core.specs.State.{Order, State, order_out, opens}
-use Rattle.office_core.specs.Rules.{after, step}
+use Rattle.office_core.specs.State.{Order, State, is_ticket, order_out, opens, has_permit}
+use Rattle.office_core.specs.Rules.{after, taken, told, step}
 
 -- The container is out with an order, and what comes after does not open it to the reader whose order that is.
 pub record WouldBeWithheld (s after : State) (c : ℕ) : Type 0 where
@@ -40,3 +48,40 @@ pub record AsksForReaders (s : State) (asked : Command) : Type 0 where
 -- every other command is refused for other reasons alone
 abbrev pub AsksForNone : State → Command → Type 0
 AsksForNone s asked = (c : ℕ) → (step s asked).1 ≡ Err (WithReader c) → ⊥
+
+-- ---- what else such a command asks for
+
+-- The source has a name, the file can be read, and there is room for what it brings.
+pub record MayImport (s : State) (source file : Bytes) : Type 0 where
+  pub name : is_source source ≡ true
+  pub intake : Intake
+  pub read : taken s source file ≡ Ok intake
+  pub room : is_full intake.catalogue ≡ false
+
+-- Unit and parent are there, the parent stands outside the unit's branch, and the branch does not come too deep.
+pub record MayMove (s : State) (u : ℕ) (parent : Option ℕ) : Type 0 where
+  pub unit : has_unit s.catalogue.forest u ≡ true
+  pub place : has_place has_id parent s.catalogue.forest ≡ true
+  pub apart : is_into_itself u parent s.catalogue.forest ≡ false
+  pub depth : depth_after u parent s.catalogue.forest ≤ most_deep
+
+-- Ticket and unit are there, and the ticket has a permit for the unit.
+pub record MayRevoke (s : State) (t u : ℕ) : Type 0 where
+  pub ticket : is_ticket s t ≡ true
+  pub unit : has_unit s.catalogue.forest u ≡ true
+  pub permit : has_permit s t u ≡ true
+
+-- what a command of these asks for besides; the others are none of these
+abbrev pub MayBeDone : State → Command → Type 0
+MayBeDone s (command.Import source file) = MayImport s source file
+MayBeDone s (command.SetStatus u draft whole) = has_unit s.catalogue.forest u ≡ true
+MayBeDone s (command.SetClosure u until) = has_unit s.catalogue.forest u ≡ true
+MayBeDone s (command.Move u parent) = MayMove s u parent
+MayBeDone s (command.Remove u) = has_unit s.catalogue.forest u ≡ true
+MayBeDone s (command.Revoke t u) = MayRevoke s t u
+MayBeDone s _ = ⊥
+
+-- Such a command is then refused for a reader exactly where it would withhold what is out, and done otherwise.
+pub record AsksForReadersAlone (s : State) (asked : Command) : Type 0 where
+  pub refused : (c : ℕ) → IsLowestWithheld s (after s asked) c → step s asked ≡ (s, Err (WithReader c))
+  pub done : ((c : ℕ) → WouldBeWithheld s (after s asked) c → ⊥) → step s asked ≡ (after s asked, Ok (told s asked))

@@ -6,14 +6,17 @@ ghost use Rattle.office_core.specs.declared.command.Command.{Command};
 ghost use Rattle.office_core.specs.State.{State};
 ghost use Rattle.office_core.specs.SoundDesk.{IsSoundDesk};
 ghost use Rattle.office_core.specs.Withholding.{may_withhold, AsksForReaders, AsksForNone};
+ghost use Rattle.office_core.specs.Withholding.{MayBeDone, AsksForReadersAlone};
 ghost use Rattle.office_core.specs.Remarking.{RemarksOnRows};
 ghost use Rattle.office_core.specs.Fullness.{HasItsLimits, HasItsSettings, IsFullExactly, RefusesWhereFull};
 ghost use Rattle.office_core.specs.InPublic.{ShowsThePublic};
 
 /// A command that changes the catalogue, or takes a permit away, is refused for a reader (21) exactly where it would withhold
-/// what is out, if its other checks pass; and with the lowest such container. Other commands are never refused so.
+/// what is out, if all that it names is there and it can be done; and with the lowest such container. If it would withhold
+/// nothing it is done. Other commands are never refused so.
 pub fn readers_keep_what_they_have()
     ensures gated { (s : State) (asked : Command) → IsSoundDesk s → may_withhold asked ≡ true → AsksForReaders s asked }
+    ensures alone { (s : State) (asked : Command) → IsSoundDesk s → MayBeDone s asked → AsksForReadersAlone s asked }
     ensures others { (s : State) (asked : Command) → may_withhold asked ≡ false → AsksForNone s asked }
 {}
 

@@ -9,8 +9,7 @@ use Rattle.atom_csv.specs.Columns.{columns}
 use Rattle.atom_csv.specs.Values.{described}
 use Rattle.catalogue_core.specs.Housing.{is_open}
 use Rattle.catalogue_core.specs.Intake.{take}
-use Rattle.office_core.specs.WorkedReplies.{Depths, NamesOfReaders, AtTheCounter, QueueOfTwo, GateAndDay, RunOfTwoAndOne, OrdersOfADay, Seats, ExpiryAndRenewal, HandsAndReshelving, LeastOrders, LockGates, Permits, PermitsAndDrafts, ImportAgain, FaultyFiles, Remarks, Moves, Unknown, ExpiredAtTheDesk, ClosureEnds, SeatsOvernight, LowestContainer, HeadCancelled, TwoAtOnce, WithReaderAgain, PermitsAbove, MostPermits, Placed}
-use Rattle.office_core.proofs.worked_rows.WorkedSound.{hundred_sound}
+use Rattle.office_core.specs.WorkedReplies.{Depths, NamesOfReaders, AtTheCounter, QueueOfTwo, GateAndDay, RunOfTwoAndOne, OrdersOfADay, Seats, ExpiryAndRenewal, HandsAndReshelving, LeastOrders, LockGates, Permits, PermitsAndDrafts, ImportAgain, FaultyFiles, Remarks, Moves, Unknown, ExpiredAtTheDesk, ClosureEnds, SeatsOvernight, LowestContainer, HeadCancelled, TwoAtOnce, WithReaderAgain, PermitsAbove, Placed}
 
 pub queue_of_two : QueueOfTwo
 unfolding is_open take is_utf8 chars encode records_from strip_bom next_record columns described
@@ -119,10 +118,6 @@ at_the_counter = refl
 pub depths : Depths
 unfolding is_open take is_utf8 chars encode records_from strip_bom next_record columns described digits
 depths = refl
-
-pub most_permits : MostPermits
-unfolding is_open
-most_permits = record { office_sound = hundred_sound; told = refl }
 
 pub placed : Placed
 unfolding is_open take is_utf8 chars encode records_from strip_bom next_record columns described

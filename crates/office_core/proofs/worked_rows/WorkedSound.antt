@@ -1,4 +1,4 @@
--- The office of the row on permits is sound.
+-- The row on permits, and that its office is sound.
 use Rattle.std.proofs.Common.{◌≡◌, ℕ, zero, suc, ◌+◌, ◌<◌, ◌≤◌, Bool, true, false, not, ◌&&◌, List, [], ◌∷◌, length, map, Some, refl, sym, ap, subst, inl, inr, arith}
 use Rattle.std.specs.Prelude.{nat_eq, nat_lt, codes, decimal}
 use Rattle.std.specs.Fmt.{digits}
@@ -15,12 +15,14 @@ use Rattle.catalogue_core.specs.Units.{Unit}
 use Rattle.office_core.specs.Words.{numbered}
 use Rattle.office_core.specs.State.{Reader, Permit, is_ticket}
 use Rattle.catalogue_core.specs.Finding.{has_unit}
+use Rattle.catalogue_core.specs.Housing.{is_open}
 use Rattle.catalogue_core.specs.Moves.{height}
 use Rattle.office_core.specs.Rules.{is_name}
 use Rattle.isad_core.specs.Limits.{most_permits}
 use Rattle.office_core.specs.SoundDesk.{ByUnit, IsSoundDesk}
 use Rattle.catalogue_core.specs.GoodCatalogues.{IsSomeDay, IsGoodUnit, is_same_unit, AreGoodUnits}
 use Rattle.office_core.specs.Soundness.{IsSound}
+use Rattle.office_core.specs.WorkedReplies.{MostPermits}
 use Rattle.office_core.specs.Worked.{office, march_1, march_31, year_end, titled, units_from, permits_from, hundred_permits}
 use Rattle.office_core.proofs.Words.{put_each}
 use Rattle.office_core.proofs.SoundDesk.{desk_start, no_value}
@@ -183,3 +185,7 @@ hundred_sound =
       permits = each_ticket (λ t ps. AllByRecursion (λ permit. has_unit hundred_permits.catalogue.forest permit.unit ≡ true) ps) (all_permits (λ permit. has_unit hundred_permits.catalogue.forest permit.unit ≡ true) 1 100 (λ k l h. is_there 1 101 k l (omega arith))) (λ t. tt);
       desk = hundred_desk;
     }
+
+pub permits_to_the_limit : MostPermits
+unfolding is_open
+permits_to_the_limit = record { office_sound = hundred_sound; told = refl }

@@ -84,6 +84,3 @@ returns-clause-at_the_counter c = row.at_the_counter
 
 pub returns-clause-depths : goal.returns-clause-depths
 returns-clause-depths c = row.depths
-
-pub returns-clause-most_permits : goal.returns-clause-most_permits
-returns-clause-most_permits c = row.most_permits
