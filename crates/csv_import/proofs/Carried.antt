@@ -1,5 +1,5 @@
 -- Carrying out an import: the rows are entered, and then the outcome is judged.
-use Rattle.std.proofs.Common.{◌≡◌, ℕ, ℤ, Bool, true, false, cond, [], ◌∷◌, length, Option, Some, None, Result, Ok, Err, OnOk, refl, sym, ap, subst, ◌∙◌}
+use Rattle.std.proofs.Common.{◌≡◌, ℕ, ℤ, Bool, true, false, cond, ◌≤◌, List, [], ◌∷◌, length, map, Option, Some, None, Result, Ok, Err, OnOk, refl, sym, ap, subst, ◌∙◌}
 use Rattle.std.specs.Prelude.{⊤, IfOk, IsOk, nat_lt}
 use Rattle.sqlite.specs.Effect.{Database}
 use Rattle.sqlite.specs.Held.{Held, state}
@@ -11,6 +11,7 @@ use Rattle.isad_core.specs.Limits.{most_containers}
 use Rattle.isad_core.specs.Texts.{Bytes}
 use Rattle.atom_csv.specs.FileOf.{file_of}
 use Rattle.atom_csv.specs.declared.file.File.{File}
+use Rattle.atom_csv.specs.declared.file.Row.{Row}
 use Rattle.tree_core.specs.Forest.{Forest}
 use Rattle.tree_core.specs.Versions.{Version}
 use Rattle.desk_core.specs.Refusals.{first_that_holds, when}
@@ -18,6 +19,7 @@ use Rattle.desk_core.specs.declared.refusal.Refusal.{Refusal}
 use Rattle.desk_core.specs.declared.refusal.Refusal.TheVariants.{Full}
 use Rattle.desk_store.specs.Represents.{RepresentsDesk}
 use Rattle.catalogue_core.specs.Merging.{Catalogue}
+use Rattle.catalogue_core.specs.RowByRow.{number_there}
 use Rattle.catalogue_core.specs.Sources.{is_source}
 use Rattle.catalogue_statements.specs.Settings.{AreLegibleSettings}
 use Rattle.catalogue_statements.specs.Represents.{RepresentsNumbered, catalogue_trees}
@@ -42,12 +44,21 @@ use Rattle.refinement.proofs.Doings.{accepted, refused}
 use Rattle.refinement.proofs.Frames.{desk_kept}
 use Rattle.refinement.proofs.Tellings.{looked_crash}
 use Rattle.csv_import.specs.Entering.{CanEnter, RepresentsLegible, counts_of, entered}
-use Rattle.csv_import.specs.Importing.{FitsIn, HasImported, judged, told_of}
+use Rattle.csv_import.specs.Importing.{FitsIn, HasNumbered, judged, told_of}
+use Rattle.csv_import.specs.Known.{TellsUnits}
+use Rattle.csv_import.specs.Remarking.{HaveUnits}
 use Rattle.csv_import.specs.declared.row_entry.Counts.{Counts}
 use Rattle.csv_import.proofs.Imports.{after_is, can_enter, entered_is, has_imported, now, refusal_is, same_desk, texts_stay, told_is}
 
 pub settings_shown : (s : State) → HasLegibleSettings s → AreLegibleSettings (office_of s)
 settings_shown s it = record { country = it.country; repo = it.repo; seats = it.seats; daily = it.daily; hands = it.hands; run_size = it.run_size; day = it.day }
+
+-- the rows' units are there, once they are entered; the same rows and units may be told otherwise
+pub have_units : (source : Bytes) (file : File) (units : List ℕ) (s : State) → length s.catalogue.containers ≤ most_containers → HasNumbered source file units s
+    → (rows : List Row) → rows ≡ file.rows → (told : List ℕ) → told ≡ units → HaveUnits source rows told s.catalogue
+have_units source file units s within has rows same told alike =
+    subst (λ us. HaveUnits source rows us s.catalogue) (sym alike)
+    (subst (λ rs. HaveUnits source rs units s.catalogue) (sym same) (record { entered = has.imported.entered within; numbered = has.numbered }))
 
 -- the tables can be read as those of a catalogue that takes rows
 pub shown_legible : (places : Trees → Forest ℕ → Type 0) (version : Version) (db : Database) (s : State) → IsSoundOffice s → RepresentsState places version db s → RepresentsLegible places version db (office_of s) s.catalogue
@@ -82,7 +93,7 @@ if_ok_with : {X E : Type 0} (r : Result X E) (L : Type 0) (P Q : X → Type 0) �
 if_ok_with (Ok x) L P Q f l h = f x l h
 if_ok_with (Err e) L P Q f l h = tt
 
-module _ {S : Type 0} (g : kept_in.Ghosts S) (places : Trees → Forest ℕ → Type 0) (version : Version) (today : ℤ) (source bytes : Bytes) (file : File) (read : file_of bytes ≡ Ok file) (before : store.State) (mid after_it : Held S) (r : Result Reply StoreFault) (counts : Counts) where
+module _ {S : Type 0} (g : kept_in.Ghosts S) (places : Trees → Forest ℕ → Type 0) (version : Version) (today : ℤ) (source bytes : Bytes) (file : File) (read : file_of bytes ≡ Ok file) (numbers : Bytes → Option ℕ) (before : store.State) (mid after_it : Held S) (r : Result Reply StoreFault) (counts : Counts) (units : List ℕ) where
   abbrev b : store.State
   b = state g mid
 
@@ -90,29 +101,40 @@ module _ {S : Type 0} (g : kept_in.Ghosts S) (places : Trees → Forest ℕ → 
   c = state g after_it
 
   abbrev Known : State → Type 0
-  Known s = (today ≡ s.day) × (is_source source ≡ true) × FitsIn source file s
+  Known s = (today ≡ s.day) × (is_source source ≡ true) × FitsIn source file s × TellsUnits s.catalogue source file.rows numbers
 
   -- what entering the rows did
   pub record HasEnteredAll : Type 0 where
-    pub represents : HasCleanDisk b → (o : OfficeRow) (k : Catalogue) → RepresentsLegible places version before.now o k → CanEnter source file.rows k → RepresentsLegible places version b.now o (entered source file.rows k)
+    pub represents : HasCleanDisk b → (o : OfficeRow) (k : Catalogue) → RepresentsLegible places version before.now o k → CanEnter source file.rows k → TellsUnits k source file.rows numbers → RepresentsLegible places version b.now o (entered source file.rows k)
     pub only : HasCleanDisk b → OnlyTouches catalogue_trees before.now b.now
     pub goes : Goes before b
-    pub counted : HasCleanDisk b → (o : OfficeRow) (k : Catalogue) → RepresentsLegible places version before.now o k → CanEnter source file.rows k → counts ≡ counts_of k.forest source file.rows
+    pub counted : HasCleanDisk b → (o : OfficeRow) (k : Catalogue) → RepresentsLegible places version before.now o k → CanEnter source file.rows k → TellsUnits k source file.rows numbers → counts ≡ counts_of k.forest source file.rows
+    pub units_are : HasCleanDisk b → (o : OfficeRow) (k : Catalogue) → RepresentsLegible places version before.now o k → CanEnter source file.rows k → TellsUnits k source file.rows numbers
+        → map Some units ≡ map (λ (row : Row). number_there (entered source file.rows k) source row.legacy) file.rows
 
   module _ (come : HasEnteredAll) where
     shown_now : HasCleanDisk b → (s : State) → (sound : IsSoundOffice s) → (so : Known s) → RepresentsState places version before.now s → RepresentsState places version b.now (now s source bytes file read sound so.1 so.2)
     shown_now clean s sound so it =
         let named = so.1 in
         let fits = so.2 in
-        let shown = come.represents clean (office_of s) s.catalogue (shown_legible places version before.now s sound it) (can_enter s source bytes file read sound named fits) in
+        let shown = come.represents clean (office_of s) s.catalogue (shown_legible places version before.now s sound it) (can_enter s source bytes file read sound named fits) so.3 in
         record {
           catalogue = subst (λ (k : Catalogue). RepresentsNumbered places version b.now (office_of s) k) (entered_is s source bytes file read sound named fits) shown.tables;
           desk = subst (RepresentsDesk b.now.trees) (sym (same_desk s source bytes file read sound named fits version)) (desk_kept before.now b.now catalogue_trees (come.only clean) (tables version s).desk refl it.desk);
           texts = texts_stay s source bytes file read sound named fits;
         }
 
-    pub imports : Answers g (RepresentsWhole places version) (HasImported source file) mid after_it r (λ _. ⊤) (λ _ s reply. HasImported source file s → today ≡ s.day → reply ≡ judged s (told_of source file counts s))
-        → CarriesOut places version (λ s. (today ≡ s.day) × (is_source source ≡ true) × FitsIn source file s) (command.Import source bytes) before c r
+    -- the outcome, and the units of the rows
+    has_numbered : HasCleanDisk b → (s : State) → (sound : IsSoundOffice s) → (so : Known s) → RepresentsState places version before.now s → HasNumbered source file units (now s source bytes file read sound so.1 so.2)
+    has_numbered clean s sound so it = record {
+      imported = has_imported s source bytes file read sound so.1 so.2;
+      numbered =
+          come.units_are clean (office_of s) s.catalogue (shown_legible places version before.now s sound it) (can_enter s source bytes file read sound so.1 so.2) so.3
+          ∙ ap (λ (k : Catalogue). map (λ (row : Row). number_there k source row.legacy) file.rows) (entered_is s source bytes file read sound so.1 so.2);
+    }
+
+    pub imports : Answers g (RepresentsWhole places version) (HasNumbered source file units) mid after_it r (λ _. ⊤) (λ _ s reply. HasNumbered source file units s → today ≡ s.day → reply ≡ judged s (told_of source file counts s))
+        → CarriesOut places version (λ s. (today ≡ s.day) × (is_source source ≡ true) × FitsIn source file s × TellsUnits s.catalogue source file.rows numbers) (command.Import source bytes) before c r
     imports tells =
         let asked = command.Import source bytes in
         let still = λ (clean : HasCleanDisk c). early b c _ (looked_crash r b c tells.looks tells.cut) clean in
@@ -123,9 +145,9 @@ module _ {S : Type 0} (g : kept_in.Ghosts S) (places : Trees → Forest ℕ → 
               let at_b = still clean in
               let t = now s source bytes file read sound named fits in
               let shown = shown_now at_b s sound so it in
-              let has = has_imported s source bytes file read sound named fits in
-              let counts_are = come.counted at_b (office_of s) s.catalogue (shown_legible places version before.now s sound it) (can_enter s source bytes file read sound named fits) in
-              if_ok_with r (LeavesUnchanged b c) (λ reply. HasImported source file t → today ≡ t.day → reply ≡ judged t (told_of source file counts t)) (λ reply. CarriesOutStep places version s asked reply c.now)
+              let has = has_numbered at_b s sound so it in
+              let counts_are = come.counted at_b (office_of s) s.catalogue (shown_legible places version before.now s sound it) (can_enter s source bytes file read sound named fits) so.3 in
+              if_ok_with r (LeavesUnchanged b c) (λ reply. HasNumbered source file units t → today ≡ t.day → reply ≡ judged t (told_of source file counts t)) (λ reply. CarriesOutStep places version s asked reply c.now)
               (λ reply looked is.
               judged_step places version s t asked c.now (after_is s source bytes file read sound named fits) (refusal_is s source bytes file read sound named fits) reply
               (is has so.0 ∙ ap (judged t) (ap (λ (n : Counts). told_of source file n t) counts_are ∙ sym (told_is s source bytes file read sound named fits)))
@@ -135,5 +157,5 @@ module _ {S : Type 0} (g : kept_in.Ghosts S) (places : Trees → Forest ℕ → 
           cut = on_err_then r (IsAborted b c) (IsAborted before c) (λ cut. cut_then before b c come.goes.on cut) tells.cut;
           faults = λ s sound so it.
               excused_then before b c come.goes.on r tells.cut
-              (λ at_b. tells.faults tt (now s source bytes file read sound so.1 so.2) (shown_now at_b s sound so it) tt (has_imported s source bytes file read sound so.1 so.2));
+              (λ at_b. tells.faults tt (now s source bytes file read sound so.1 so.2) (shown_now at_b s sound so it) tt (has_numbered at_b s sound so it));
         }

@@ -16,3 +16,5 @@ pub mod Frames
 pub mod Arrived
 pub mod ComeToStand
 pub mod RightAbove
+pub mod KnownUnits
+pub mod EnteredNumbers

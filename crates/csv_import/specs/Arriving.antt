@@ -6,6 +6,7 @@ use Rattle.tree_core.specs.Forest.{Forest}
 use Rattle.tree_core.specs.declared.arrivals.Arrival.{Arrival}
 use Rattle.catalogue_core.specs.Merging.{Catalogue, New, is_known, number_of, numbered_from}
 use Rattle.catalogue_core.specs.Units.{Unit}
+use Rattle.csv_import.specs.Known.{TellsUnits}
 use Rattle.csv_import.specs.Planning.{new_of, or_there}
 use Rattle.csv_import.specs.Turns.{AreToCome}
 
@@ -33,7 +34,8 @@ abbrev pub KnowsNumbers : Forest Unit → Bytes → ℕ → List Row → (Bytes 
 KnowsNumbers f source n above numbers =
     (legacy : Bytes) → number_of f source n above legacy ≡ or_there (numbers legacy) (number_of f source n [] legacy)
 
--- the rows are to come, and these are the units that they bring
-pub record BringUnits (source : Bytes) (rows : List Row) (next : ℕ) (arrivals : List Arrival) (c : Catalogue) : Type 0 where
+-- the rows are to come, and these are the units that they bring, beside those that are catalogued
+pub record BringUnits (source : Bytes) (rows : List Row) (numbers : Bytes → Option ℕ) (next : ℕ) (arrivals : List Arrival) (c : Catalogue) : Type 0 where
   pub come : AreToCome source rows next c
+  pub known : TellsUnits c source rows numbers
   pub units : arrivals ≡ arrivals_of c.forest source next rows

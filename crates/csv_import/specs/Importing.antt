@@ -1,11 +1,12 @@
 -- A file that is imported into an office.
-use Rattle.std.specs.Prelude.{◌≡◌, ℕ, ◌+◌, ◌≤◌, Bool, true, nat_le, nat_lt, ◌&&◌, if◌then◌else◌, [], length, Err}
+use Rattle.std.specs.Prelude.{◌≡◌, ℕ, ◌+◌, ◌≤◌, Bool, true, nat_le, nat_lt, ◌&&◌, if◌then◌else◌, List, [], length, map, Some, Err}
 use Rattle.isad_core.specs.Limits.{most_containers, most_unit_numbers, most_units}
 use Rattle.isad_core.specs.Texts.{Bytes}
 use Rattle.atom_csv.specs.declared.file.File.{File}
 use Rattle.tree_core.specs.Forest.{size}
 use Rattle.desk_core.specs.declared.refusal.Refusal.TheVariants.{Full}
 use Rattle.catalogue_core.specs.Merging.{Catalogue, faults_below}
+use Rattle.catalogue_core.specs.RowByRow.{number_there}
 use Rattle.office_core.specs.ImportReply.{remarks}
 use Rattle.office_core.specs.Rules.{Reply}
 use Rattle.office_core.specs.SoundOffice.{HasLegibleSettings}
@@ -46,3 +47,8 @@ pub record HasImported (source : Bytes) (file : File) (s : State) : Type 0 where
   pub settings : HasLegibleSettings s
   pub judged : length s.catalogue.containers ≤ most_containers → CanBeJudged s
   pub entered : length s.catalogue.containers ≤ most_containers → HasEntered source file.rows s.catalogue
+
+-- the same, and these are the units of the file's rows
+pub record HasNumbered (source : Bytes) (file : File) (units : List ℕ) (s : State) : Type 0 where
+  pub imported : HasImported source file s
+  pub numbered : map Some units ≡ map (λ row. number_there s.catalogue source row.legacy) file.rows

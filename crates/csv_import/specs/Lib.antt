@@ -1,4 +1,5 @@
 pub mod Entering
+pub mod Known
 pub mod Turns
 pub mod Arriving
 pub mod Planning

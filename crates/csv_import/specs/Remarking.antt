@@ -1,14 +1,17 @@
 -- What has to hold of a catalogue so that remarks on the rows of a file can be told of it.
-use Rattle.std.specs.Prelude.{◌≡◌, ℕ, List, Option, Some, map, option_map}
+use Rattle.std.specs.Prelude.{◌≡◌, ℕ, List, Option, Some, IfSome, find, map, option_map}
 use Rattle.std.specs.List.{AllByRecursion}
+use Rattle.isad_core.specs.Levels.{rank_of}
 use Rattle.isad_core.specs.Texts.{Bytes}
 use Rattle.atom_csv.specs.declared.file.Row.{Row}
-use Rattle.tree_core.specs.Forest.{Forest}
+use Rattle.tree_core.specs.Forest.{Forest, nodes}
 use Rattle.tree_core.specs.Tops.{right_above}
 use Rattle.catalogue_core.specs.GoodCatalogues.{AreGoodUnits}
 use Rattle.catalogue_core.specs.Intake.{unit_of}
 use Rattle.catalogue_core.specs.Merging.{Catalogue}
-use Rattle.catalogue_core.specs.Units.{Unit, is_from}
+use Rattle.catalogue_core.specs.RowByRow.{number_there}
+use Rattle.catalogue_core.specs.Units.{Unit, has_id, is_from}
+use Rattle.csv_import.specs.declared.remarks.Ranked.{Ranked}
 
 -- the row's unit is there, and has the row's values
 abbrev pub HasItsUnit : Forest Unit → Bytes → Row → Type 0
@@ -18,6 +21,11 @@ HasItsUnit f source row = option_map (λ unit. unit.values) (unit_of f source ro
 pub record HasEntered (source : Bytes) (rows : List Row) (c : Catalogue) : Type 0 where
   pub units : AreGoodUnits c
   pub each : AllByRecursion (HasItsUnit c.forest source) rows
+
+-- the same, where these are the units of the rows
+pub record HaveUnits (source : Bytes) (rows : List Row) (units : List ℕ) (c : Catalogue) : Type 0 where
+  pub entered : HasEntered source rows c
+  pub numbered : map Some units ≡ map (λ row. number_there c source row.legacy) rows
 
 -- the number of the unit right above the row's unit, which a top has not
 abbrev pub number_above : Forest Unit → Bytes → Row → Option ℕ
@@ -33,3 +41,11 @@ pub record HasParent (source : Bytes) (row : Row) (parent : Option ℕ) (c : Cat
 pub record HaveParents (source : Bytes) (rows : List Row) (parents : List (Option ℕ)) (c : Catalogue) : Type 0 where
   pub entered : HasEntered source rows c
   pub above : parents ≡ map (number_above c.forest source) rows
+
+-- the unit with this number, where it is there, has a level of this rank
+abbrev pub IsRankOf : Catalogue → ℕ → Option ℕ → Type 0
+IsRankOf c id rank = (unit : Unit) → find (has_id id) (nodes c.forest) ≡ Some unit → rank ≡ rank_of unit.values.level
+
+-- the rank that is kept is its unit's
+abbrev pub IsRanked : Catalogue → Option Ranked → Type 0
+IsRanked c last = IfSome last (λ ranked. IsRankOf c ranked.unit ranked.rank)

@@ -9,16 +9,18 @@ ghost use Rattle.isad_core.specs.Texts.{Bytes};
 ghost use Rattle.atom_csv.specs.declared.file.Row.{«Row» as RowTold};
 ghost use Rattle.catalogue_core.specs.GoodCatalogues.{AreGoodUnits};
 ghost use Rattle.catalogue_core.specs.Merging.{number_of as number_among};
+ghost use Rattle.catalogue_core.specs.RowByRow.{number_there};
 ghost use Rattle.catalogue_store.specs.Arrivals.{IsNumbered};
 ghost use Rattle.office_tables.specs.Calls.{Answers};
 ghost use Rattle.office_tables.specs.Step.{InTransaction};
 ghost use Rattle.csv_import.specs.Arriving.{KnowsNumbers, arrival_at, arrivals_of};
 ghost use Rattle.csv_import.specs.Entering.{RepresentsEntering};
+ghost use Rattle.csv_import.specs.Known.{TellsUnits};
 
-use crate::legacy::{ByLegacy, remember};
+use crate::legacy::{ByLegacy, kept_number, remember};
 use crate::numbers::number_of;
 use atom_csv::Row;
-use catalogue_store::{Places, known};
+use catalogue_store::Places;
 use isad_core::Text;
 use office_tables::StoreFault;
 use sqlite::{Alter, Connection};
@@ -51,11 +53,12 @@ fn parent_of<P: Places, S: Alter>(
     number_of::<P, S>(alloc, conn, source, parent)
 }
 
-/// The unit that a row brings, which gets the next number; none where its unit is catalogued.
+/// The unit that a row brings, which gets the next number; none where its unit is catalogued, which is known.
 fn arrival_of<P: Places, S: Alter>(
     alloc: Global,
     conn: &mut Connection<S>,
     source: &Text,
+    catalogued: &ByLegacy,
     numbers: &ByLegacy,
     next: u64,
     row: &Row,
@@ -64,38 +67,43 @@ fn arrival_of<P: Places, S: Alter>(
     requires low { (legacy : Bytes) → IfSome (get_by_text numbers.now legacy) IsNumber }
     requires small { IsNumber next }
     ensures tells { Answers S.Store (RepresentsEntering P.version) (λ _. ⊤) conn.old conn.new result AreGoodUnits
-        (λ _ c arrival. AreGoodUnits c → (above : List RowTold)
+        (λ _ c arrival. AreGoodUnits c
+        → get_by_text catalogued.now row.now.legacy ≡ number_there c source.now row.now.legacy
+        → (above : List RowTold)
         → KnowsNumbers c.forest source.now next above (get_by_text numbers.now)
         → arrival ≡ arrival_at c.forest source.now next above row.now) }
     ensures numbered { IfOk result (λ arrival. IfSome arrival IsNumbered) }
 {
-    if known(alloc, conn, source, &row.legacy)?.is_some() {
+    if kept_number(catalogued, &row.legacy).is_some() {
         return Ok(None);
     }
     let parent = parent_of::<P, S>(alloc, conn, source, numbers, row)?;
     Ok(Some(Arrival { unit: next, parent }))
 }
 
-/// The units that the rows of a file from a source bring, numbered in file order from the next
-/// number on.
+/// The units that the rows of a file from a source bring, numbered in file order from the next number on, where the
+/// numbers of the units that are catalogued are known.
 pub(crate) fn arrivals<P: Places, S: Alter>(
     alloc: Global,
     conn: &mut Connection<S>,
     source: &Text,
+    catalogued: &ByLegacy,
     next: u64,
     rows: &[Row],
 ) -> Result<Vec<Arrival>, StoreFault>
     requires inside { InTransaction P.version (state S.Store conn.old) }
     requires room { next + length rows.now < 2 ^ 63 }
     ensures tells { Answers S.Store (RepresentsEntering P.version) (λ _. ⊤) conn.old conn.new result AreGoodUnits
-        (λ _ c arrivals. AreGoodUnits c → arrivals.items ≡ arrivals_of c.forest source.now next rows.now) }
+        (λ _ c arrivals. AreGoodUnits c → TellsUnits c source.now rows.now (get_by_text catalogued.now)
+        → arrivals.items ≡ arrivals_of c.forest source.now next rows.now) }
     ensures numbered { IfOk result (λ arrivals. AllByRecursion IsNumbered arrivals.items) }
 {
     let mut numbers = ByLegacy::new(alloc);
     let mut arrivals = Vec::new(alloc);
     for row in rows {
         let unit = next + arrivals.len() as u64;
-        if let Some(arrival) = arrival_of::<P, S>(alloc, conn, source, &numbers, unit, row)? {
+        let brought = arrival_of::<P, S>(alloc, conn, source, catalogued, &numbers, unit, row)?;
+        if let Some(arrival) = brought {
             remember(&mut numbers, alloc, &row.legacy, unit)?;
             arrivals.push(arrival)?;
         }

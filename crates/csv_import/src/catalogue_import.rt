@@ -1,8 +1,10 @@
 //! A file is taken into the catalogue.
 
-ghost use Rattle.std.specs.Prelude.{◌≡◌, ◌+◌, ◌&&◌, true, length, nat_le, nat_lt, Ok, ⊤};
+ghost use Rattle.std.specs.Prelude.{◌≡◌, ◌+◌, ◌&&◌, true, length, nat_le, nat_lt, Ok, IfSome, ⊤};
+ghost use Rattle.std.specs.BTreeMap.{get_by_text};
+ghost use Rattle.std.specs.List.{AllByRecursion};
 ghost use Rattle.sqlite.specs.Held.{state};
-ghost use Rattle.isad_core.specs.Limits.{most_containers, most_unit_numbers, most_units};
+ghost use Rattle.isad_core.specs.Limits.{IsNumber, most_containers, most_unit_numbers, most_units};
 ghost use Rattle.isad_core.specs.Texts.{Bytes};
 ghost use Rattle.atom_csv.specs.FileOf.{file_of};
 ghost use Rattle.catalogue_core.specs.Sources.{is_source};
@@ -13,11 +15,14 @@ ghost use Rattle.catalogue_statements.specs.Settings.{AreLegibleSettings};
 ghost use Rattle.catalogue_statements.specs.Represents.{RepresentsSettings};
 ghost use Rattle.refinement.specs.CommandSteps.{CarriesOut};
 ghost use Rattle.refinement.specs.Judging.{RepresentsWhole};
-ghost use Rattle.csv_import.specs.Importing.{CanBePlaced, FitsIn, HasImported, judged, told_of};
+ghost use Rattle.csv_import.specs.Importing.{CanBePlaced, FitsIn, HasNumbered, judged, told_of};
 ghost use Rattle.csv_import.specs.Importing as spec;
+ghost use Rattle.csv_import.specs.Known.{TellsUnits};
 
+use crate::legacy::ByLegacy;
+use crate::numbers::known_units;
 use crate::remarks::remarks;
-use crate::row_entry::{Counts, enter_rows};
+use crate::row_entry::{Outcome, enter_rows};
 use crate::row_plan::{Planned, plan};
 use atom_csv::{File, FileFault, read_file};
 use catalogue_store::{Office, Places, office_row};
@@ -71,19 +76,21 @@ fn judge<P: Places, S: Alter>(
     alloc: Global,
     conn: &mut Connection<S>,
     today: Day,
-    source: &Text,
     file: &File,
-    counts: Counts,
+    outcome: &Outcome,
 ) -> Result<Result<Done, Refusal>, StoreFault>
     requires inside { InTransaction P.version (state S.Store conn.old) }
-    ensures tells { Answers S.Store (RepresentsWhole P.represents P.version) (HasImported source.now file.now)
-        conn.old conn.new result (λ _. ⊤) (λ _ s reply. HasImported source.now file.now s → today ≡ s.day
-        → reply ≡ judged s (told_of source.now file.now counts s)) }
+    requires small { AllByRecursion IsNumber outcome.now.units.items }
+    ensures tells { (source : Bytes) → Answers S.Store (RepresentsWhole P.represents P.version)
+        (HasNumbered source file.now outcome.now.units.items) conn.old conn.new result (λ _. ⊤)
+        (λ _ s reply. HasNumbered source file.now outcome.now.units.items s → today ≡ s.day
+        → reply ≡ judged s (told_of source file.now outcome.now.counts s)) }
 {
     if has_many_containers::<P, S>(alloc, conn)? {
         return Ok(Err(Refusal::Full));
     }
-    let remarks = remarks::<P, S>(alloc, conn, source, file.rows.as_slice())?;
+    let remarks = remarks::<P, S>(alloc, conn, &outcome.units, file.rows.as_slice())?;
+    let counts = outcome.counts;
     let done = Done::Import {
         changed: counts.changed,
         new: counts.new,
@@ -94,41 +101,72 @@ fn judge<P: Places, S: Alter>(
     pass::<P, S>(alloc, conn, today, done)
 }
 
-/// Takes in rows that can all be placed and for which there is room.
+/// Takes in rows that can all be placed and for which there is room. Which of their units are catalogued is known.
 fn import_rows<P: Places, S: Alter>(
     alloc: Global,
     conn: &mut Connection<S>,
     today: Day,
     source: &Text,
+    catalogued: &ByLegacy,
     file: &File,
 ) -> Result<Result<Done, Refusal>, StoreFault>
     requires inside { InTransaction P.version (state S.Store conn.old) }
+    requires low { (legacy : Bytes) → IfSome (get_by_text catalogued.now legacy) IsNumber }
     ensures { (bytes : Bytes) → file_of bytes ≡ Ok file.now → CarriesOut P.represents P.version
-        (λ s. (today ≡ s.day) × (is_source source.now ≡ true) × FitsIn source.now file.now s)
+        (λ s. (today ≡ s.day) × (is_source source.now ≡ true) × FitsIn source.now file.now s
+        × TellsUnits s.catalogue source.now file.now.rows (get_by_text catalogued.now))
         (command.Import source.now bytes) (state S.Store conn.old) (state S.Store conn.new) result }
 {
-    let counts = enter_rows::<P, S>(alloc, conn, source, file.rows.as_slice())?;
-    judge::<P, S>(alloc, conn, today, source, file, counts)
+    let outcome = enter_rows::<P, S>(alloc, conn, source, catalogued, file.rows.as_slice())?;
+    judge::<P, S>(alloc, conn, today, file, &outcome)
 }
 
-/// Takes in rows that can all be placed, of which so many are new, where there is room.
+/// Takes in rows that can all be placed, of which so many are new, where there is room. Which of their units are
+/// catalogued is known.
 fn import_placed<P: Places, S: Alter>(
     alloc: Global,
     conn: &mut Connection<S>,
     today: Day,
     source: &Text,
+    catalogued: &ByLegacy,
     file: &File,
     new: u64,
 ) -> Result<Result<Done, Refusal>, StoreFault>
     requires inside { InTransaction P.version (state S.Store conn.old) }
+    requires low { (legacy : Bytes) → IfSome (get_by_text catalogued.now legacy) IsNumber }
     ensures { (bytes : Bytes) → file_of bytes ≡ Ok file.now → CarriesOut P.represents P.version
-        (λ s. (today ≡ s.day) × (is_source source.now ≡ true) × CanBePlaced source.now file.now new s)
+        (λ s. (today ≡ s.day) × (is_source source.now ≡ true) × CanBePlaced source.now file.now new s
+        × TellsUnits s.catalogue source.now file.now.rows (get_by_text catalogued.now))
         (command.Import source.now bytes) (state S.Store conn.old) (state S.Store conn.new) result }
 {
     if !has_room::<P, S>(alloc, conn, new)? {
         return Ok(Err(Refusal::Full));
     }
-    import_rows::<P, S>(alloc, conn, today, source, file)
+    import_rows::<P, S>(alloc, conn, today, source, catalogued, file)
+}
+
+/// Takes in a file that was read, where it is known which of its rows' units are catalogued.
+fn import_known<P: Places, S: Alter>(
+    alloc: Global,
+    conn: &mut Connection<S>,
+    today: Day,
+    source: &Text,
+    catalogued: &ByLegacy,
+    file: &File,
+) -> Result<Result<Done, Refusal>, StoreFault>
+    requires inside { InTransaction P.version (state S.Store conn.old) }
+    requires low { (legacy : Bytes) → IfSome (get_by_text catalogued.now legacy) IsNumber }
+    ensures { (bytes : Bytes) → file_of bytes ≡ Ok file.now → CarriesOut P.represents P.version
+        (λ s. (today ≡ s.day) × (is_source source.now ≡ true)
+        × TellsUnits s.catalogue source.now file.now.rows (get_by_text catalogued.now))
+        (command.Import source.now bytes) (state S.Store conn.old) (state S.Store conn.new) result }
+{
+    match plan::<P, S>(alloc, conn, source, catalogued, file.rows.as_slice())? {
+        Planned::Fits { new } => import_placed::<P, S>(
+            alloc, conn, today, source, catalogued, file, new,
+        ),
+        Planned::Faulty { row, cause } => Ok(Err(Refusal::BadFile { row, cause })),
+    }
 }
 
 /// Takes in a file that was read.
@@ -144,10 +182,8 @@ fn import_read<P: Places, S: Alter>(
         (λ s. (today ≡ s.day) × (is_source source.now ≡ true)) (command.Import source.now bytes)
         (state S.Store conn.old) (state S.Store conn.new) result }
 {
-    match plan::<P, S>(alloc, conn, source, file.rows.as_slice())? {
-        Planned::Fits { new } => import_placed::<P, S>(alloc, conn, today, source, file, new),
-        Planned::Faulty { row, cause } => Ok(Err(Refusal::BadFile { row, cause })),
-    }
+    let catalogued = known_units::<P, S>(alloc, conn, source, file.rows.as_slice())?;
+    import_known::<P, S>(alloc, conn, today, source, &catalogued, file)
 }
 
 /// Takes a file of a source into the catalogue: units that are there take other values, and new ones come. Where it is

@@ -12,6 +12,13 @@ use std::collections::BTreeMap;
 /// A number for each of some rows, by the row's number in its source.
 pub(crate) type ByLegacy = BTreeMap<String, u64>;
 
+/// The number that is kept for a row, if one is.
+pub(crate) fn kept_number(kept: &ByLegacy, legacy: &Text) -> Option<u64>
+    ensures { result ≡ get_by_text kept.now legacy.now }
+{
+    kept.get(legacy.as_str()).copied()
+}
+
 /// Keeps a number for a row.
 #[tactic(auto, using(std::proofs::lemmas::Map::Text::text_keys))]
 pub(crate) fn remember(

@@ -1,14 +1,19 @@
 //! The numbers of units by their numbers in their source.
 
 ghost use Rattle.std.specs.Prelude.{◌≡◌, IfOk, IfSome, ⊤};
+ghost use Rattle.std.specs.BTreeMap.{get_by_text};
 ghost use Rattle.sqlite.specs.Held.{state};
 ghost use Rattle.isad_core.specs.Limits.{IsNumber};
+ghost use Rattle.isad_core.specs.Texts.{Bytes};
 ghost use Rattle.catalogue_core.specs.GoodCatalogues.{AreGoodUnits};
 ghost use Rattle.catalogue_core.specs.RowByRow.{number_there};
 ghost use Rattle.office_tables.specs.Calls.{Answers};
 ghost use Rattle.office_tables.specs.Step.{InTransaction};
 ghost use Rattle.csv_import.specs.Entering.{RepresentsEntering};
+ghost use Rattle.csv_import.specs.Known.{KnowsUnits};
 
+use crate::legacy::{ByLegacy, remember};
+use atom_csv::Row;
 use catalogue_store::{Places, known};
 use isad_core::Text;
 use office_tables::StoreFault;
@@ -35,4 +40,25 @@ pub(crate) fn number_of<P: Places, S: Alter>(
         return Err(StoreFault::Schema);
     }
     Ok(Some(unit))
+}
+
+/// The numbers of these rows' units, where they are catalogued. Each is looked up once, and kept for all that follows.
+pub(crate) fn known_units<P: Places, S: Alter>(
+    alloc: Global,
+    conn: &mut Connection<S>,
+    source: &Text,
+    rows: &[Row],
+) -> Result<ByLegacy, StoreFault>
+    requires inside { InTransaction P.version (state S.Store conn.old) }
+    ensures tells { Answers S.Store (RepresentsEntering P.version) (λ _. ⊤) conn.old conn.new result AreGoodUnits
+        (λ _ c numbers. AreGoodUnits c → KnowsUnits c source.now rows.now (get_by_text numbers)) }
+    ensures small { IfOk result (λ numbers. (legacy : Bytes) → IfSome (get_by_text numbers legacy) IsNumber) }
+{
+    let mut numbers = ByLegacy::new(alloc);
+    for row in rows {
+        if let Some(unit) = number_of::<P, S>(alloc, conn, source, &row.legacy)? {
+            remember(&mut numbers, alloc, &row.legacy, unit)?;
+        }
+    }
+    Ok(numbers)
 }

@@ -1,6 +1,6 @@
 //! What is remarked on the rows of a file that were entered.
 
-ghost use Rattle.std.specs.Prelude.{◌≡◌, Some, find, is_some, map, IfOk, ⊤};
+ghost use Rattle.std.specs.Prelude.{◌≡◌, Some, find, is_some, IfSome, ⊤};
 ghost use Rattle.std.specs.List.{AllByRecursion, list_all};
 ghost use Rattle.std.specs.Option.{option_to_list};
 ghost use Rattle.sqlite.specs.Held.{state};
@@ -10,7 +10,6 @@ ghost use Rattle.isad_core.specs.Texts.{Bytes};
 ghost use Rattle.isad_core.specs.Values.{text_of};
 ghost use Rattle.tree_core.specs.Forest.{nodes, path};
 ghost use Rattle.catalogue_core.specs.Bounds.{IsKept};
-ghost use Rattle.catalogue_core.specs.RowByRow.{number_there};
 ghost use Rattle.catalogue_core.specs.Units.{has_id, is_from};
 ghost use Rattle.catalogue_core.specs.Units.{«Unit» as Described};
 ghost use Rattle.office_core.specs.ImportReply.{is_level_above, remark_if};
@@ -19,13 +18,12 @@ ghost use Rattle.office_core.specs.declared.done.Remark.TheVariants.{LacksEssent
 ghost use Rattle.office_tables.specs.Calls.{Answers};
 ghost use Rattle.office_tables.specs.Step.{InTransaction};
 ghost use Rattle.catalogue_statements.specs.Represents.{Represents};
-ghost use Rattle.csv_import.specs.Remarking.{HasEntered, HasParent, HaveParents};
+ghost use Rattle.csv_import.specs.Remarking.{HasParent, HaveParents, HaveUnits, IsRankOf, IsRanked};
 
-use crate::numbers::number_of;
 use atom_csv::Row;
 use catalogue_statements::units::levels_of;
 use catalogue_store::Places;
-use isad_core::{Element, List, Text, Values, is_blank, rank};
+use isad_core::{Element, List, Values, is_blank, rank};
 use office_core::Remark;
 use office_tables::StoreFault;
 use office_tables::value::NO_NUMBER;
@@ -57,54 +55,93 @@ fn lacks_essential(values: &Values) -> bool
     is_blank(values.level.as_str()) || !has_each(values, ESSENTIAL.as_slice())
 }
 
-/// Whether a known level belongs above another known level.
-fn is_above(level: &str, other: &str) -> bool
-    ensures { result ≡ is_level_above (rank_of level.now) (rank_of other.now) }
+/// Whether a known rank belongs above another known rank.
+fn is_above(rank: Option<u8>, other: Option<u8>) -> bool
+    ensures { result ≡ is_level_above rank other }
 {
-    match (rank(level), rank(other)) {
+    match (rank, other) {
         (Some(rank), Some(other)) => rank < other,
         _ => false,
     }
 }
 
-/// Whether a level belongs above that of the unit with this number.
-fn is_too_high<P: Places, S: Alter>(
+/// A unit and the rank of its level. It is kept of the last unit that was asked for, since rows of one parent mostly
+/// stand together.
+#[derive(Clone, Copy)]
+struct Ranked {
+    unit: u64,
+    rank: Option<u8>,
+}
+
+/// What is kept, where it is of the unit with this number.
+fn kept_of(last: Option<Ranked>, unit: u64) -> Option<Ranked>
+    ensures { IfSome result (λ ranked. (last ≡ Some ranked) × (ranked.unit ≡ unit)) }
+{
+    match last {
+        Some(ranked) if ranked.unit == unit => Some(ranked),
+        _ => None,
+    }
+}
+
+/// The rank of the level of the unit with this number.
+fn rank_there<P: Places, S: Alter>(
     alloc: Global,
     conn: &mut Connection<S>,
-    parent: u64,
-    level: &Text,
-) -> Result<bool, StoreFault>
+    unit: u64,
+) -> Result<Option<u8>, StoreFault>
     requires inside { InTransaction P.version (state S.Store conn.old) }
-    requires small { IsNumber parent }
+    requires small { IsNumber unit }
     ensures tells { Answers S.Store (Represents P.represents P.version) IsKept conn.old conn.new result (λ _. ⊤)
-        (λ _ c high. (unit : Described) → find (has_id parent) (nodes c.forest) ≡ Some unit
-        → high ≡ is_level_above (rank_of level.now) (rank_of unit.values.level)) }
+        (λ _ c rank. IsRankOf c unit rank) }
 {
-    let mut levels = levels_of(alloc, conn, parent)?;
-    let Some(above) = levels.pop() else {
-        return Ok(false);
+    let mut levels = levels_of(alloc, conn, unit)?;
+    let Some(level) = levels.pop() else {
+        return Ok(None);
     };
-    Ok(is_above(level.as_str(), above.as_str()))
+    Ok(rank(level.as_str()))
+}
+
+/// The same, which is kept, and not asked for where it was.
+fn kept_rank<P: Places, S: Alter>(
+    alloc: Global,
+    conn: &mut Connection<S>,
+    last: &mut Option<Ranked>,
+    unit: u64,
+) -> Result<Option<u8>, StoreFault>
+    requires inside { InTransaction P.version (state S.Store conn.old) }
+    requires small { IsNumber unit }
+    ensures tells { Answers S.Store (Represents P.represents P.version) IsKept conn.old conn.new result (λ _. ⊤)
+        (λ _ c rank. IsRanked c last.old → IsRankOf c unit rank × IsRanked c last.new) }
+{
+    if let Some(ranked) = kept_of(*last, unit) {
+        return Ok(ranked.rank);
+    }
+    let rank = rank_there::<P, S>(alloc, conn, unit)?;
+    *last = Some(Ranked { unit, rank });
+    Ok(rank)
 }
 
 /// The remark on a row whose unit stands right below the one with this number.
 fn remark_below<P: Places, S: Alter>(
     alloc: Global,
     conn: &mut Connection<S>,
+    last: &mut Option<Ranked>,
     parent: u64,
     row: &Row,
 ) -> Result<Option<Remark>, StoreFault>
     requires inside { InTransaction P.version (state S.Store conn.old) }
     ensures tells { Answers S.Store (Represents P.represents P.version) IsKept conn.old conn.new result
         (λ c. (unit : Described) × (find (has_id parent) (nodes c.forest) ≡ Some unit))
-        (λ _ c told. (unit : Described) → find (has_id parent) (nodes c.forest) ≡ Some unit
+        (λ _ c told. IsRanked c last.old → IsRanked c last.new
+        × ((unit : Described) → find (has_id parent) (nodes c.forest) ≡ Some unit
         → option_to_list told ≡ remark_if (is_level_above (rank_of row.now.values.level) (rank_of unit.values.level))
-        (LevelTooHigh row.now.row)) }
+        (LevelTooHigh row.now.row))) }
 {
     if parent >= NO_NUMBER {
         return Err(StoreFault::Schema);
     }
-    if is_too_high::<P, S>(alloc, conn, parent, &row.values.level)? {
+    let above = kept_rank::<P, S>(alloc, conn, last, parent)?;
+    if is_above(rank(row.values.level.as_str()), above) {
         return Ok(Some(Remark::LevelTooHigh { row: row.row }));
     }
     Ok(None)
@@ -124,41 +161,20 @@ fn remark_on_top(row: &Row) -> Option<Remark>
 fn remark_on<P: Places, S: Alter>(
     alloc: Global,
     conn: &mut Connection<S>,
+    last: &mut Option<Ranked>,
     parent: Option<u64>,
     row: &Row,
 ) -> Result<Option<Remark>, StoreFault>
     requires inside { InTransaction P.version (state S.Store conn.old) }
     ensures tells { (source : Bytes) → Answers S.Store (Represents P.represents P.version) IsKept conn.old conn.new
-        result (HasParent source row.now parent) (λ _ c told. HasParent source row.now parent c
-        → option_to_list told ≡ reply.remark_on row.now.row (path (is_from source row.now.legacy) c.forest)) }
+        result (HasParent source row.now parent) (λ _ c told. IsRanked c last.old → HasParent source row.now parent c
+        → IsRanked c last.new
+        × (option_to_list told ≡ reply.remark_on row.now.row (path (is_from source row.now.legacy) c.forest))) }
 {
     match parent {
-        Some(parent) => remark_below::<P, S>(alloc, conn, parent, row),
+        Some(parent) => remark_below::<P, S>(alloc, conn, last, parent, row),
         None => Ok(remark_on_top(row)),
     }
-}
-
-/// The units of the rows of a file from a source, in their order, after all of them were entered.
-fn units_of<P: Places, S: Alter>(
-    alloc: Global,
-    conn: &mut Connection<S>,
-    source: &Text,
-    rows: &[Row],
-) -> Result<Vec<u64>, StoreFault>
-    requires inside { InTransaction P.version (state S.Store conn.old) }
-    ensures tells { Answers S.Store (Represents P.represents P.version) IsKept conn.old conn.new result
-        (HasEntered source.now rows.now) (λ _ c units. HasEntered source.now rows.now c
-        → map Some units.items ≡ map (λ row. number_there c source.now row.legacy) rows.now) }
-    ensures small { IfOk result (λ units. AllByRecursion IsNumber units.items) }
-{
-    let mut units = Vec::new(alloc);
-    for row in rows {
-        let Some(unit) = number_of::<P, S>(alloc, conn, source, &row.legacy)? else {
-            return Err(StoreFault::Schema);
-        };
-        units.push(unit)?;
-    }
-    Ok(units)
 }
 
 /// The remarks on rows whose units stand right below those with these numbers, or are tops.
@@ -174,27 +190,29 @@ fn remarks_below<P: Places, S: Alter>(
         → told ≡ reply.remarks c.forest source rows.now) }
 {
     let mut told = List::new(alloc);
+    let mut last = None;
     for (row, parent) in rows.iter().zip(parents) {
-        if let Some(remark) = remark_on::<P, S>(alloc, conn, *parent, row)? {
+        if let Some(remark) = remark_on::<P, S>(alloc, conn, &mut last, *parent, row)? {
             told.push(remark)?;
         }
     }
     Ok(told)
 }
 
-/// The remarks on the rows of a file from a source, in their order, after all of them were entered.
+/// The remarks on the rows of a file from a source, in their order, after all of them were entered. These are the rows'
+/// units.
 pub(crate) fn remarks<P: Places, S: Alter>(
     alloc: Global,
     conn: &mut Connection<S>,
-    source: &Text,
+    units: &[u64],
     rows: &[Row],
 ) -> Result<List<Remark>, StoreFault>
     requires inside { InTransaction P.version (state S.Store conn.old) }
-    ensures tells { Answers S.Store (Represents P.represents P.version) IsKept conn.old conn.new result
-        (HasEntered source.now rows.now)
-        (λ _ c told. HasEntered source.now rows.now c → told ≡ reply.remarks c.forest source.now rows.now) }
+    requires small { AllByRecursion IsNumber units.now }
+    ensures tells { (source : Bytes) → Answers S.Store (Represents P.represents P.version) IsKept conn.old conn.new
+        result (HaveUnits source rows.now units.now)
+        (λ _ c told. HaveUnits source rows.now units.now c → told ≡ reply.remarks c.forest source rows.now) }
 {
-    let units = units_of::<P, S>(alloc, conn, source, rows)?;
-    let parents = P::parents(alloc, conn, &units)?;
+    let parents = P::parents(alloc, conn, units)?;
     remarks_below::<P, S>(alloc, conn, &parents, rows)
 }

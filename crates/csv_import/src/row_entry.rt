@@ -1,15 +1,18 @@
 //! The rows of a file, entered into the tables of a catalogue.
 
-ghost use Rattle.std.specs.Prelude.{◌≡◌, ◌+◌, ◌<◌, ◌≤◌, ◌^◌, [], ◌∷◌, false, find, length, None, Some, IfOk, ⊤};
+ghost use Rattle.std.specs.Prelude.{◌≡◌, ◌+◌, ◌<◌, ◌≤◌, ◌^◌, [], ◌∷◌, cond, false, find, is_some, length};
+ghost use Rattle.std.specs.Prelude.{map, None, Some, IfOk, IfSome, ⊤};
+ghost use Rattle.std.specs.BTreeMap.{get_by_text};
 ghost use Rattle.std.specs.List.{AllByRecursion};
 ghost use Rattle.sqlite.specs.Held.{state};
 ghost use Rattle.sqlite.specs.State.{HasCleanDisk};
 ghost use Rattle.isad_core.specs.Limits.{IsNumber};
+ghost use Rattle.isad_core.specs.Texts.{Bytes};
 ghost use Rattle.tree_core.specs.Forest.{nodes};
 ghost use Rattle.catalogue_core.specs.Describing.{with_values};
 ghost use Rattle.catalogue_core.specs.Intake.{same_values, unit_of};
 ghost use Rattle.catalogue_core.specs.Merging.{Catalogue};
-ghost use Rattle.catalogue_core.specs.RowByRow.{with_new};
+ghost use Rattle.catalogue_core.specs.RowByRow.{number_there, with_new};
 ghost use Rattle.catalogue_core.specs.Units.{«Unit» as Described, has_id};
 ghost use Rattle.catalogue_statements.specs.Represents.{RepresentsNumbered, catalogue_trees, described_trees};
 ghost use Rattle.catalogue_statements.specs.declared.office.OfficeRow.{OfficeRow};
@@ -18,17 +21,18 @@ ghost use Rattle.office_tables.specs.Calls.{Updates, Answers};
 ghost use Rattle.office_tables.specs.Step.{InTransaction};
 ghost use Rattle.csv_import.specs.Arriving.{BringUnits};
 ghost use Rattle.csv_import.specs.Entering.{CanEnter, RepresentsEntering, RepresentsLegible, counts_of, entered};
+ghost use Rattle.csv_import.specs.Known.{TellsUnits, units_from};
 ghost use Rattle.csv_import.specs.Turns.{AreToCome, IsTurn, MayChange, MayCome, boxes_named, counted, entry_of};
 
 use crate::arrivals::arrivals;
-use crate::numbers::number_of;
+use crate::legacy::{ByLegacy, kept_number};
 use atom_csv::Row;
 use catalogue_statements::office::{office_rows, set_next_unit};
 use catalogue_store::{NewUnit, Places, enter_unit, enter_values, values as values_of};
 use isad_core::{Text, Values};
 use office_tables::StoreFault;
 use sqlite::{Alter, Connection};
-use std::alloc::Global;
+use std::alloc::{AllocError, Global};
 use tree_core::Arrival;
 
 /// The numbers of units stay far below this one.
@@ -40,6 +44,13 @@ pub struct Counts {
     pub changed: u64,
     pub new: u64,
     pub same: u64,
+}
+
+/// What became of the rows of a file: how many of each, and the unit of each row.
+#[derive(Drop)]
+pub(crate) struct Outcome {
+    pub(crate) counts: Counts,
+    pub(crate) units: Vec<u64>,
 }
 
 /// What became of a row.
@@ -111,24 +122,27 @@ fn enter_new<P: Places, S: Alter>(
     Ok(Entry::New)
 }
 
-/// Enters a row, whose unit takes its values, or comes with the next number.
+/// Enters a row, whose unit has this number and takes its values, or comes with the next number.
 fn enter_row<P: Places, S: Alter>(
     alloc: Global,
     conn: &mut Connection<S>,
     source: &Text,
+    number: Option<u64>,
     next: u64,
     row: &Row,
 ) -> Result<Entry, StoreFault>
     requires inside { InTransaction P.version (state S.Store conn.old) }
+    requires low { IfSome number IsNumber }
     requires small { IsNumber next }
     ensures makes { Updates S.Store (RepresentsEntering P.version) (λ _. ⊤) conn.old conn.new result
-        (IsTurn source.now row.now next) (entered source.now (row.now ∷ [])) described_trees }
+        (λ c. IsTurn source.now row.now next c × (number ≡ number_there c source.now row.now.legacy))
+        (entered source.now (row.now ∷ [])) described_trees }
     ensures told { HasCleanDisk (state S.Store conn.new) → (o : OfficeRow) (c : Catalogue)
         → RepresentsEntering P.version (state S.Store conn.old).now o c → IsTurn source.now row.now next c
+        → number ≡ number_there c source.now row.now.legacy
         → IfOk result (λ entry. entry ≡ entry_of (unit_of c.forest source.now row.now) row.now.values) }
 {
-    let found = number_of::<P, S>(alloc, conn, source, &row.legacy)?;
-    match found {
+    match number {
         Some(unit) => enter_known::<P, S>(alloc, conn, unit, &row.values),
         None => enter_new::<P, S>(alloc, conn, source, next, row),
     }
@@ -157,21 +171,25 @@ fn count(counts: Counts, became: Entry) -> Counts
     }
 }
 
-/// Enters rows one after another, where this is the next number. The places of new units have been
-/// entered, or will be.
+/// Enters rows one after another, where the numbers of the units that are catalogued are known, and this is the next
+/// one. The places of new units have been entered, or will be.
 fn enter_each<P: Places, S: Alter>(
     alloc: Global,
     conn: &mut Connection<S>,
     source: &Text,
+    catalogued: &ByLegacy,
     next: u64,
     rows: &[Row],
 ) -> Result<Counts, StoreFault>
     requires inside { InTransaction P.version (state S.Store conn.old) }
+    requires low { (legacy : Bytes) → IfSome (get_by_text catalogued.now legacy) IsNumber }
     requires room { next + length rows.now < 2 ^ 63 }
     ensures makes { Updates S.Store (RepresentsEntering P.version) (λ _. ⊤) conn.old conn.new result
-        (AreToCome source.now rows.now next) (entered source.now rows.now) described_trees }
+        (λ c. AreToCome source.now rows.now next c × TellsUnits c source.now rows.now (get_by_text catalogued.now))
+        (entered source.now rows.now) described_trees }
     ensures counts { HasCleanDisk (state S.Store conn.new) → (o : OfficeRow) (c : Catalogue)
         → RepresentsEntering P.version (state S.Store conn.old).now o c → AreToCome source.now rows.now next c
+        → TellsUnits c source.now rows.now (get_by_text catalogued.now)
         → IfOk result (λ counts. (counts ≡ counts_of c.forest source.now rows.now)
         × (next + counts.new ≡ (entered source.now rows.now c).next)) }
     ensures few { IfOk result (λ counts. counts.new ≤ length rows.now) }
@@ -182,7 +200,8 @@ fn enter_each<P: Places, S: Alter>(
         same: 0,
     };
     for row in rows {
-        let became = enter_row::<P, S>(alloc, conn, source, next + counts.new, row)?;
+        let number = kept_number(catalogued, &row.legacy);
+        let became = enter_row::<P, S>(alloc, conn, source, number, next + counts.new, row)?;
         counts = count(counts, became);
     }
     Ok(counts)
@@ -223,45 +242,93 @@ fn name_too_many(rows: &[Row]) -> bool
     false
 }
 
-/// Enters rows, and the places of the units that they bring, all at once. This is the next number.
+/// The number that is the next after a row, whose unit has a number or takes this one.
+fn number_after(number: u64, known: Option<u64>) -> u64
+    requires { number + 1 < 2 ^ 64 }
+    ensures value { result ≡ number + cond (is_some known) 0 1 }
+    ensures few { result ≤ number + 1 }
+{
+    match known {
+        Some(_) => number,
+        None => number + 1,
+    }
+}
+
+/// The units of rows in their order: those that are catalogued, and new ones with the numbers from the next on.
+fn units_of(
+    alloc: Global,
+    catalogued: &ByLegacy,
+    next: u64,
+    rows: &[Row],
+) -> Result<Vec<u64>, AllocError>
+    requires low { (legacy : Bytes) → IfSome (get_by_text catalogued.now legacy) IsNumber }
+    requires room { next + length rows.now < 2 ^ 63 }
+    ensures units { IfOk result (λ units. units.items ≡ units_from (get_by_text catalogued.now) next rows.now) }
+    ensures small { IfOk result (λ units. AllByRecursion IsNumber units.items) }
+{
+    let mut units = Vec::new(alloc);
+    let mut number = next;
+    for row in rows {
+        let known = kept_number(catalogued, &row.legacy);
+        units.push(known.unwrap_or(number))?;
+        number = number_after(number, known);
+    }
+    Ok(units)
+}
+
+/// Enters rows, and the places of the units that they bring, all at once. The numbers of the units that are catalogued
+/// are known, and this is the next one.
 fn enter_with_places<P: Places, S: Alter>(
     alloc: Global,
     conn: &mut Connection<S>,
     source: &Text,
+    catalogued: &ByLegacy,
     next: u64,
     rows: &[Row],
     arrivals: &[Arrival],
 ) -> Result<Counts, StoreFault>
     requires inside { InTransaction P.version (state S.Store conn.old) }
+    requires low { (legacy : Bytes) → IfSome (get_by_text catalogued.now legacy) IsNumber }
     requires room { next + length rows.now < 2 ^ 63 }
     requires numbered { AllByRecursion IsNumbered arrivals.now }
     ensures makes { Updates S.Store (RepresentsNumbered P.represents P.version) (λ _. ⊤) conn.old conn.new result
-        (BringUnits source.now rows.now next arrivals.now) (entered source.now rows.now) catalogue_trees }
+        (BringUnits source.now rows.now (get_by_text catalogued.now) next arrivals.now) (entered source.now rows.now)
+        catalogue_trees }
     ensures counts { HasCleanDisk (state S.Store conn.new) → (o : OfficeRow) (c : Catalogue)
         → RepresentsNumbered P.represents P.version (state S.Store conn.old).now o c
-        → BringUnits source.now rows.now next arrivals.now c
+        → BringUnits source.now rows.now (get_by_text catalogued.now) next arrivals.now c
         → IfOk result (λ counts. counts ≡ counts_of c.forest source.now rows.now) }
 {
     P::add_all(alloc, conn, arrivals)?;
-    let counts = enter_each::<P, S>(alloc, conn, source, next, rows)?;
+    let counts = enter_each::<P, S>(alloc, conn, source, catalogued, next, rows)?;
     set_next_unit(conn, next + counts.new)?;
     Ok(counts)
 }
 
 /// Enters the rows of a file from a source, one after another: the unit of a row takes its values, or comes with the
-/// next number.
+/// next number. The numbers of the units that are catalogued are known.
 pub(crate) fn enter_rows<P: Places, S: Alter>(
     alloc: Global,
     conn: &mut Connection<S>,
     source: &Text,
+    catalogued: &ByLegacy,
     rows: &[Row],
-) -> Result<Counts, StoreFault>
+) -> Result<Outcome, StoreFault>
     requires inside { InTransaction P.version (state S.Store conn.old) }
+    requires low { (legacy : Bytes) → IfSome (get_by_text catalogued.now legacy) IsNumber }
     ensures makes { Updates S.Store (RepresentsLegible P.represents P.version) (λ _. ⊤) conn.old conn.new result
-        (CanEnter source.now rows.now) (entered source.now rows.now) catalogue_trees }
+        (λ c. CanEnter source.now rows.now c × TellsUnits c source.now rows.now (get_by_text catalogued.now))
+        (entered source.now rows.now) catalogue_trees }
     ensures counts { HasCleanDisk (state S.Store conn.new) → (o : OfficeRow) (c : Catalogue)
         → RepresentsLegible P.represents P.version (state S.Store conn.old).now o c → CanEnter source.now rows.now c
-        → IfOk result (λ counts. counts ≡ counts_of c.forest source.now rows.now) }
+        → TellsUnits c source.now rows.now (get_by_text catalogued.now)
+        → IfOk result (λ made. made.counts ≡ counts_of c.forest source.now rows.now) }
+    ensures units { HasCleanDisk (state S.Store conn.new) → (o : OfficeRow) (c : Catalogue)
+        → RepresentsLegible P.represents P.version (state S.Store conn.old).now o c → CanEnter source.now rows.now c
+        → TellsUnits c source.now rows.now (get_by_text catalogued.now)
+        → IfOk result (λ made. map Some made.units.items
+        ≡ map (λ row. number_there (entered source.now rows.now c) source.now row.legacy) rows.now) }
+    ensures small { IfOk result (λ made. AllByRecursion IsNumber made.units.items) }
 {
     if name_too_many(rows) || rows.len() as u64 >= MOST_HELD {
         return Err(StoreFault::Memory);
@@ -270,6 +337,8 @@ pub(crate) fn enter_rows<P: Places, S: Alter>(
     if next >= LAST_NUMBER {
         return Err(StoreFault::Schema);
     }
-    let arrivals = arrivals::<P, S>(alloc, conn, source, next, rows)?;
-    enter_with_places::<P, S>(alloc, conn, source, next, rows, &arrivals)
+    let arrivals = arrivals::<P, S>(alloc, conn, source, catalogued, next, rows)?;
+    let units = units_of(alloc, catalogued, next, rows)?;
+    let counts = enter_with_places::<P, S>(alloc, conn, source, catalogued, next, rows, &arrivals)?;
+    Ok(Outcome { counts, units })
 }

@@ -10,13 +10,15 @@ ghost use Rattle.catalogue_core.specs.Merging.{depth_under};
 ghost use Rattle.office_tables.specs.Calls.{Answers};
 ghost use Rattle.office_tables.specs.Step.{InTransaction};
 ghost use Rattle.catalogue_statements.specs.Represents.{Represents};
+ghost use Rattle.catalogue_core.specs.RowByRow.{number_there};
+ghost use Rattle.csv_import.specs.Known.{TellsUnits};
 ghost use Rattle.csv_import.specs.Planning.{KnowsDepths, at_depth, placing_of, plan_of};
 
 use crate::ancestor_depths::depths_below_many;
-use crate::legacy::{ByLegacy, remember};
+use crate::legacy::{ByLegacy, kept_number, remember};
 use crate::paths::path_of;
 use atom_csv::Row;
-use catalogue_store::{Places, known};
+use catalogue_store::Places;
 use isad_core::Text;
 use isad_core::limits::MOST_DEEP;
 use office_tables::StoreFault;
@@ -91,43 +93,48 @@ fn placed(depth: Option<u64>) -> Placing
     }
 }
 
-/// What becomes of a row below the new rows above it.
+/// What becomes of a row below the new rows above it, where it is known whether its unit is catalogued.
 fn place<P: Places, S: Alter>(
     alloc: Global,
     conn: &mut Connection<S>,
     source: &Text,
+    catalogued: &ByLegacy,
     depths: &mut ByLegacy,
     row: &Row,
 ) -> Result<Placing, StoreFault>
     requires inside { InTransaction P.version (state S.Store conn.old) }
     ensures tells { Answers S.Store (Represents P.represents P.version) IsKept conn.old conn.new result (λ _. ⊤)
         (λ _ c placing. AreGoodUnits c
+        → get_by_text catalogued.now row.now.legacy ≡ number_there c source.now row.now.legacy
         → (above : List RowTold) → KnowsDepths c.forest source.now above (get_by_text depths.old)
         → (placing ≡ placing_of c.forest source.now above row.now)
         × KnowsDepths c.forest source.now above (get_by_text depths.new)) }
 {
-    if known(alloc, conn, source, &row.legacy)?.is_some() {
+    if kept_number(catalogued, &row.legacy).is_some() {
         return Ok(Placing::Known);
     }
     let depth = depth_of::<P, S>(alloc, conn, source, depths, row)?;
     Ok(placed(depth))
 }
 
-/// Which row of a file from a source cannot be placed, or how many are new. Nothing is entered.
+/// Which row of a file from a source cannot be placed, or how many are new. It is known which of the rows' units are
+/// catalogued. Nothing is entered.
 pub(crate) fn plan<P: Places, S: Alter>(
     alloc: Global,
     conn: &mut Connection<S>,
     source: &Text,
+    catalogued: &ByLegacy,
     rows: &[Row],
 ) -> Result<Planned, StoreFault>
     requires inside { InTransaction P.version (state S.Store conn.old) }
     ensures tells { Answers S.Store (Represents P.represents P.version) IsKept conn.old conn.new result (λ _. ⊤)
-        (λ _ c told. AreGoodUnits c → told ≡ plan_of c.forest source.now rows.now) }
+        (λ _ c told. AreGoodUnits c → TellsUnits c source.now rows.now (get_by_text catalogued.now)
+        → told ≡ plan_of c.forest source.now rows.now) }
 {
     let mut depths = depths_below_many::<P, S>(alloc, conn, source, rows)?;
     let mut new = 0;
     for row in rows {
-        match place::<P, S>(alloc, conn, source, &mut depths, row)? {
+        match place::<P, S>(alloc, conn, source, catalogued, &mut depths, row)? {
             Placing::Known => {}
             Placing::Fits { below } => {
                 remember(&mut depths, alloc, &row.legacy, below)?;

@@ -11,6 +11,7 @@ use Rattle.catalogue_statements.specs.declared.office.OfficeRow.{OfficeRow}
 use Rattle.catalogue_store.specs.Arrivals.{IsNumbered}
 use Rattle.office_tables.specs.Step.{InTransaction, LeavesUnchanged}
 use Rattle.csv_import.specs.Entering.{RepresentsEntering}
+use Rattle.csv_import.specs.Known.{TellsUnits}
 use Rattle.csv_import.proofs.Arrived.{AreTold}
 use Rattle.csv_import.proofs.arrivals.arrivals.Given as goal
 
@@ -21,6 +22,6 @@ invariant-loop-row g l = record {
   few : length l.arrivals.items ≤ l.row-index;
   numbered : AllByRecursion IsNumbered l.arrivals.items;
   low : (legacy : Bytes) → IfSome (get_by_text l.numbers legacy) IsNumber;
-  so_far : HasCleanDisk (state g.S.Store l.conn) → (o : OfficeRow) (c : Catalogue) → RepresentsEntering g.P.Places.version (state g.S.Store l.initial.conn).now o c → AreGoodUnits c
+  so_far : HasCleanDisk (state g.S.Store l.conn) → (o : OfficeRow) (c : Catalogue) → RepresentsEntering g.P.Places.version (state g.S.Store l.initial.conn).now o c → AreGoodUnits c → TellsUnits c l.source l.rows (get_by_text l.catalogued)
       → AreTold c.forest l.source l.next (get_by_text l.numbers) l.arrivals.items l.rows (drop l.row-index l.rows);
 }

@@ -1,7 +1,8 @@
-use Rattle.std.proofs.Common.{◌≡◌, Bool, Some, refl, sym, ap, ◌∙◌}
+use Rattle.std.proofs.Common.{◌≡◌, Bool, Some, refl, sym, ap, ap₂, ◌∙◌}
 use Rattle.std.specs.Prelude.{find}
 use Rattle.std.proofs.lemmas.Bool.{false≢true}
 use Rattle.sqlite.specs.Held.{state}
+use Rattle.isad_core.specs.Levels.{rank_of}
 use Rattle.tree_core.specs.Forest.{nodes}
 use Rattle.catalogue_core.specs.Bounds.{IsKept}
 use Rattle.catalogue_core.specs.Merging.{Catalogue}
@@ -10,7 +11,7 @@ use Rattle.catalogue_core.specs.Units.{Unit as Described}
 use Rattle.catalogue_core.proofs.EachOf.{some_found}
 use Rattle.catalogue_statements.specs.Represents.{Represents}
 use Rattle.catalogue_store.proofs.UnitsThere.{no_unit}
-use Rattle.office_core.specs.ImportReply.{remark_if}
+use Rattle.office_core.specs.ImportReply.{is_level_above, remark_if}
 use Rattle.office_core.specs.declared.done.Remark.TheVariants.{LevelTooHigh}
 use Rattle.office_tables.specs.declared.fault.StoreFault.TheVariants.{Schema}
 use Rattle.office_tables.proofs.CallEnds.{tells_not}
@@ -26,12 +27,19 @@ returns-then-parent-ge-NO_NUMBER g c =
           (λ o k it may kept clean free. absurd (false≢true (no_unit k c.args.parent c.if-parent-ge-NO_NUMBER.true kept ∙ some_found (has_id c.args.parent) (nodes k.forest) may.0 may.1)));
     }
 
-pub returns-then-branch : goal.returns-then-branch
-returns-then-branch g c =
-    let told = c.in_ok-is_too_high.ensures.tells in
+pub returns-then-is_above : goal.returns-then-is_above
+returns-then-is_above g c =
+    let told = c.in_ok-above.ensures.tells in
+    let own = rank_of c.args.row.now.values.level in
     record {
       tells = record {
-        answers = λ clean o k it unit is. sym (ap (λ (b : Bool). remark_if b (LevelTooHigh c.args.row.now.row)) (sym (told.answers clean o k it unit is) ∙ c.if-branch.true));
+        answers = λ clean o k it ranked.
+            let both = told.answers clean o k it ranked in (
+              both.1,
+              λ unit is.
+                  let high : c.is_above.result ≡ is_level_above own (rank_of unit.values.level) = c.is_above.ensures ∙ ap₂ is_level_above (c.rank.ensures ∙ ap rank_of c.as_str.ensures) (both.0 unit is) in
+                  sym (ap (λ (b : Bool). remark_if b (LevelTooHigh c.args.row.now.row)) (sym high ∙ c.if-is_above.true)),
+            );
         looks = told.looks;
         cut = tt;
         faults = λ o k it may kept clean free. tt;
@@ -40,10 +48,17 @@ returns-then-branch g c =
 
 pub returns : goal.returns
 returns g c =
-    let told = c.in_ok-is_too_high.ensures.tells in
+    let told = c.in_ok-above.ensures.tells in
+    let own = rank_of c.args.row.now.values.level in
     record {
       tells = record {
-        answers = λ clean o k it unit is. sym (ap (λ (b : Bool). remark_if b (LevelTooHigh c.args.row.now.row)) (sym (told.answers clean o k it unit is) ∙ c.if-branch.false));
+        answers = λ clean o k it ranked.
+            let both = told.answers clean o k it ranked in (
+              both.1,
+              λ unit is.
+                  let high : c.is_above.result ≡ is_level_above own (rank_of unit.values.level) = c.is_above.ensures ∙ ap₂ is_level_above (c.rank.ensures ∙ ap rank_of c.as_str.ensures) (both.0 unit is) in
+                  sym (ap (λ (b : Bool). remark_if b (LevelTooHigh c.args.row.now.row)) (sym high ∙ c.if-is_above.false)),
+            );
         looks = told.looks;
         cut = tt;
         faults = λ o k it may kept clean free. tt;

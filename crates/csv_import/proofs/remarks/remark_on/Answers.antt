@@ -13,7 +13,7 @@ use Rattle.office_core.specs.ImportReply.{is_level_above, remark_if}
 use Rattle.office_core.specs.ImportReply as reply
 use Rattle.office_core.specs.declared.done.Remark.TheVariants.{LevelTooHigh}
 use Rattle.office_tables.proofs.Calls.{looks_nowhere, office_of}
-use Rattle.csv_import.specs.Remarking.{HasParent}
+use Rattle.csv_import.specs.Remarking.{HasParent, IsRanked}
 use Rattle.csv_import.proofs.Remarked.{is_below, top_remark}
 use Rattle.csv_import.proofs.RightAbove.{last_number, there}
 use Rattle.csv_import.proofs.Tellings.{if_ok_then}
@@ -33,9 +33,9 @@ returns-in-Some g c =
       tells = λ source. record {
         answers = λ clean o k it.
             if_ok_then c.remark_below.result
-            (λ told. (unit : Described) → find (has_id parent) (nodes k.forest) ≡ Some unit → option_to_list told ≡ remark_if (is_level_above (rank_of row.values.level) (rank_of unit.values.level)) (LevelTooHigh row.row))
-            (λ told. HasParent source row c.args.parent k → option_to_list told ≡ reply.remark_on row.row (path (is_from source row.legacy) k.forest))
-            (λ remark is has. (let up = below source k has in is up.above up.found_above ∙ up.remarked has.its)) (told.answers clean o k it);
+            (λ told. IsRanked k c.args.last.now → IsRanked k c.remark_below.new.last × ((unit : Described) → find (has_id parent) (nodes k.forest) ≡ Some unit → option_to_list told ≡ remark_if (is_level_above (rank_of row.values.level) (rank_of unit.values.level)) (LevelTooHigh row.row)))
+            (λ told. IsRanked k c.args.last.now → HasParent source row c.args.parent k → IsRanked k c.remark_below.new.last × (option_to_list told ≡ reply.remark_on row.row (path (is_from source row.legacy) k.forest)))
+            (λ remark is ranked has. (let up = below source k has in let both = is ranked in (both.0, both.1 up.above up.found_above ∙ up.remarked has.its))) (told.answers clean o k it);
         looks = told.looks;
         cut = told.cut;
         faults = λ o k it has kept. (let up = below source k has in told.faults o k it (up.above, up.found_above) kept);
@@ -48,11 +48,11 @@ returns-in-None g c =
     let row = c.args.row.now in
     record {
       tells = λ source. record {
-        answers = λ clean o k it has.
+        answers = λ clean o k it ranked has.
             let unit = there k.forest source row has.its in
             let none : last_but_one (map (λ (u : Described). u.id) (path (is_from source row.legacy) k.forest)) ≡ None =
             last_number (path (is_from source row.legacy) k.forest) ∙ (sym has.above ∙ c.in-None.is) in
-            c.remark_on_top.ensures ∙ top_remark k.forest source row unit.0 unit.1 none has.its;
+            (ranked, c.remark_on_top.ensures ∙ top_remark k.forest source row unit.0 unit.1 none has.its);
         looks = looks_nowhere a (office_of g.P.Places.version a c.requires.inside);
         cut = tt;
         faults = λ o k it may kept clean free. tt;

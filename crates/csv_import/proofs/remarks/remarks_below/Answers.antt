@@ -39,7 +39,11 @@ loop-row-preserved-in-Continue-branch-3 g c =
           let at_b = early b d _ (told source).looks.goes.on.crash clean in
           let shown = subst (λ (db : Database). Represents g.P.Places.represents v db o k) (sym (invariant.looks.same at_b)) it in
           told_at k source rows parents (length c.loop-row.yielded) _ c.in-Some.row.now c.in-Some.parent.now c.loop-row.told _ c.in_ok-remark.field-0 have turn.0 (turn.2 c.in-Some.row.now) (turn.3 c.in-Some.parent.now) (length_push c.loop-row.yielded item)
-          (c.in_ok-push.ensures.ok ∙ ap (λ (r : Option Remark). c.loop-row.told ++ option_to_list r) (sym c.in-Some-2.is)) (invariant.so_far at_b source o k it have) ((told source).answers clean o k shown);
+          (c.in_ok-push.ensures.ok ∙ ap (λ (r : Option Remark). c.loop-row.told ++ option_to_list r) (sym c.in-Some-2.is)) (invariant.so_far at_b source o k it have) (λ has. ((told source).answers clean o k shown (invariant.ranked at_b source o k it have) has).1);
+      ranked = λ clean source o k it have.
+          let at_b = early b d _ (told source).looks.goes.on.crash clean in
+          let shown = subst (λ (db : Database). Represents g.P.Places.represents v db o k) (sym (invariant.looks.same at_b)) it in
+          ((told source).answers clean o k shown (invariant.ranked at_b source o k it have) (parent_at k source rows parents (length c.loop-row.yielded) c.in-Some.row.now c.in-Some.parent.now have turn.0 (turn.2 c.in-Some.row.now) (turn.3 c.in-Some.parent.now))).0;
     }
 
 pub loop-row-preserved : goal.loop-row-preserved
@@ -63,7 +67,11 @@ loop-row-preserved g c =
           let at_b = early b d _ (told source).looks.goes.on.crash clean in
           let shown = subst (λ (db : Database). Represents g.P.Places.represents v db o k) (sym (invariant.looks.same at_b)) it in
           told_at k source rows parents (length c.loop-row.yielded) _ c.in-Some.row.now c.in-Some.parent.now c.loop-row.told _ c.in_ok-remark.field-0 have turn.0 (turn.2 c.in-Some.row.now) (turn.3 c.in-Some.parent.now) (length_push c.loop-row.yielded item)
-          (sym (append-nil c.loop-row.told) ∙ ap (λ (r : Option Remark). c.loop-row.told ++ option_to_list r) (sym c.in_default.is)) (invariant.so_far at_b source o k it have) ((told source).answers clean o k shown);
+          (sym (append-nil c.loop-row.told) ∙ ap (λ (r : Option Remark). c.loop-row.told ++ option_to_list r) (sym c.in_default.is)) (invariant.so_far at_b source o k it have) (λ has. ((told source).answers clean o k shown (invariant.ranked at_b source o k it have) has).1);
+      ranked = λ clean source o k it have.
+          let at_b = early b d _ (told source).looks.goes.on.crash clean in
+          let shown = subst (λ (db : Database). Represents g.P.Places.represents v db o k) (sym (invariant.looks.same at_b)) it in
+          ((told source).answers clean o k shown (invariant.ranked at_b source o k it have) (parent_at k source rows parents (length c.loop-row.yielded) c.in-Some.row.now c.in-Some.parent.now have turn.0 (turn.2 c.in-Some.row.now) (turn.3 c.in-Some.parent.now))).0;
     }
 
 pub returns-in_err-remark : goal.returns-in_err-remark

@@ -7,7 +7,7 @@ use Rattle.catalogue_statements.specs.Represents.{Represents}
 use Rattle.catalogue_statements.specs.declared.office.OfficeRow.{OfficeRow}
 use Rattle.office_core.specs.ImportReply as reply
 use Rattle.office_tables.specs.Step.{InTransaction, LeavesUnchanged}
-use Rattle.csv_import.specs.Remarking.{HaveParents}
+use Rattle.csv_import.specs.Remarking.{HaveParents, IsRanked}
 use Rattle.csv_import.proofs.remarks.remarks_below.Given as goal
 
 abbrev pub invariant-loop-row : goal.invariant-loop-row
@@ -16,4 +16,6 @@ invariant-loop-row g l = record {
   looks : LeavesUnchanged (state g.S.Store l.initial.conn) (state g.S.Store l.conn);
   so_far : HasCleanDisk (state g.S.Store l.conn) → (source : Bytes) (o : OfficeRow) (c : Catalogue) → Represents g.P.Places.represents g.P.Places.version (state g.S.Store l.initial.conn).now o c → HaveParents source l.rows l.parents c
       → reply.remarks c.forest source l.rows ≡ l.told ++ reply.remarks c.forest source (drop (length l.yielded) l.rows);
+  ranked : HasCleanDisk (state g.S.Store l.conn) → (source : Bytes) (o : OfficeRow) (c : Catalogue) → Represents g.P.Places.represents g.P.Places.version (state g.S.Store l.initial.conn).now o c → HaveParents source l.rows l.parents c
+      → IsRanked c l.last;
 }

@@ -1,4 +1,5 @@
 use Rattle.std.proofs.Common.{◌≤◌, drop}
+use Rattle.std.specs.BTreeMap.{get_by_text}
 use Rattle.sqlite.specs.Held.{state}
 use Rattle.sqlite.specs.State.{HasCleanDisk}
 use Rattle.catalogue_core.specs.Merging.{Catalogue}
@@ -6,6 +7,7 @@ use Rattle.catalogue_statements.specs.Represents.{described_trees}
 use Rattle.catalogue_statements.specs.declared.office.OfficeRow.{OfficeRow}
 use Rattle.office_tables.specs.Step.{Goes, InTransaction, OnlyTouches}
 use Rattle.csv_import.specs.Entering.{RepresentsEntering}
+use Rattle.csv_import.specs.Known.{TellsUnits}
 use Rattle.csv_import.specs.Turns.{AreToCome}
 use Rattle.csv_import.proofs.RowsToCome.{HaveCome}
 use Rattle.csv_import.proofs.row_entry.enter_each.Given as goal
@@ -16,6 +18,7 @@ invariant-loop-row g l = record {
   few : (l.counts.changed ≤ l.row-index) × (l.counts.new ≤ l.row-index) × (l.counts.same ≤ l.row-index);
   goes : Goes (state g.S.Store l.initial.conn) (state g.S.Store l.conn);
   only : HasCleanDisk (state g.S.Store l.conn) → OnlyTouches described_trees (state g.S.Store l.initial.conn).now (state g.S.Store l.conn).now;
-  so_far : HasCleanDisk (state g.S.Store l.conn) → (o : OfficeRow) (c : Catalogue) → RepresentsEntering g.P.Places.version (state g.S.Store l.initial.conn).now o c → AreToCome l.source l.rows l.next c
-      → (d : Catalogue) × RepresentsEntering g.P.Places.version (state g.S.Store l.conn).now o d × HaveCome l.source l.rows (drop l.row-index l.rows) l.next l.counts c d;
+  so_far : HasCleanDisk (state g.S.Store l.conn) → (o : OfficeRow) (c : Catalogue) → RepresentsEntering g.P.Places.version (state g.S.Store l.initial.conn).now o c → AreToCome l.source l.rows l.next c → TellsUnits c l.source l.rows (get_by_text l.catalogued)
+      → (d : Catalogue) × RepresentsEntering g.P.Places.version (state g.S.Store l.conn).now o d × HaveCome l.source l.rows (drop l.row-index l.rows) l.next l.counts c d
+      × TellsUnits d l.source (drop l.row-index l.rows) (get_by_text l.catalogued);
 }

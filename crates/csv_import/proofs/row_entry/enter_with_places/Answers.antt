@@ -1,5 +1,6 @@
 use Rattle.std.proofs.Common.{◌≡◌, [], ◌∷◌, refl, sym, ap, subst, ◌∙◌, arith}
 use Rattle.std.specs.Prelude.{⊤}
+use Rattle.std.specs.BTreeMap.{get_by_text}
 use Rattle.sqlite.specs.Held.{state}
 use Rattle.tree_core.specs.Growing.{added}
 use Rattle.catalogue_core.specs.Merging.{Catalogue}
@@ -42,7 +43,7 @@ returns-in_err-add_all-clause-makes g c =
     let handed = c.from_residual.ensures in
     let e = c.in_err-add_all.field-0.0 in
     let made = c.in_err-add_all.ensures.makes in
-    makes_not g.S.Store (RepresentsNumbered g.P.Places.represents g.P.Places.version) (λ _. ⊤) (BringUnits source rows c.args.next c.args.arrivals.now) c.args.conn.now c.add_all.new.conn c.from_residual.result (entered source rows) catalogue_trees e
+    makes_not g.S.Store (RepresentsNumbered g.P.Places.represents g.P.Places.version) (λ _. ⊤) (BringUnits source rows (get_by_text c.args.catalogued.now) c.args.next c.args.arrivals.now) c.args.conn.now c.add_all.new.conn c.from_residual.result (entered source rows) catalogue_trees e
     (same_fault c.from_residual.result e handed.0 handed.1) made.cut
     (λ o k it may kept clean free.
     let come = may.come in
@@ -60,12 +61,12 @@ returns-in_err-counts-clause-makes g c =
     let e = c.in_err-counts.field-0.0 in
     let placed = c.in_ok-add_all.ensures.makes in
     let made = c.in_err-counts.ensures.makes in
-    makes_cut g.S.Store (RepresentsNumbered g.P.Places.represents v) (λ _. ⊤) (BringUnits source rows c.args.next c.args.arrivals.now) c.args.conn.now c.add_all.new.conn c.enter_each.new.conn c.from_residual-in_err-counts.result (entered source rows) catalogue_trees e
+    makes_cut g.S.Store (RepresentsNumbered g.P.Places.represents v) (λ _. ⊤) (BringUnits source rows (get_by_text c.args.catalogued.now) c.args.next c.args.arrivals.now) c.args.conn.now c.add_all.new.conn c.enter_each.new.conn c.from_residual-in_err-counts.result (entered source rows) catalogue_trees e
     (same_fault c.from_residual-in_err-counts.result e handed.0 handed.1) placed.goes.on made.cut
     (λ o k it may kept at_b clean free.
     let only = placed.only at_b in
     let first = described_kept a.now b.now (tables.link.tree ∷ []) only refl (placed.goes.schema at_b) v (counted o k) (counted o k) k k.next (only tables.office.tree refl refl ∙ it.catalogue.office) refl it.catalogue in
-    made.faults (counted o k) k first may.come tt clean free)
+    made.faults (counted o k) k first (may.come, may.known) tt clean free)
 
 pub returns-in_err-set_next_unit-clause-makes : goal.returns-in_err-set_next_unit-clause-makes
 returns-in_err-set_next_unit-clause-makes g c =
@@ -79,7 +80,7 @@ returns-in_err-set_next_unit-clause-makes g c =
     let e = c.in_err-set_next_unit.field-0.0 in
     let placed = c.in_ok-add_all.ensures.makes in
     let told = c.in_ok-counts.ensures.makes in
-    makes_cut g.S.Store (RepresentsNumbered g.P.Places.represents v) (λ _. ⊤) (BringUnits source rows c.args.next c.args.arrivals.now) c.args.conn.now c.enter_each.new.conn c.set_next_unit.new.conn c.from_residual-in_err-set_next_unit.result (entered source rows) catalogue_trees e
+    makes_cut g.S.Store (RepresentsNumbered g.P.Places.represents v) (λ _. ⊤) (BringUnits source rows (get_by_text c.args.catalogued.now) c.args.next c.args.arrivals.now) c.args.conn.now c.enter_each.new.conn c.set_next_unit.new.conn c.from_residual-in_err-set_next_unit.result (entered source rows) catalogue_trees e
     (same_fault c.from_residual-in_err-set_next_unit.result e handed.0 handed.1) (goes_then a b d placed.goes told.goes).on c.in_err-set_next_unit.ensures.leaves.cut
     (λ o k it may kept at_d clean free.
     let at_b = early b d _ told.goes.on.crash at_d in
@@ -111,8 +112,8 @@ returns-clause-makes g c =
           subst (places b.now.trees) (ap (λ l. added l (ids k.forest)) may.units ∙ all.ends)
           (placed.represents_updated at_b tt (ids k.forest) it.shown (subst (λ l. MayJoin l (ids k.forest)) (sym may.units) (may_join source rows c.args.next k may.come))) in
           let first = described_kept a.now b.now (tables.link.tree ∷ []) only refl (placed.goes.schema at_b) v (counted o k) (counted o k) k k.next (only tables.office.tree refl refl ∙ it.catalogue.office) refl it.catalogue in
-          let second = told.represents_updated at_d (counted o k) k first may.come in
-          let number = (c.in_ok-counts.ensures.counts at_d (counted o k) k first may.come).1 in
+          let second = told.represents_updated at_d (counted o k) k first (may.come, may.known) in
+          let number = (c.in_ok-counts.ensures.counts at_d (counted o k) k first may.come may.known).1 in
           let office = wrote.rows clean v (counted o k) second.office in
           record {
             catalogue = described_kept d.now e.now (tables.office.tree ∷ []) office.only refl (wrote.leaves.goes.schema clean) v (counted o k) (record o { next_unit = t.next }) (at_next k.next t) t.next
@@ -144,4 +145,4 @@ returns-clause-counts g c clean o k it may =
     let at_b = early b d _ told.goes.on.crash at_d in
     let only = placed.only at_b in
     let first = described_kept a.now b.now (tables.link.tree ∷ []) only refl (placed.goes.schema at_b) v (counted o k) (counted o k) k k.next (only tables.office.tree refl refl ∙ it.catalogue.office) refl it.catalogue in
-    (c.in_ok-counts.ensures.counts at_d (counted o k) k first may.come).0
+    (c.in_ok-counts.ensures.counts at_d (counted o k) k first may.come may.known).0

@@ -1,18 +1,16 @@
-use Rattle.std.proofs.Common.{◌≡◌, length, Some, None, sym, ap, ap₂, ◌∙◌, arith}
+use Rattle.std.proofs.Common.{◌≡◌, length, Some, None, sym, ap, ◌∙◌, arith}
 use Rattle.std.specs.Prelude.{⊤}
 use Rattle.std.proofs.lemmas.List.{length-map}
 use Rattle.sqlite.specs.Held.{state}
 use Rattle.isad_core.specs.Levels.{rank_of}
-use Rattle.isad_core.specs.Texts.{Bytes}
 use Rattle.catalogue_core.specs.Bounds.{IsKept}
 use Rattle.catalogue_core.specs.Units.{Unit as Described}
 use Rattle.catalogue_statements.specs.Represents.{Represents}
 use Rattle.catalogue_statements.proofs.FoundUnits.{none_found, one_found}
 use Rattle.catalogue_store.proofs.MarkCauses.{legible_units}
-use Rattle.office_core.specs.ImportReply.{is_level_above}
 use Rattle.office_tables.proofs.CallEnds.{same_fault, tells_not}
 use Rattle.office_tables.proofs.Calls.{office_of}
-use Rattle.csv_import.proofs.remarks.is_too_high.Goals as goal
+use Rattle.csv_import.proofs.remarks.rank_there.Goals as goal
 
 pub levels_of-requires-clause-inside : goal.levels_of-requires-clause-inside
 levels_of-requires-clause-inside g c = office_of g.P.Places.version (state g.S.Store c.args.conn.now) c.requires.inside
@@ -36,7 +34,7 @@ returns-in_default g c =
             let at = it.catalogue.units in
             let got = c.in_ok-levels.ensures.rows clean at.units at.rows in
             let few : length got.0 ≡ 0 = omega (arith, c.in_default.ensures.cases.0, c.in_ok-levels.levels.ok.0, ap length got.2, length-map got.0 (λ (u : Described). u.values.level)) in
-            let clash : None ≡ Some unit = sym (none_found a.now.trees k.forest at c.args.parent got.0 got.1.0 few) ∙ is in
+            let clash : None ≡ Some unit = sym (none_found a.now.trees k.forest at c.args.unit got.0 got.1.0 few) ∙ is in
             absurd (cc);
         looks = c.in_ok-levels.ensures.reads.looks;
         cut = tt;
@@ -52,11 +50,10 @@ returns g c =
         answers = λ clean o k it unit is.
             let at = it.catalogue.units in
             let got = c.in_ok-levels.ensures.rows clean at.units at.rows in
-            let found = one_found a.now.trees k.forest at c.args.parent got.0 got.1.0 c.pop.new.self.items c.in-Some.above (sym got.2 ∙ c.in-Some.ensures.items) in
+            let found = one_found a.now.trees k.forest at c.args.unit got.0 got.1.0 c.pop.new.self.items c.in-Some.level (sym got.2 ∙ c.in-Some.ensures.items) in
             let both : Some found.0 ≡ Some unit = sym found.3 ∙ is in
             let same : found.0 ≡ unit = cc in
-            c.is_above.ensures
-            ∙ ap₂ (λ (l m : Bytes). is_level_above (rank_of l) (rank_of m)) c.as_str.ensures (c.as_str-2.ensures ∙ (found.4 ∙ ap (λ (u : Described). u.values.level) same));
+            c.rank.ensures ∙ ap rank_of (c.as_str.ensures ∙ (found.4 ∙ ap (λ (u : Described). u.values.level) same));
         looks = c.in_ok-levels.ensures.reads.looks;
         cut = tt;
         faults = λ o k it may kept clean free. tt;

@@ -1,0 +1,22 @@
+use Rattle.std.proofs.Common.{IfSome, take}
+use Rattle.std.specs.BTreeMap.{get_by_text}
+use Rattle.sqlite.specs.Held.{state}
+use Rattle.sqlite.specs.State.{HasCleanDisk}
+use Rattle.isad_core.specs.Limits.{IsNumber}
+use Rattle.isad_core.specs.Texts.{Bytes}
+use Rattle.catalogue_core.specs.GoodCatalogues.{AreGoodUnits}
+use Rattle.catalogue_core.specs.Merging.{Catalogue}
+use Rattle.catalogue_statements.specs.declared.office.OfficeRow.{OfficeRow}
+use Rattle.office_tables.specs.Step.{InTransaction, LeavesUnchanged}
+use Rattle.csv_import.specs.Entering.{RepresentsEntering}
+use Rattle.csv_import.specs.Known.{KnowsUnits}
+use Rattle.csv_import.proofs.numbers.known_units.Given as goal
+
+abbrev pub invariant-loop-row : goal.invariant-loop-row
+invariant-loop-row g l = record {
+  inside : InTransaction g.P.Places.version (state g.S.Store l.conn);
+  looks : LeavesUnchanged (state g.S.Store l.initial.conn) (state g.S.Store l.conn);
+  low : (legacy : Bytes) → IfSome (get_by_text l.numbers legacy) IsNumber;
+  so_far : HasCleanDisk (state g.S.Store l.conn) → (o : OfficeRow) (c : Catalogue) → RepresentsEntering g.P.Places.version (state g.S.Store l.initial.conn).now o c → AreGoodUnits c
+      → KnowsUnits c l.source (take l.row-index l.rows) (get_by_text l.numbers);
+}

@@ -1,0 +1,13 @@
+use Rattle.std.proofs.Common.{◌≡◌, ◌+◌, ◌≤◌, ◌++◌, drop}
+use Rattle.std.specs.BTreeMap.{get_by_text}
+use Rattle.std.specs.List.{AllByRecursion}
+use Rattle.isad_core.specs.Limits.{IsNumber}
+use Rattle.csv_import.specs.Known.{units_from}
+use Rattle.csv_import.proofs.row_entry.units_of.Given as goal
+
+abbrev pub invariant-loop-row : goal.invariant-loop-row
+invariant-loop-row l = record {
+  few : l.number ≤ l.next + l.row-index;
+  small : AllByRecursion IsNumber l.units.items;
+  so_far : units_from (get_by_text l.catalogued) l.next l.rows ≡ l.units.items ++ units_from (get_by_text l.catalogued) l.number (drop l.row-index l.rows);
+}
