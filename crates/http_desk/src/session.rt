@@ -14,7 +14,7 @@ ghost use Rattle.http_desk.specs.Sending.{Sends};
 ghost use Rattle.http_desk.specs.Session.{leave_if, most_answers};
 ghost use Rattle.http_desk.specs.Streams.{most_reads};
 ghost use Rattle.http_desk.specs.Talking.{Turn, Through, Exchange, Talks, TalksWhole, AtEndIf, IsNoEnd};
-ghost use Rattle.http_desk.specs.Talking.{Refused, Replies, after_answer, after_sending};
+ghost use Rattle.http_desk.specs.Talking.{Refused, Replies, after_sending};
 ghost use Rattle.http_desk.specs.Quiet.{IsQuiet, NoBound, NoWriteBound, TellsReadFault, TellsWriteFault};
 ghost use Rattle.http_desk.specs.Quiet.{TakesCalls, TakesTurns, send_failed};
 

@@ -1,5 +1,5 @@
 -- What a store that is closed leaves in its files.
-use Rattle.std.proofs.Common.{◌≡◌, ◌∙◌, ap, inl, inr, true, false, subst, sym, arith, IsTrue}
+use Rattle.std.proofs.Common.{◌≡◌, ◌∙◌, ap, inl, inr, subst, sym, arith, IsTrue}
 use Rattle.std.proofs.lemmas.Bool.{both_ways, cases_Bool}
 use Rattle.sqlite.specs.Closing.{IsCopied}
 use Rattle.sqlite.specs.Effect.{Database}
@@ -8,7 +8,6 @@ use Rattle.sqlite.specs.Held.{Held}
 use Rattle.sqlite.specs.Recovery.{Image}
 use Rattle.sqlite.specs.Start.{FindsIn}
 use Rattle.sqlite.specs.State.{HasCleanDisk, Opens, Survives}
-use Rattle.sqlite.specs.Tree.{Trees}
 use Rattle.sqlite_disk.specs.declared.Disk.{Ghosts}
 use Rattle.sqlite_disk.specs.declared.Files.{Files}
 use Rattle.sqlite_pool.proofs.StateLemmas.{clean_is}
@@ -20,7 +19,7 @@ use Rattle.sqlite_trees.specs.View.{IsClean}
 use Rattle.sqlite_wal.proofs.LogLemmas.{SeenMayStay}
 use Rattle.sqlite_wal.specs.Reads.{AreClean}
 use Rattle.office_tables.proofs.Calls.{early}
-use Rattle.program.specs.Closed.{ACheckChangesNothing, AreAsFound, AreInTheFile, HasLeft, HaveCleanDisk, Hold, LeaveOnly}
+use Rattle.program.specs.Closed.{ACheckChangesNothing, AreAsFound, AreInTheFile, HasLeft, HaveCleanDisk, Hold}
 use Rattle.program.proofs.StoreLemmas.{held_in}
 
 module _ {D : Type 0} {g : Ghosts D} (conn : Held (FileStore D g)) (files : Files D)
