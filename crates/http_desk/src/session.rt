@@ -35,7 +35,7 @@ use std::io::{Read, Write};
 /// How many messages are answered.
 const ANSWERS: u32 = 10_000;
 
-/// What comes after a sending.
+/// What comes next, by how the sending of an answer ended.
 fn after(sent: Sent, next: Next) -> Next
     ensures { result ≡ after_sending sent next }
 {
@@ -202,7 +202,7 @@ fn receive<R: Read, W: Write, M: Machine>(
     }
 }
 
-/// One message's place.
+/// Reads one message, answers it, and says what comes next.
 fn exchange<R: Read, W: Write, M: Machine>(
     means: &Means,
     reader: &mut Source<'_, R>,
