@@ -196,5 +196,7 @@ def main(room, day=None, store=None):
 
 
 if __name__ == "__main__":
+    if len(sys.argv) < 3:
+        sys.exit(__doc__)
     PROGRAM = sys.argv[1]
     sys.exit(main(*sys.argv[2:]))

@@ -302,6 +302,8 @@ def main(room, pairs):
 
 
 if __name__ == "__main__":
+    if len(sys.argv) < 3:
+        sys.exit(__doc__)
     stopped.PROGRAM = str(Path(sys.argv[1]).resolve())
     with tempfile.TemporaryDirectory(dir=sys.argv[2]) as where:
         SHIM = stopped.built_shim(Path(where))

@@ -277,5 +277,7 @@ def main(room, *names):
 
 
 if __name__ == "__main__":
+    if len(sys.argv) < 3:
+        sys.exit(__doc__)
     days.PROGRAM = sys.argv[1]
     sys.exit(main(*sys.argv[2:]))

@@ -13,6 +13,8 @@ import subprocess
 import sys
 import time
 
+if len(sys.argv) < 3:
+    sys.exit(__doc__)
 PROGRAM, ROOM = sys.argv[1:3]
 TIMES = int(sys.argv[3]) if len(sys.argv) > 3 else 50
 STORE = f"{ROOM}/killed.db"

@@ -165,6 +165,8 @@ def main(room, kept):
 
 
 if __name__ == "__main__":
+    if len(sys.argv) < 3:
+        sys.exit(__doc__)
     PROGRAM = str(Path(sys.argv[1]).resolve())
     with tempfile.TemporaryDirectory(dir=sys.argv[2]) as where:
         sys.exit(main(Path(where), sys.argv[3:] or KEPT))

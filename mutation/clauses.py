@@ -1,7 +1,7 @@
 #!/usr/bin/env python3
 """Compares what two trees promise: every public clause and every definition of the one has to stand in the other.
 
-    mutation/clauses.py OLD_TREE NEW_TREE [--names FILE] [--new]
+    mutation/clauses.py OLD_TREE NEW_TREE [--names FILE] [--new] [--why]
 
 Public clauses are the ensures and requires of public functions, of the methods of traits and of the impls of traits, the
 ghost members of traits and impls, and the invariants of public types; the names that can be imported from a crate (its
@@ -15,9 +15,11 @@ FILE (without it: mutation/names.txt beside this script) has the names that chan
     spec CRATE OLD NEW        a file of the old crate's specs
     word OLD NEW [CRATE ..]   an identifier, in all old crates or in these
     file CRATE NAME NEW       a file of the old crate's src or specs that went to the crate NEW by itself
+    changed CRATE NAME ..: WHY    functions and definitions, by their new names, that say something else since, and why
 
-It prints what is lost and how many clauses and definitions are new (with --new: which), and ends with 1 where something
-is lost.
+It prints what is lost without a reason, how much is lost with one, and how many clauses and definitions are new (with
+--new: which; with --why: what is lost with a reason, and the reason). It ends with 1 where something is lost without a
+reason, and where a reason has nothing to explain.
 """
 import argparse
 import collections
@@ -37,9 +39,14 @@ class Names:
 
     def __init__(self, file=None):
         self.crates, self.modules, self.specs, self.words, self.files = {}, {}, {}, {}, {}
+        self.reasons = {}
         for line in open(file, encoding="utf-8") if file else []:
             kind, *rest = line.split("#")[0].split() or [""]
-            if kind == "crate":
+            if kind == "changed":
+                what, _, why = line.partition(": ")
+                crate, *names = what.split()[1:]
+                self.reasons.update({(crate, name): why.strip() for name in names})
+            elif kind == "crate":
                 self.crates[rest[0]] = rest[1]
             elif kind in ("module", "spec", "file"):
                 table = {"module": self.modules, "spec": self.specs, "file": self.files}[kind]
@@ -233,20 +240,41 @@ def promises(tree, names):
     return found
 
 
+def subject(owner, name, text):
+    """The function or definition that a line is about."""
+    if owner != "specs":
+        return name
+    text = re.sub(r"^((abbrev|pub|opaque|record|data|unfoldable) )*", "", text)
+    return text.split()[0].split(".")[0]
+
+
 def main():
     words = argparse.ArgumentParser(description=__doc__.split("\n")[0])
     words.add_argument("old")
     words.add_argument("new")
     words.add_argument("--names", default=f"{HERE}/names.txt")
     words.add_argument("--new", dest="show", action="store_true", help="print what is new, too")
+    words.add_argument("--why", action="store_true", help="print what is lost with a reason, too")
     given = words.parse_args()
-    old, new = promises(given.old, Names(given.names)), promises(given.new, Names())
+    names = Names(given.names)
+    old, new = promises(given.old, names), promises(given.new, Names())
     lost, more = old - new, new - old
-    for title, found in (("LOST", lost), ("new", more if given.show else {})):
-        for crate, owner, name, text in sorted(found):
-            print(f"{title} {crate} | {owner} | {name} | {text}")
-    print(f"{old.total()} before, {new.total()} after, {lost.total()} lost, {more.total()} new")
-    return 1 if lost or not old else 0
+    explained, bare_losses = collections.Counter(), 0
+    for (crate, owner, name, text), count in sorted(lost.items()):
+        about = crate, subject(owner, name, text)
+        if about in names.reasons:
+            explained[about] += count
+            if given.why:
+                print(f"changed {crate} | {owner} | {name} | {text}\n    {names.reasons[about]}")
+        else:
+            bare_losses += count
+            print(f"LOST {crate} | {owner} | {name} | {text}")
+    for crate, name in sorted(names.reasons.keys() - explained.keys()):
+        print(f"NOT LOST {crate} | {name}: a reason that explains nothing")
+    for crate, owner, name, text in sorted(more) if given.show else []:
+        print(f"new {crate} | {owner} | {name} | {text}")
+    print(f"{old.total()} before, {new.total()} after, {bare_losses} lost, {explained.total()} changed with a reason, {more.total()} new")
+    return 1 if bare_losses or names.reasons.keys() - explained.keys() or not old else 0
 
 
 if __name__ == "__main__":

@@ -34,12 +34,12 @@ pub fn sound_tables_show_their_state<P: CheckedPlaces>()
     ensures { (db : Database) → SoundTablesShowTheirState P.represents P.version db }
 {}
 
-/// What is asked of tables that are opened, the tables of an office of version 1 have.
+/// The tables of an office of version 1 meet what is asked of tables that are opened.
 pub fn tables_of_links_stand_in_order()
     ensures { (db : Database) (s : State) → ShownTablesStandInOrder RepresentsLinkRows Links db s }
 {}
 
-/// What is asked of tables that are opened, the tables of an office of version 2 have.
+/// The tables of an office of version 2 meet what is asked of tables that are opened.
 pub fn tables_of_spans_stand_in_order()
     ensures { (db : Database) (s : State) → ShownTablesStandInOrder RepresentsSpanRows Spans db s }
 {}

@@ -2,7 +2,7 @@
 use Rattle.std.proofs.Common.{◌≡◌, ℕ, zero, suc, Bool, true, false, cond, not, List, [], ◌∷◌, Some, refl, sym, ap, ◌∙◌, subst}
 use Rattle.std.specs.Prelude.{filter, option_map, slice_get, unwrap_or}
 use Rattle.std.specs.List.{AllByRecursion}
-use Rattle.std.proofs.lemmas.Bool.{false≢true}
+use Rattle.std.proofs.lemmas.Bool.{not-true}
 use Rattle.isad_core.specs.declared.values.BoxKey.{BoxKey}
 use Rattle.isad_core.specs.Boxes.{distinct, is_same as is_same_box}
 use Rattle.catalogue_core.specs.Merging.{number_in}
@@ -30,10 +30,6 @@ passes_at p [] i b h e = absurd (cc)
 passes_at p (x ∷ xs) zero b h e = let same : x ≡ b = cc in subst (λ y. p y ≡ true) same h.0
 passes_at p (x ∷ xs) (suc i) b h e = passes_at p xs i b h.1 e
 
-not_so : (b : Bool) → not b ≡ true → b ≡ false
-not_so true e = absurd (false≢true e)
-not_so false e = refl
-
 tail_of : {X : Type 0} (x y : X) (xs ys : List X) → x ∷ xs ≡ y ∷ ys → xs ≡ ys
 tail_of x y xs ys e = cc
 
@@ -47,7 +43,7 @@ place_in (x ∷ xs) (suc i) b d e =
     let rest : filter p (distinct xs) ≡ xs = tail_of x x (filter p (distinct xs)) xs d in
     let pass : Pass p xs = subst (Pass p) rest (filtered_pass p (distinct xs)) in
     let again : distinct xs ≡ xs = ap distinct (sym (all_kept p xs pass)) ∙ (distinct_filter p xs ∙ rest) in
-    ap (λ t. cond t (Some 1) (option_map suc (number_in xs b))) (not_so (is_same_box x b) (passes_at p xs i b pass e))
+    ap (λ t. cond t (Some 1) (option_map suc (number_in xs b))) (not-true (is_same_box x b) (passes_at p xs i b pass e))
     ∙ ap (option_map suc) (place_in xs i b again e)
 
 pub numbers_are_places : NumbersArePlaces

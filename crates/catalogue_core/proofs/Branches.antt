@@ -5,11 +5,12 @@ use Rattle.std.specs.List.Sorted.{IsPermutation}
 use Rattle.std.proofs.lemmas.Bool.{false≢true, or_cases}
 use Rattle.std.proofs.lemmas.List.{append-nil}
 use Rattle.std.proofs.lemmas.List.Folds.{list_any-append}
-use Rattle.std.proofs.lemmas.List.Sorted.{IsPermutation-refl, IsPermutation-trans, IsPermutation-sym, IsPermutation-cons, IsPermutation-append_comm, IsPermutation-append_left, IsPermutation-append_right, list_any-IsPermutation}
+use Rattle.std.proofs.lemmas.List.Sorted.{IsPermutation-trans, IsPermutation-sym, IsPermutation-cons, IsPermutation-append_comm, IsPermutation-append_left, IsPermutation-append_right, list_any-IsPermutation}
 use Rattle.tree_core.specs.Forest.{Forest, Empty, Node, nodes, has, tree, branch, cut, put_below, put_last, move_last}
 use Rattle.std.specs.Option.{option_map_or}
 use Rattle.tree_core.proofs.SpanShifts.{cut_none, none_of}
 use Rattle.catalogue_core.proofs.Rooted.{has_node, nodes-join}
+use Rattle.tree_core.proofs.Adding.{perm_same, pull}
 
 -- ---- how many nodes pass
 
@@ -83,34 +84,24 @@ put_none is g (Node a c o) h = (let n = none_of is a c o h in rw (n.0, put_none 
 
 -- ---- what is taken away and what stays are all that there was
 
-one_list : {X : Type 0} (xs ys : List X) → xs ≡ ys → IsPermutation xs ys
-one_list xs ys e = subst (IsPermutation xs) e (IsPermutation-refl xs)
-
--- what stands in the middle goes to the front
-to_front : {X : Type 0} (pre mid post : List X) → IsPermutation (pre ++ (mid ++ post)) (mid ++ (pre ++ post))
-to_front pre mid post =
-    subst (λ xs. IsPermutation xs (mid ++ (pre ++ post))) (append_assoc pre mid post)
-    (subst (IsPermutation ((pre ++ mid) ++ post)) (append_assoc mid pre post)
-    (IsPermutation-append_left post (pre ++ mid) (mid ++ pre) (IsPermutation-append_comm pre mid)))
-
 -- of a first element, of those behind it of which some come first, and of the rest
 in_children : {X : Type 0} (x : X) (front old new rest : List X) → IsPermutation old (front ++ new) → IsPermutation (x ∷ (old ++ rest)) (front ++ (x ∷ (new ++ rest)))
 in_children x front old new rest h =
     IsPermutation-trans (x ∷ (old ++ rest)) (x ∷ (front ++ (new ++ rest))) (front ++ (x ∷ (new ++ rest)))
     (IsPermutation-cons x (old ++ rest) (front ++ (new ++ rest)) (subst (IsPermutation (old ++ rest)) (append_assoc front new rest) (IsPermutation-append_left rest old (front ++ new) h)))
-    (to_front (x ∷ []) front (new ++ rest))
+    (pull (x ∷ []) front (new ++ rest))
 
 in_others : {X : Type 0} (x : X) (front children old new : List X) → IsPermutation old (front ++ new) → IsPermutation (x ∷ (children ++ old)) (front ++ (x ∷ (children ++ new)))
 in_others x front children old new h =
     IsPermutation-trans (x ∷ (children ++ old)) ((x ∷ children) ++ (front ++ new)) (front ++ (x ∷ (children ++ new)))
     (IsPermutation-cons x (children ++ old) (children ++ (front ++ new)) (IsPermutation-append_right children old (front ++ new) h))
-    (to_front (x ∷ children) front new)
+    (pull (x ∷ children) front new)
 
 pub tree_and_cut : {A : Type 0} (is : A → Bool) (f : Forest A) → passing is f ≤ 1 → has is f ≡ true → IsPermutation (nodes f) (branch is f ++ nodes (cut is f))
 tree_and_cut is Empty few h = absurd (false≢true h)
 tree_and_cut is (Node a c o) few h =
     elim (stand is a c o few h) [
-      | Here e p q ↦ rw (e, cut_none is o q) (one_list (a ∷ (nodes c ++ nodes o)) (a ∷ ((nodes c ++ []) ++ nodes o)) (ap (λ l. a ∷ (l ++ nodes o)) (sym (append-nil (nodes c)))))
+      | Here e p q ↦ rw (e, cut_none is o q) (perm_same (a ∷ (nodes c ++ nodes o)) (a ∷ ((nodes c ++ []) ++ nodes o)) (ap (λ l. a ∷ (l ++ nodes o)) (sym (append-nil (nodes c)))))
       | Below e p q ↦ rw (e, p, cut_none is o q) (in_children a (branch is c) (nodes c) (nodes (cut is c)) (nodes o) (tree_and_cut is c (few_below is a c o few) p))
       | Beside e p q ↦ rw (e, p, cut_none is c p) (in_others a (branch is o) (nodes c) (nodes o) (nodes (cut is o)) (tree_and_cut is o (few_beside is a c o few) q))
     ]

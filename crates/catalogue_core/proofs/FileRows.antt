@@ -14,6 +14,7 @@ use Rattle.atom_csv.specs.declared.cause.Cause.TheVariants as cause
 use Rattle.atom_csv.specs.declared.file.File.{File}
 use Rattle.atom_csv.specs.declared.file.Row.{Row}
 use Rattle.catalogue_core.proofs.EachOf.{none_found}
+use Rattle.catalogue_core.proofs.DistinctLists.{all_so}
 
 -- no two rows have one legacyId
 abbrev pub AreApartRows : List Row → Type 0
@@ -123,10 +124,6 @@ no_fault_cons header above fields rest e = at (fault_of header (line_at above fi
     at None h = (refl, h)
     at (Some fault) h = absurd (cc)
 
-all_more : {X : Type 0} (P Q : X → Type 0) → ((x : X) → P x → Q x) → (xs : List X) → AllByRecursion P xs → AllByRecursion Q xs
-all_more P Q f [] h = tt
-all_more P Q f (x ∷ xs) h = (f x h.0, all_more P Q f xs h.1)
-
 not_above_less : (header : Fields) (above : List Fields) (fields : Fields) (row : Row) → list_any (has_id header row.legacy) (above ++ fields ∷ []) ≡ false → (list_any (has_id header row.legacy) above ≡ false) × (bytes_eq (legacy header fields) row.legacy ≡ false)
 not_above_less header above fields row h =
     let r = or_parts (list_any (has_id header row.legacy) above) (bytes_eq (legacy header fields) row.legacy || false) (sym (list_any-append (has_id header row.legacy) above (fields ∷ [])) ∙ h) in
@@ -136,7 +133,7 @@ none_above : (header : Fields) (above rest : List Fields) → filter_map (fault_
 none_above header above [] f = tt
 none_above header above (fields ∷ rest) f =
     let x = no_fault_cons header above fields rest f in
-    let later = all_more (λ row. list_any (has_id header row.legacy) (above ++ fields ∷ []) ≡ false) (λ row. list_any (has_id header row.legacy) above ≡ false) (λ row h. (not_above_less header above fields row h).0) (filter_map (row_told header) (lines_below (above ++ fields ∷ []) rest)) (none_above header (above ++ fields ∷ []) rest x.1) in
+    let later = all_so (λ row. list_any (has_id header row.legacy) (above ++ fields ∷ []) ≡ false) (λ row. list_any (has_id header row.legacy) above ≡ false) (λ row h. (not_above_less header above fields row h).0) (filter_map (row_told header) (lines_below (above ++ fields ∷ []) rest)) (none_above header (above ++ fields ∷ []) rest x.1) in
     at (row_told header (line_at above fields)) refl x.0 later
   where
     at : (r : Option Row) → row_told header (line_at above fields) ≡ r → fault_of header (line_at above fields) ≡ None → AllByRecursion (λ row. list_any (has_id header row.legacy) above ≡ false) (filter_map (row_told header) (lines_below (above ++ fields ∷ []) rest)) → AllByRecursion (λ row. list_any (has_id header row.legacy) above ≡ false) (cons_option r (filter_map (row_told header) (lines_below (above ++ fields ∷ []) rest)))
@@ -153,7 +150,7 @@ apart_below header above (fields ∷ rest) f =
     at None e g k a = a
     at (Some row) e g k a =
         let t = tells header (line_at above fields) row g e in (
-          all_more (λ later. list_any (has_id header later.legacy) (above ++ fields ∷ []) ≡ false) (λ later. bytes_eq row.legacy later.legacy ≡ false)
+          all_so (λ later. list_any (has_id header later.legacy) (above ++ fields ∷ []) ≡ false) (λ later. bytes_eq row.legacy later.legacy ≡ false)
               (λ later h. subst (λ r. bytes_eq r.legacy later.legacy ≡ false) (sym t.is) (not_above_less header above fields later h).1)
               (filter_map (row_told header) (lines_below (above ++ fields ∷ []) rest)) k,
           a,

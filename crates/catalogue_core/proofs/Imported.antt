@@ -13,6 +13,8 @@ use Rattle.atom_csv.specs.declared.file.Row.{Row}
 use Rattle.catalogue_core.specs.Merging.{Catalogue, merge, merged, or_first, faults_below, numbered_from, is_known, merged_boxes}
 use Rattle.isad_core.specs.Boxes.{distinct, is_same as is_same_box}
 use Rattle.catalogue_core.specs.Intake.{Intake, take, take_rows, with_file}
+use Rattle.std.proofs.lemmas.List.Elements.{filter-append}
+use Rattle.std.proofs.Math.Bool.{and_comm}
 
 -- the rows of units that are not catalogued
 abbrev pub new_rows : Catalogue → Bytes → List Row → List Row
@@ -48,14 +50,6 @@ filter_keeps : {X : Type 0} (p : X → Bool) → ((x : X) → p x ≡ true) → 
 filter_keeps p h [] = refl
 filter_keeps p h (x ∷ xs) = ap (λ b. cond b (x ∷ filter p xs) (filter p xs)) (h x) ∙ ap (λ l. x ∷ l) (filter_keeps p h xs)
 
-filter_append : {X : Type 0} (p : X → Bool) (xs ys : List X) → filter p (xs ++ ys) ≡ filter p xs ++ filter p ys
-filter_append p [] ys = refl
-filter_append p (x ∷ xs) ys = at (p x) (filter_append p xs ys)
-  where
-    at : (b : Bool) → filter p (xs ++ ys) ≡ filter p xs ++ filter p ys → cond b (x ∷ filter p (xs ++ ys)) (filter p (xs ++ ys)) ≡ cond b (x ∷ filter p xs) (filter p xs) ++ filter p ys
-    at true e = ap (λ l. x ∷ l) e
-    at false e = e
-
 filter_both : {X : Type 0} (p q r : X → Bool) → ((x : X) → (p x && q x) ≡ r x) → (xs : List X) → filter p (filter q xs) ≡ filter r xs
 filter_both p q r h [] = refl
 filter_both p q r h (x ∷ xs) = at (p x) (q x) (r x) refl (h x) (filter_both p q r h xs)
@@ -75,7 +69,7 @@ distinct_append [] ys = sym (filter_keeps (λ b. true) (λ b. refl) (distinct ys
 distinct_append (x ∷ xs) ys =
     ap (λ l. x ∷ l)
     (ap (filter (λ later. not (is_same_box x later))) (distinct_append xs ys)
-    ∙ (filter_append (λ later. not (is_same_box x later)) (distinct xs) (filter (λ b. not (list_any (λ x. is_same_box x b) xs)) (distinct ys))
+    ∙ (filter-append (λ later. not (is_same_box x later)) (distinct xs) (filter (λ b. not (list_any (λ x. is_same_box x b) xs)) (distinct ys))
     ∙ ap (λ l. filter (λ later. not (is_same_box x later)) (distinct xs) ++ l)
     (filter_both (λ later. not (is_same_box x later)) (λ b. not (list_any (λ x. is_same_box x b) xs)) (λ b. not (is_same_box x b || list_any (λ x. is_same_box x b) xs)) (λ b. or_not (is_same_box x b) (list_any (λ x. is_same_box x b) xs)) (distinct ys))))
 
@@ -105,12 +99,6 @@ and_twice : (b : Bool) → (b && b) ≡ b
 and_twice true = refl
 and_twice false = refl
 
-and_swap : (a b : Bool) → (a && b) ≡ (b && a)
-and_swap true true = refl
-and_swap true false = refl
-and_swap false true = refl
-and_swap false false = refl
-
 -- what a test keeps, it keeps of one of several equal ones too
 kept_alone : (p : BoxKey → Bool) (y b : BoxKey) → p y ≡ false → (p b && not (is_same_box y b)) ≡ p b
 kept_alone p y b e = at (is_same_box y b) refl
@@ -132,7 +120,7 @@ distinct_filter p (y ∷ ys) = at (p y) refl (distinct_filter p ys)
         ap (λ l. y ∷ l)
         (ap (filter (λ later. not (is_same_box y later))) ih
         ∙ (filter_both (λ later. not (is_same_box y later)) p (λ b. not (is_same_box y b) && p b) (λ b. refl) (distinct ys)
-        ∙ sym (filter_both p (λ later. not (is_same_box y later)) (λ b. not (is_same_box y b) && p b) (λ b. and_swap (p b) (not (is_same_box y b))) (distinct ys))))
+        ∙ sym (filter_both p (λ later. not (is_same_box y later)) (λ b. not (is_same_box y b) && p b) (λ b. and_comm (p b) (not (is_same_box y b))) (distinct ys))))
     at false e ih = ih ∙ sym (filter_both p (λ later. not (is_same_box y later)) p (λ b. kept_alone p y b e) (distinct ys))
 
 -- the containers are still distinct

@@ -1,7 +1,7 @@
 -- A value that is found above is that of the nearest unit that has one.
-use Rattle.std.proofs.Common.{◌≡◌, ℕ, Bool, true, false, cond, ◌||◌, List, [], ◌∷◌, ◌++◌, map, Option, Some, None, refl, sym, ap, ap₂, ◌∙◌, subst, inl, inr, ◌⊎◌, append_assoc}
+use Rattle.std.proofs.Common.{◌≡◌, ℕ, Bool, true, false, cond, ◌||◌, List, [], ◌∷◌, ◌++◌, map, Some, None, refl, sym, ap, ap₂, ◌∙◌, subst, inl, inr, append_assoc}
 use Rattle.std.specs.Prelude.{filter_map, is_some}
-use Rattle.std.specs.List.{cons_option, list_any, AllByRecursion}
+use Rattle.std.specs.List.{list_any, AllByRecursion}
 use Rattle.std.proofs.lemmas.Bool.{false≢true}
 use Rattle.std.proofs.lemmas.List.{map-append}
 use Rattle.isad_core.specs.Codes.{code_of}
@@ -17,30 +17,10 @@ use Rattle.catalogue_core.specs.NearestValues.{has_value, IsNearestValue, LinesA
 use Rattle.catalogue_core.proofs.EachOf.{all_append}
 use Rattle.catalogue_core.proofs.PublishedUnits.{before_last-push}
 use Rattle.catalogue_core.proofs.PublicPaths.{IsTold, stand, told_above}
-use Rattle.catalogue_core.proofs.PageUnits.{there_where_shown}
-
-by_option : {X : Type 0} (o : Option X) → (o ≡ None) ⊎ ((x : X) × (o ≡ Some x))
-by_option None = inl refl
-by_option (Some x) = inr (x, refl)
-
-some_same : {X : Type 0} (x y : X) → Some x ≡ Some y → x ≡ y
-some_same x y e = cc
-
-all_made : {X Y : Type 0} (P : Y → Type 0) (f : X → Option Y) → ((x : X) (y : Y) → f x ≡ Some y → P y) → (xs : List X) → AllByRecursion P (filter_map f xs)
-all_made P f h [] = tt
-all_made P f h (x ∷ xs) = at (f x) (h x) (all_made P f h xs)
-  where
-    at : (o : Option _) → ((y : _) → o ≡ Some y → P y) → AllByRecursion P (filter_map f xs) → AllByRecursion P (cons_option o (filter_map f xs))
-    at None k rest = rest
-    at (Some y) k rest = (k y refl, rest)
+use Rattle.catalogue_core.proofs.PageUnits.{there_where_shown, by_option, all_made, AtPlace}
+use Rattle.std.proofs.lemmas.Option.{same_Some}
 
 -- ---- the units of a path, the lowest first, each with all that stand below it
-
-record AtPlace (at : Repository) (way below : List PublicUnit) (unit : Coded) : Type 0 where
-  above : List PublicUnit
-  id : ℕ
-  stands : way ≡ above ++ Told id unit.values ∷ below
-  code : unit.code ≡ code_of at.country at.repo (map identifier_of (above ++ Told id unit.values ∷ []))
 
 abbrev Chained : Repository → List PublicUnit → List PublicUnit → List Coded → Type 0
 Chained at way below [] = way ≡ below
@@ -70,7 +50,7 @@ nearest at way element next below (unit ∷ higher) a c h line e = elim (by_opti
       let is = s.1 in
       let k : Some (element, s.0, Some unit.code) ≡ Some line = rw is at e in
       let p = c.0 in
-      subst (IsNearestValue at way) (some_same (element, s.0, Some unit.code) line k)
+      subst (IsNearestValue at way) (same_Some (element, s.0, Some unit.code) line k)
       (record { above = p.above; id = p.id; values = unit.values; below = next ∷ below; stands = p.stands; text = is; named = ap Some p.code; nearest = h; found = inr a })
 ]
 
@@ -81,7 +61,7 @@ line_nearest at way head higher c element line e = elim (by_option (text_of elem
       let is = s.1 in
       let k : Some (element, s.0, None) ≡ Some line = rw is at e in
       let p = c.0 in
-      subst (IsNearestValue at way) (some_same (element, s.0, None) line k)
+      subst (IsNearestValue at way) (same_Some (element, s.0, None) line k)
       (record { above = p.above; id = p.id; values = head.values; below = []; stands = p.stands; text = is; named = refl; nearest = refl; found = inl refl })
 ]
   where
@@ -91,22 +71,19 @@ line_nearest at way head higher c element line e = elim (by_option (text_of elem
 
 -- ---- the page
 
-same_page : (a b : Page) → Some a ≡ Some b → a ≡ b
-same_page a b e = cc
-
 way_chained : (press : Press) (above : List PublicUnit) (unit : PublicUnit) → AllByRecursion IsTold above → IsTold unit → (head : Coded) × (rest : List Coded) × (coded press (above ++ unit ∷ []) ≡ head ∷ rest) × Chained press.at (above ++ unit ∷ []) [] (head ∷ rest)
 way_chained press [] unit a t = chained press (unit ∷ []) [] [] unit [] refl (t, tt) refl
 way_chained press (top ∷ above) unit a t = chained press (top ∷ (above ++ unit ∷ [])) [] [] top (above ++ unit ∷ []) refl (a.0, all_append IsTold above (unit ∷ []) a.1 (t, tt)) refl
 
 page_at_nearest : (press : Press) (above : List PublicUnit) (unit : PublicUnit) (below : Forest PublicUnit) (shown : Page) → AllByRecursion IsTold above → page_at press (above ++ unit ∷ []) (Node unit below Empty) ≡ Some shown → AllByRecursion (IsNearestValue press.at (above ++ unit ∷ [])) shown.lines
 page_at_nearest press above (Stub id identifier level until) below shown a e =
-    subst (λ (page : Page). AllByRecursion (IsNearestValue press.at (above ++ Stub id identifier level until ∷ [])) page.lines) (same_page _ shown e) tt
+    subst (λ (page : Page). AllByRecursion (IsNearestValue press.at (above ++ Stub id identifier level until ∷ [])) page.lines) (same_Some _ shown e) tt
 page_at_nearest press above (Told id values) below shown a e =
     let way : List PublicUnit = above ++ Told id values ∷ [] in
     let it = way_chained press above (Told id values) a refl in
     let lines = subst (λ units. AllByRecursion (IsNearestValue press.at way) (filter_map (page_line units) line_elements)) (sym it.2)
     (all_made (IsNearestValue press.at way) (page_line (it.0 ∷ it.1)) (line_nearest press.at way it.0 it.1 it.3) line_elements) in
-    subst (λ (page : Page). AllByRecursion (IsNearestValue press.at way) page.lines) (same_page _ shown e) lines
+    subst (λ (page : Page). AllByRecursion (IsNearestValue press.at way) page.lines) (same_Some _ shown e) lines
 
 pub lines_are_nearest : LinesAreNearest
 lines_are_nearest press day f u shown e =

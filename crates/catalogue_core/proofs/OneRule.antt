@@ -13,15 +13,12 @@ use Rattle.catalogue_core.specs.Pages.{before_last}
 use Rattle.catalogue_core.specs.Publishing.{PublicUnit, public_unit, public_of, stub_of}
 use Rattle.catalogue_core.specs.OneRule.{is_told, told_whole, told_as_stub, is_public, is_closed_alone, TellsWhatIsOpen, StubsWhatIsClosed}
 use Rattle.catalogue_core.proofs.PublishedUnits.{before_last-push, last_of-push}
+use Rattle.std.proofs.Math.Bool.{or-false}
 
 -- ---- lists and truths
 
-or_false : (b : Bool) → (b || false) ≡ b
-or_false true = refl
-or_false false = refl
-
 pub pushed : (p : Unit → Bool) (w : List Unit) (u : Unit) → list_any p (w ++ u ∷ []) ≡ (list_any p w || p u)
-pushed p w u = list_any-append p w (u ∷ []) ∙ ap (λ b. list_any p w || b) (or_false (p u))
+pushed p w u = list_any-append p w (u ∷ []) ∙ ap (λ b. list_any p w || b) (or-false (p u))
 
 still : (a b c d : Bool) → (a || c) ≡ true → ((a || b) || (c || d)) ≡ true
 still true b c d h = refl

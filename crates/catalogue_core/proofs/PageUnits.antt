@@ -25,17 +25,15 @@ use Rattle.catalogue_core.proofs.EachOf.{all_append}
 use Rattle.catalogue_core.proofs.OneRule.{public_is}
 use Rattle.catalogue_core.proofs.PublishedUnits.{before_last-push}
 use Rattle.catalogue_core.proofs.PublicPaths.{IsTold, stand, nowhere, known_of, told_above, known_path}
+use Rattle.std.proofs.lemmas.Option.{same_Some}
 
 -- ---- options
 
-by_option : {X : Type 0} (o : Option X) → (o ≡ None) ⊎ ((x : X) × (o ≡ Some x))
+pub by_option : {X : Type 0} (o : Option X) → (o ≡ None) ⊎ ((x : X) × (o ≡ Some x))
 by_option None = inl refl
 by_option (Some x) = inr (x, refl)
 
-some_same : {X : Type 0} (x y : X) → Some x ≡ Some y → x ≡ y
-some_same x y e = cc
-
-all_made : {X Y : Type 0} (P : Y → Type 0) (f : X → Option Y) → ((x : X) (y : Y) → f x ≡ Some y → P y) → (xs : List X) → AllByRecursion P (filter_map f xs)
+pub all_made : {X Y : Type 0} (P : Y → Type 0) (f : X → Option Y) → ((x : X) (y : Y) → f x ≡ Some y → P y) → (xs : List X) → AllByRecursion P (filter_map f xs)
 all_made P f h [] = tt
 all_made P f h (x ∷ xs) = at (f x) (h x) (all_made P f h xs)
   where
@@ -45,11 +43,11 @@ all_made P f h (x ∷ xs) = at (f x) (h x) (all_made P f h xs)
 
 -- ---- the units of a path, the lowest first, each at its place
 
-record AtPlace (at : Repository) (way below : List PublicUnit) (unit : Coded) : Type 0 where
-  above : List PublicUnit
-  id : ℕ
-  stands : way ≡ above ++ Told id unit.values ∷ below
-  code : unit.code ≡ code_of at.country at.repo (map identifier_of (above ++ Told id unit.values ∷ []))
+pub record AtPlace (at : Repository) (way below : List PublicUnit) (unit : Coded) : Type 0 where
+  pub above : List PublicUnit
+  pub id : ℕ
+  pub stands : way ≡ above ++ Told id unit.values ∷ below
+  pub code : unit.code ≡ code_of at.country at.repo (map identifier_of (above ++ Told id unit.values ∷ []))
 
 abbrev IsHigher : Repository → List PublicUnit → Coded → Type 0
 IsHigher at way unit = (next : PublicUnit) × (below : List PublicUnit) × AtPlace at way (next ∷ below) unit
@@ -96,7 +94,7 @@ nearest_told at way element (unit ∷ units) h line e = elim (by_option (text_of
   | inr s ↦
       let is = s.1 in
       let k : Some (element, s.0, Some unit.code) ≡ Some line = rw is at e in
-      subst (LineIsTold at way) (some_same (element, s.0, Some unit.code) line k) (record { values = unit.values; of_unit = higher_told at way unit h.0; text = is })
+      subst (LineIsTold at way) (same_Some (element, s.0, Some unit.code) line k) (record { values = unit.values; of_unit = higher_told at way unit h.0; text = is })
 ]
 
 line_told : (at : Repository) (way : List PublicUnit) (head : Coded) (higher : List Coded) → AtPlace at way [] head → AllByRecursion (IsHigher at way) higher → (element : Element) (line : PageLine) → page_line (head ∷ higher) element ≡ Some line → LineIsTold at way line
@@ -105,7 +103,7 @@ line_told at way head higher p h element line e = elim (by_option (text_of eleme
   | inr s ↦
       let is = s.1 in
       let k : Some (element, s.0, None) ≡ Some line = rw is at e in
-      subst (LineIsTold at way) (some_same (element, s.0, None) line k) (record { values = head.values; of_unit = own_told at way head p; text = is })
+      subst (LineIsTold at way) (same_Some (element, s.0, None) line k) (record { values = head.values; of_unit = own_told at way head p; text = is })
 ]
   where
     found : (b : Bool) → cond b (nearest_value element higher) None ≡ Some line → LineIsTold at way line
@@ -129,17 +127,14 @@ nearest_boxes_told press way (unit ∷ units) h = or_told press way (Some unit.c
 abbrev pub AreTold : Press → List PublicUnit → Page → Type 0
 AreTold press way shown = AllByRecursion (LineIsTold press.at way) shown.lines × AllByRecursion (BoxIsTold press way) shown.boxes
 
-same_page : (a b : Page) → Some a ≡ Some b → a ≡ b
-same_page a b e = cc
-
 page_at_told : (press : Press) (above : List PublicUnit) (unit : PublicUnit) (below : Forest PublicUnit) (shown : Page) → AllByRecursion IsTold above → page_at press (above ++ unit ∷ []) (Node unit below Empty) ≡ Some shown → AreTold press (above ++ unit ∷ []) shown
-page_at_told press above (Stub id identifier level until) below shown a e = subst (AreTold press (above ++ Stub id identifier level until ∷ [])) (same_page _ shown e) (tt, tt)
+page_at_told press above (Stub id identifier level until) below shown a e = subst (AreTold press (above ++ Stub id identifier level until ∷ [])) (same_Some _ shown e) (tt, tt)
 page_at_told press above (Told id values) below shown a e =
     let way : List PublicUnit = above ++ Told id values ∷ [] in
     let it = coded_way press above (Told id values) a refl in
     let lines = subst (λ units. AllByRecursion (LineIsTold press.at way) (filter_map (page_line units) line_elements)) (sym it.are) (all_made (LineIsTold press.at way) (page_line (it.head ∷ it.higher)) (line_told press.at way it.head it.higher it.own it.theirs) line_elements) in
     let boxes = subst (λ units. AllByRecursion (BoxIsTold press way) (boxes_on_page press units)) (sym it.are) (or_told press way None it.head.values (own_told press.at way it.head it.own) it.head.values.boxes (λ b k. k) (nearest_boxes press it.higher) (nearest_boxes_told press way it.higher it.theirs)) in
-    subst (AreTold press way) (same_page _ shown e) (lines, boxes)
+    subst (AreTold press way) (same_Some _ shown e) (lines, boxes)
 
 pub there_where_shown : (press : Press) (u : ℕ) (f : Forest PublicUnit) (shown : Page) → page_of press u f ≡ Some shown → has (is_numbered u) f ≡ true
 there_where_shown press u f shown e = elim (cases_Bool (has (is_numbered u) f)) [
@@ -194,7 +189,7 @@ near_housed press day ids higher (unit ∷ way) h =
 
 boxes_of_page : (press : Press) (way : List PublicUnit) (unit : PublicUnit) (below : Forest PublicUnit) (shown : Page) → IsTold unit → page_at press way (Node unit below Empty) ≡ Some shown → shown.boxes ≡ boxes_on_page press (coded press way)
 boxes_of_page press way (Stub id identifier level until) below shown t e = absurd (false≢true t)
-boxes_of_page press way (Told id values) below shown t e = sym (ap (λ (p : Page). p.boxes) (same_page _ shown e))
+boxes_of_page press way (Told id values) below shown t e = sym (ap (λ (p : Page). p.boxes) (same_Some _ shown e))
 
 -- the last of a path that is open is told
 last_told : (day : ℤ) (way : List Unit) (above : List PublicUnit) (unit : PublicUnit) → list_any (is_closed day) way ≡ false → map (known_of day) way ≡ above ++ unit ∷ [] → IsTold unit

@@ -4,7 +4,7 @@ ghost use Rattle.std.specs.Prelude.{◌≡◌};
 ghost use Rattle.std.specs.List.{list_all};
 ghost use Rattle.catalogue_core.specs.Sources.{is_source as is_source_name, is_source_letter as may_stand};
 
-/// An ASCII letter, a digit, a dot, a low line or a hyphen.
+/// An ASCII letter, a digit, a dot, an underscore or a hyphen.
 fn is_source_letter(b: u8) -> bool
     ensures { result ≡ may_stand b }
 {

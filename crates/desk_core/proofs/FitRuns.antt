@@ -20,8 +20,9 @@ use Rattle.desk_core.specs.declared.consistency.rows.RunRow.{RunRow}
 use Rattle.desk_core.specs.declared.consistency.tally.Tally.{Tally}
 use Rattle.desk_core.proofs.Counts.{count_agree, count_map}
 use Rattle.desk_core.proofs.NumberedRows.{has_number, numbered_map, own_number}
-use Rattle.desk_core.proofs.Tests.{all_agree, and_flips, and_same, and_then}
+use Rattle.desk_core.proofs.Tests.{all_agree, and_same, and_then}
 use Rattle.desk_core.proofs.FitHoldings.{order_there}
+use Rattle.std.proofs.Math.Bool.{and_comm}
 
 module _ (a : causes.Around) (d : desk.Desk) (orders : List OrderRow) (e : d.orders ≡ map order_row orders) (numbered : are_numbered_from (λ (row : OrderRow). row.id) 1 orders ≡ true)
     (runs : List RunRow) (f : d.runs ≡ map run_row runs) (lines : List RunLineRow) (g : d.run_lines ≡ map run_line_row lines) where
@@ -50,7 +51,7 @@ module _ (a : causes.Around) (d : desk.Desk) (orders : List OrderRow) (e : d.ord
   runs_told =
       and_then (are_numbered_from (λ (row : desk.RunRow). row.id) 1 d.runs) (are_numbered_from (λ n. n) 1 (map (λ (row : RunRow). row.id) runs)) _ _ (sym numbers_told)
       (λ t. and_same (nat_le (length d.runs) most_runs) (nat_le (length runs) most_runs) _ _ (ap (λ n. nat_le n most_runs) long)
-      (and_flips (list_all (causes.is_good_run a d) d.runs) (list_all (causes.is_good_line d) d.run_lines) ∙ ap (λ b. b && list_all (causes.is_good_run a d) d.runs) (lines_told t)))
+      (and_comm (list_all (causes.is_good_run a d) d.runs) (list_all (causes.is_good_line d) d.run_lines) ∙ ap (λ b. b && list_all (causes.is_good_run a d) d.runs) (lines_told t)))
       ∙ three (are_numbered_from (λ n. n) 1 (map (λ (row : RunRow). row.id) runs)) (nat_le (length runs) most_runs) (list_all (is_fit_line orders (length runs)) lines) _
     where
       three : (n l t x : Bool) → (n && (l && (t && x))) ≡ ((n && (l && t)) && x)

@@ -6,6 +6,7 @@ use Rattle.std.proofs.lemmas.Bool.{and_parts, and_left, or_from, eqb-true, eq-eq
 use Rattle.isad_core.specs.Words.{are_numbered_from, is_between, some_and}
 use Rattle.tree_core.proofs.Lists.{In}
 use Rattle.desk_core.proofs.Counts.{count_cons, count_none}
+use Rattle.std.proofs.Math.Bool.{or-false}
 
 -- the row with this number
 abbrev pub nth : {R : Type 0} → List R → ℕ → Option R
@@ -20,10 +21,6 @@ nth_suc rows j =
 pub numbered_map : {R S : Type 0} (key : S → ℕ) (f : R → S) (n : ℕ) (rows : List R) → are_numbered_from key n (map f rows) ≡ are_numbered_from (λ r. key (f r)) n rows
 numbered_map key f n [] = refl
 numbered_map key f n (x ∷ xs) = ap (λ b. nat_eq (key (f x)) n && b) (numbered_map key f (suc n) xs)
-
-or_none : (b : Bool) → (b || false) ≡ b
-or_none true = refl
-or_none false = refl
 
 module _ {R : Type 0} (key : R → ℕ) where
   none_below : (p : R → Bool) (n : ℕ) (rows : List R) (c : ℕ) → are_numbered_from key n rows ≡ true → c < n → list_any (λ r. nat_eq (key r) c && p r) rows ≡ false
@@ -42,7 +39,7 @@ module _ {R : Type 0} (key : R → ℕ) where
       let z : n + 0 ≡ n = omega arith in
       subst (λ m. list_any (λ r. nat_eq (key r) m && p r) (x ∷ xs) ≡ p x) (sym z)
       (ap (λ b. (b && p x) || list_any (λ r. nat_eq (key r) n && p r) xs) both.0
-      ∙ (ap (λ b. p x || b) (none_below p (suc n) xs n both.1 (omega arith)) ∙ or_none (p x)))
+      ∙ (ap (λ b. p x || b) (none_below p (suc n) xs n both.1 (omega arith)) ∙ or-false (p x)))
   any_from p n (x ∷ xs) (suc j) h =
       let both = and_parts (nat_eq (key x) n) (are_numbered_from key (suc n) xs) h in
       let k = eqb-true (key x) n both.0 in

@@ -17,12 +17,6 @@ and_then false b x y e f = ap (λ v. v && y) e
 pub or_same : (a b x y : Bool) → a ≡ b → x ≡ y → (a || x) ≡ (b || y)
 or_same a b x y e f = ap (λ v. v || x) e ∙ ap (λ v. b || v) f
 
-pub and_flips : (a b : Bool) → (a && b) ≡ (b && a)
-and_flips true true = refl
-and_flips true false = refl
-and_flips false true = refl
-and_flips false false = refl
-
 pub not_or : (a b : Bool) → not (a || b) ≡ (not a && not b)
 not_or true b = refl
 not_or false b = refl

@@ -20,8 +20,8 @@ pub struct AtDesk {
     pub is_open: bool,
 }
 
-/// May the container be given to the ticket? No container is one that is not known; no reader is a
-/// ticket that was not given, which can be first for nothing.
+/// May the container be given to the ticket? `container` is none where it is not known, and `reader` is
+/// none where the ticket was not given: such a ticket is first for nothing.
 pub fn may_issue(
     container: Option<&AtDesk>,
     ticket: u64,

@@ -14,7 +14,7 @@ ghost use Rattle.http_desk.specs.Sending.{Sends};
 ghost use Rattle.http_desk.specs.Session.{leave_if, most_answers};
 ghost use Rattle.http_desk.specs.Streams.{most_reads};
 ghost use Rattle.http_desk.specs.Talking.{Turn, Through, Exchange, Talks, TalksWhole, AtEndIf, IsNoEnd};
-ghost use Rattle.http_desk.specs.Talking.{Refused, Replies, after_answer, after_sending};
+ghost use Rattle.http_desk.specs.Talking.{Refused, Replies, after_sending};
 ghost use Rattle.http_desk.specs.Quiet.{FlushesAll, IsFlushed, IsQuiet, NoBound, NoWriteBound};
 ghost use Rattle.http_desk.specs.Quiet.{TellsReadFault, TellsWriteFault};
 ghost use Rattle.http_desk.specs.Quiet.{TakesCalls, TakesTurns, send_failed};
@@ -35,7 +35,7 @@ use std::io::{Read, Write};
 /// How many messages are answered.
 const ANSWERS: u32 = 10_000;
 
-/// What comes after a sending.
+/// What comes next, by how the sending of an answer ended.
 fn after(sent: Sent, next: Next) -> Next
     ensures { result ≡ after_sending sent next }
 {
@@ -207,7 +207,7 @@ fn receive<R: Read, W: Write, M: Machine>(
     }
 }
 
-/// One message's place.
+/// Reads one message, answers it, and says what comes next.
 fn exchange<R: Read, W: Write, M: Machine>(
     means: &Means,
     reader: &mut Source<'_, R>,

@@ -34,7 +34,7 @@ pub struct Head {
     pub closes: bool,
 }
 
-/// What a head is worth.
+/// The verdict on a head.
 #[derive(Clone, Copy, Debug, PartialEq, Eq)]
 pub enum Judged {
     /// It is answered so; and whether it is a HEAD.
@@ -402,7 +402,7 @@ fn weigh_fields(block: &[u8], fields: &[HeaderSpan], line: Line) -> Judged
     }
 }
 
-/// What a block is worth.
+/// The verdict on the bytes of a head.
 pub fn judge(block: &[u8]) -> Judged
     ensures judged { Judges block.now (verdict_in block.now result) }
     ensures fit { IsFit block.now result }

@@ -67,7 +67,7 @@ pub struct Routes {
     ghost holds: { router ≡ table },
 }
 
-/// What stands after that beginning of a path.
+/// The rest of a path behind this beginning, where it begins so.
 fn after<'p>(beginning: &[u8], path: &'p [u8]) -> Option<&'p [u8]>
     ensures { option_map (λ r. r.now) result ≡ spec.after beginning.now path.now }
 {
@@ -157,7 +157,7 @@ fn name_in(bytes: &[u8]) -> Option<&str>
     }
 }
 
-/// What a path leads to that ends so.
+/// What a path with this ending leads to, where `rest` is a number or a name as it has to be.
 fn made(ending: Ending, rest: &[u8]) -> Option<Route<'_>>
     ensures { option_map route_in result ≡ makes ending rest.now }
 {
@@ -193,7 +193,7 @@ fn made(ending: Ending, rest: &[u8]) -> Option<Route<'_>>
     }
 }
 
-/// What a path begins with that ends so.
+/// What a path with this ending begins with.
 fn beginning(ending: Ending) -> &'static [u8]
     ensures { result.now ≡ beginning ending }
 {
@@ -208,7 +208,7 @@ fn beginning(ending: Ending) -> &'static [u8]
     }
 }
 
-/// What the path leads to, where it ends so.
+/// What the path leads to, where it has this ending.
 fn ended(ending: Ending, path: &[u8]) -> Option<Route<'_>>
     ensures { option_map route_in result ≡ option_and_then (makes ending) (spec.after (beginning ending) path.now) }
 {
