@@ -1,7 +1,6 @@
 -- A permit that is granted, in the rows of the desk.
 use Rattle.std.proofs.Common.{◌≡◌, ℕ, ℤ, ◌<◌, pos, Bool, true, false, not, cond, ◌&&◌, ◌||◌, nat_eq, List, [], ◌∷◌, length, map, Some, None, Ok, Less, inl, inr, refl, sym, ap, subst, ◌∙◌, arith}
 use Rattle.std.specs.Prelude.{find, int_lt, is_some, nat_le, option_map}
-use Rattle.std.specs.Cmp.{IsTotalOrder, int_cmp_total, on_total}
 use Rattle.std.specs.List.{AllByRecursion, list_any}
 use Rattle.std.specs.List.Sorted.{IsPermutation}
 use Rattle.std.specs.Ordering.{int_cmp}
@@ -44,13 +43,10 @@ use Rattle.office_tables.proofs.numbered.Counted.{below_less}
 use Rattle.refinement.specs.CommandSteps.{CarriesOutStep}
 use Rattle.refinement.specs.Represents.{RepresentsState}
 use Rattle.refinement.proofs.CommandSteps.{accepts}
-use Rattle.refinement.proofs.PermitsShown.{granted_rows, permits_reordered, permits_shown, told_of}
+use Rattle.refinement.proofs.PermitsShown.{granted_rows, permits_reordered, permits_shown, told_of, by_unit_total}
 use Rattle.desk_commands.specs.Permitting.{MayPermit, later_of, until_for}
 
 -- ---- the permits that are read
-
-by_unit_total : IsTotalOrder by_unit
-by_unit_total = on_total (λ (p : Told). pos p.unit) int_cmp_total
 
 all_above : (n : ℕ) (ps : List Permit) → AllByRecursion (λ (q : Permit). n < q.unit) ps → AllByRecursion (λ (y : Told). int_cmp (pos n) (pos y.unit) ≡ Less) (map told_of ps)
 all_above n [] above = tt

@@ -24,6 +24,7 @@ use Rattle.state_encoding.proofs.NumberedRows.{in_rows}
 use Rattle.state_encoding.proofs.TableLaws.{reads_back}
 use Rattle.refinement.proofs.OrderRows.{waits_by_row}
 use Rattle.tree_core.specs.Versions.{Version}
+use Rattle.std.proofs.Math.Bool.{and_comm}
 
 -- ---- a container without a row is on the shelf
 
@@ -83,12 +84,6 @@ any_kept test f p (x ∷ xs) = at (test x) (any_kept test f p xs)
     at true rest = ap (λ b. p (f x) || b) rest
     at false rest = rest
 
-swapped : (a b : Bool) → (a && b) ≡ (b && a)
-swapped true true = refl
-swapped true false = refl
-swapped false true = refl
-swapped false false = refl
-
 module _ (version : Version) (s : State) (sound : IsSoundOffice s) where
   -- a row is that of the first order for its container
   first_by_rows : (row : OrderRow) → StandsIn row (order_rows s) → is_first (tables version s).desk row ≡ some_and (nat_eq row.id) (first (s.queue row.container))
@@ -101,7 +96,7 @@ module _ (version : Version) (s : State) (sound : IsSoundOffice s) where
       ∙ ap (λ b. stands row.id (s.queue row.container) && not b)
       (any_same (λ (other : OrderRow). waits_for row.container other && nat_lt other.id row.id) (λ (other : OrderRow). (nat_eq other.container row.container && nat_eq other.state 1) && nat_lt other.id row.id) (order_rows s)
       (λ other. ap (λ b. b && nat_lt other.id row.id)
-      (swapped (nat_eq 1 other.state) (nat_eq row.container other.container) ∙ ap (λ b. b && nat_eq 1 other.state) (flipped row.container other.container) ∙ ap (λ b. nat_eq other.container row.container && b) (flipped 1 other.state)))
+      (and_comm (nat_eq 1 other.state) (nat_eq row.container other.container) ∙ ap (λ b. b && nat_eq 1 other.state) (flipped row.container other.container) ∙ ap (λ b. nat_eq other.container row.container && b) (flipped 1 other.state)))
       ∙ sym (any_kept (λ (other : OrderRow). nat_eq other.container row.container && nat_eq other.state 1) (λ (other : OrderRow). other.id) (λ n. nat_lt n row.id) (order_rows s))
       ∙ ap (λ (queue : ℕ → List ℕ). list_any (λ n. nat_lt n row.id) (queue row.container)) (reads_back s sound.sound.desk).queues)
       ∙ sym (least_first row.id (s.queue row.container) (sound.sound.desk.filed.queues row.container))

@@ -29,10 +29,7 @@ use Rattle.refinement.specs.CommandSteps.{CarriesOutStep}
 use Rattle.refinement.specs.Represents.{RepresentsState}
 use Rattle.refinement.proofs.DeskSteps.{desk_step}
 use Rattle.refinement.proofs.Doings.{accepted, refused}
-use Rattle.refinement.proofs.RowsOfLists.{found_row}
-
-other : (n j : ℕ) → nat_eq (n + suc j) n ≡ false
-other n j = grind (arith, nat_tests)
+use Rattle.refinement.proofs.RowsOfLists.{found_row, other}
 
 before : (n t : ℕ) → t < n → nat_eq t n ≡ false
 before n t less = grind (arith, nat_tests, less)

@@ -39,14 +39,9 @@ use Rattle.refinement.proofs.CommandSteps.{accepts, refuses}
 use Rattle.refinement.proofs.HoldingRows.{rows_of}
 use Rattle.desk_commands.specs.Moving.{with_all_placed}
 use Rattle.desk_commands.proofs.MovedAll.{AreWithin, all_moved, rows_stay}
+use Rattle.std.proofs.Math.Bool.{and_comm}
 
 -- ---- whether an order waits for a container
-
-swapped : (a b : Bool) → (a && b) ≡ (b && a)
-swapped true true = refl
-swapped true false = refl
-swapped false true = refl
-swapped false false = refl
 
 none_kept : {X Y : Type 0} (test : X → Bool) (f : X → Y) (xs : List X) → is_empty (map f (filter test xs)) ≡ not (list_any test xs)
 none_kept test f [] = refl
@@ -59,7 +54,7 @@ none_kept test f (x ∷ xs) = at (test x) (none_kept test f xs)
 pub awaited : (s : State) → IsSoundOffice s → (c : ℕ) → not (list_any (waits_for c) (order_rows s)) ≡ is_empty (s.queue c)
 awaited s sound c =
     ap not (any_same (waits_for c) (λ (row : OrderRow). nat_eq row.container c && nat_eq row.state 1) (order_rows s)
-    (λ row. swapped (nat_eq 1 row.state) (nat_eq c row.container) ∙ ap (λ b. b && nat_eq 1 row.state) (flipped c row.container) ∙ ap (λ b. nat_eq row.container c && b) (flipped 1 row.state)))
+    (λ row. and_comm (nat_eq 1 row.state) (nat_eq c row.container) ∙ ap (λ b. b && nat_eq 1 row.state) (flipped c row.container) ∙ ap (λ b. nat_eq row.container c && b) (flipped 1 row.state)))
     ∙ sym (none_kept (λ (row : OrderRow). nat_eq row.container c && nat_eq row.state 1) (λ (row : OrderRow). row.id) (order_rows s))
     ∙ ap (λ (queue : ℕ → List ℕ). is_empty (queue c)) (reads_back s sound.sound.desk).queues
 

@@ -3,7 +3,7 @@ use Rattle.std.proofs.Common.{◌≡◌, ◌≢◌, ℕ, zero, suc, ◌<◌, ◌
 use Rattle.std.proofs.Math.Path.{fun_ext}
 use Rattle.std.specs.Prelude.{nat_eq, is_some, option_map, filter, filter_map, take}
 use Rattle.std.specs.List.{list_any, AllByRecursion, cons_option}
-use Rattle.std.proofs.lemmas.Bool.{eqb-true, cases_eq, false≢true, and_parts, or_cases}
+use Rattle.std.proofs.lemmas.Bool.{eqb-true, cases_eq, false≢true, and_parts, or_cases, or_right}
 use Rattle.office_core.specs.Words.{numbered, numbers_to, some_and, stands, without, first, is_empty}
 use Rattle.desk_core.specs.declared.reader.Place.TheVariants.{Shelf, Desk, Out}
 use Rattle.desk_core.specs.declared.reader.Place.{Place}
@@ -158,10 +158,6 @@ container-push s order p ne = ap (option_map (λ r. r.container)) (numbered-push
 pub next_is_none : (s : State) → container_of s (suc (length s.orders)) ≡ None
 next_is_none s = ap (option_map (λ r. r.container)) (numbered_past s.orders (suc (length s.orders)) (omega arith))
 
-or_here : (a b : Bool) → b ≡ true → (a || b) ≡ true
-or_here true b e = refl
-or_here false b e = e
-
 or_not : (a b : Bool) → b ≡ false → (a || b) ≡ a
 or_not true b e = refl
 or_not false b e = e
@@ -182,7 +178,7 @@ is_ordered s t c f =
     let x = no_order (container_of s n) (λ k. stands n (s.queue k)) (λ k. is_out_for n (s.place k)) (s.past n) (next_is_none s) (f.each n) in
     record {
       for_it = ap (option_map (λ r. r.container)) (numbered-push_last s.orders (record { ticket = t; container = c; day = s.day }));
-      in_queue = subst (λ q. stands n q ≡ true) (sym (put_here s.queue c (s.queue c ++ n ∷ []))) (stands-push n n (s.queue c) ∙ or_here (stands n (s.queue c)) (nat_eq n n) (same_number n));
+      in_queue = subst (λ q. stands n q ≡ true) (sym (put_here s.queue c (s.queue c ++ n ∷ []))) (stands-push n n (s.queue c) ∙ or_right (stands n (s.queue c)) (nat_eq n n) (same_number n));
       in_no_other = λ k ne. subst (λ q. stands n q ≡ false) (sym (put_there s.queue c (s.queue c ++ n ∷ []) k ne)) (x.0 k);
       in_no_place = x.1;
       not_past = x.2;

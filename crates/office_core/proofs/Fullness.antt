@@ -1,7 +1,7 @@
 -- The limits are those of the rules, and what is full is refused.
-use Rattle.std.proofs.Common.{◌≡◌, ℕ, ◌≤◌, Bool, true, false, not, ◌&&◌, ◌||◌, [], ◌∷◌, length, Some, None, refl, ◌∙◌}
+use Rattle.std.proofs.Common.{◌≡◌, ℕ, ◌≤◌, Bool, true, false, not, ◌&&◌, [], ◌∷◌, length, Some, None, refl, ◌∙◌}
 use Rattle.std.specs.Prelude.{nat_lt, nat_le}
-use Rattle.std.proofs.lemmas.Bool.{and_parts, leb-true, le-leb, lt-ltb, le-ltb, lt-leb}
+use Rattle.std.proofs.lemmas.Bool.{and_parts, leb-true, le-leb, lt-ltb, le-ltb, lt-leb, or_right}
 use Rattle.tree_core.specs.Forest.{size}
 use Rattle.catalogue_core.specs.Finding.{has_unit}
 use Rattle.catalogue_core.specs.Sources.{is_between}
@@ -44,17 +44,13 @@ its_settings =
 
 -- ---- imports
 
-or_true : (a b : Bool) → b ≡ true → (a || b) ≡ true
-or_true true b h = refl
-or_true false b h = h
-
 pub is_full_exactly : IsFullExactly
 is_full_exactly =
     record {
       room = λ c u n k. rw (le-ltb 200000 (size c.forest) u, le-ltb 100000001 c.next n, le-ltb 100000 (length c.containers) k) refl;
       units = λ c u. rw (lt-ltb 200000 (size c.forest) u) refl;
-      numbers = λ c n. or_true (nat_lt 200000 (size c.forest)) _ (rw (lt-ltb 100000001 c.next n) refl);
-      containers = λ c k. or_true (nat_lt 200000 (size c.forest)) _ (or_true (nat_lt 100000001 c.next) _ (lt-ltb 100000 (length c.containers) k));
+      numbers = λ c n. or_right (nat_lt 200000 (size c.forest)) _ (rw (lt-ltb 100000001 c.next n) refl);
+      containers = λ c k. or_right (nat_lt 200000 (size c.forest)) _ (or_right (nat_lt 100000001 c.next) _ (lt-ltb 100000 (length c.containers) k));
     }
 
 -- ---- the desk

@@ -1,12 +1,12 @@
 -- Numbers are given in order, from 1 on.
 use Rattle.std.proofs.Common.{◌≡◌, ℕ, zero, suc, ◌+◌, ◌-◌, ◌≤◌, List, [], ◌∷◌, ◌++◌, length, Option, Some, None, Ok, Err, refl, sym, ap, ◌∙◌, subst, arith, length-append}
-use Rattle.std.specs.Prelude.{ℤ, option_to_list}
+use Rattle.std.specs.Prelude.{option_to_list}
 use Rattle.desk_core.specs.declared.reader.Place.TheVariants.{Shelf, Desk, Out}
 use Rattle.desk_core.specs.declared.reader.Place.{Place}
-use Rattle.office_core.specs.State.{State, Reader, container_of}
+use Rattle.office_core.specs.State.{State, container_of}
 use Rattle.office_core.specs.declared.command.Command.{Command}
 use Rattle.office_core.specs.declared.command.Command.TheVariants as command
-use Rattle.office_core.specs.Rules.{after, told, step, state_after, renewed, cancelled, issued, returned, imported, taken}
+use Rattle.office_core.specs.Rules.{after, told, step, state_after, cancelled, issued, returned, imported, taken}
 use Rattle.isad_core.specs.Texts.{Bytes}
 use Rattle.isad_core.specs.Boxes.{distinct}
 use Rattle.desk_core.specs.declared.refusal.Refusal.{Refusal}
@@ -16,6 +16,7 @@ use Rattle.office_core.specs.GivenNumbers.{Kind, Tickets, Orders, Runs, Containe
 use Rattle.office_core.proofs.Steps.{step_at}
 use Rattle.catalogue_core.proofs.Imported.{new_boxes, boxes_after, next_after}
 use Rattle.office_core.proofs.Boxes.{step_apart}
+use Rattle.office_core.proofs.Readers.{length-renewed}
 
 -- these numbers are all from low to below high, in order
 record Fill (low high : ℕ) (ns : List ℕ) : Type 0 where
@@ -52,12 +53,6 @@ fill_at : (low high high' : ℕ) (ns : List ℕ) → high ≡ high' → Fill low
 fill_at low high high' ns e b = subst (λ h. Fill low h ns) e b
 
 -- how long the lists are after a command
-
-length-renewed : (until : ℤ) (rs : List Reader) (t : ℕ) → length (renewed until rs t) ≡ length rs
-length-renewed until rs zero = refl
-length-renewed until [] (suc n) = refl
-length-renewed until (r ∷ rs) (suc zero) = refl
-length-renewed until (r ∷ rs) (suc (suc n)) = ap suc (length-renewed until rs (suc n))
 
 one_more : {X : Type 0} (xs : List X) (x : X) → length (xs ++ x ∷ []) ≡ suc (length xs)
 one_more xs x = let e = length-append xs (x ∷ []) in omega (arith, e)

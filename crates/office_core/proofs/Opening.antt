@@ -2,7 +2,7 @@
 use Rattle.std.proofs.Common.{◌≡◌, ℕ, Bool, true, false, not, cond, ◌&&◌, ◌||◌, List, [], ◌∷◌, refl, subst, arith}
 use Rattle.std.specs.Prelude.{ℤ, int_lt, int_le, nat_eq, nat_lt}
 use Rattle.std.specs.List.{list_any, list_all}
-use Rattle.std.proofs.lemmas.Bool.{eqb-true, false≢true, and_parts}
+use Rattle.std.proofs.lemmas.Bool.{eqb-true, false≢true, and_parts, or_right}
 use Rattle.std.proofs.lemmas.Int.{ints}
 use Rattle.isad_core.specs.declared.values.BoxKey.{BoxKey}
 use Rattle.tree_core.specs.Forest.{Forest}
@@ -55,10 +55,6 @@ or_both a b true d f g h = refl
 or_both true b false d f g h = absurd (false≢true (f refl))
 or_both false b false d f g h = g h
 
-or_second : (a b : Bool) → b ≡ true → (a || b) ≡ true
-or_second true b h = refl
-or_second false b h = h
-
 and_second : (a b c : Bool) → (b ≡ true → c ≡ true) → (a && b) ≡ true → (a && c) ≡ true
 and_second true b c f h = f h
 and_second false b c f h = h
@@ -75,7 +71,7 @@ granted_at today u until p ps v true before e ih h =
     or_both (nat_eq p.unit v && int_le today p.until) (is_permitted today ps v) (nat_eq u v && int_le today (cond (int_lt p.until until) until p.until)) (is_permitted today ps v)
     (λ k. subst (λ w. (nat_eq w v && int_le today (cond (int_lt p.until until) until p.until)) ≡ true) (eqb-true p.unit u e) (and_second (nat_eq p.unit v) (int_le today p.until) (int_le today (cond (int_lt p.until until) until p.until)) (later_day today p.until until (int_lt p.until until) refl) k))
     (λ k. k) h
-granted_at today u until p ps v false true e ih h = or_second (nat_eq u v && int_le today until) (is_permitted today (p ∷ ps) v) h
+granted_at today u until p ps v false true e ih h = or_right (nat_eq u v && int_le today until) (is_permitted today (p ∷ ps) v) h
 granted_at today u until p ps v false false e ih h = or_both (nat_eq p.unit v && int_le today p.until) (is_permitted today ps v) (nat_eq p.unit v && int_le today p.until) (is_permitted today (granted u until ps) v) (λ k. k) ih h
 
 granted_more : (today : ℤ) (u : ℕ) (until : ℤ) (ps : List Permit) → (v : ℕ) → is_permitted today ps v ≡ true → is_permitted today (granted u until ps) v ≡ true

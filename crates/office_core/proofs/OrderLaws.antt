@@ -18,6 +18,7 @@ use Rattle.office_core.specs.Laws.{Standing, Waiting, WithItsReader, Ended, stan
 use Rattle.office_core.proofs.Words.{same_number}
 use Rattle.office_core.proofs.Steps.{held_so, Passes, step_at}
 use Rattle.office_core.proofs.Filed.{IsOutWith, IsPast, OnlyMoves, waiting, out_with, next_is_none, only_cancels, is_cancelled, only_orders, is_ordered, only_issues, is_issued, only_returns, is_returned, fetched_out, reshelved_out}
+use Rattle.office_core.proofs.Orders.{out_is}
 
 -- What an order's standing says
 
@@ -59,17 +60,12 @@ stands_past k w h p c how x =
 
 -- (2)
 
-out_for : (o : ℕ) (p : Place) → is_out_for o p ≡ true → order_out p ≡ Some o
-out_for o Shelf e = absurd (false≢true e)
-out_for o Desk e = absurd (false≢true e)
-out_for o (Out p) e = ap Some (sym (eqb-true o p e))
-
 pub out_apart : (s : State) → OutApart s
 out_apart s o p ne eo ep same =
     let a = out_stands (container_of s o) (λ c. stands o (s.queue c)) (λ c. is_out_for o (s.place c)) (s.past o) eo in
     let b = out_stands (container_of s p) (λ c. stands p (s.queue c)) (λ c. is_out_for p (s.place c)) (s.past p) ep in
-    let e1 = out_for o (s.place a.0) a.2 in
-    let e2 = out_for p (s.place b.0) b.2 in
+    let e1 = out_is o (s.place a.0) a.2 in
+    let e2 = out_is p (s.place b.0) b.2 in
     let ka = a.1 in
     let kb = b.1 in
     let c : a.0 ≡ b.0 = cc in

@@ -3,7 +3,7 @@ use Rattle.std.proofs.Common.{◌≡◌, ◌≢◌, ℕ, suc, ◌+◌, ◌<◌, 
 use Rattle.std.specs.Prelude.{nat_le, ℤ, ◌≤ℤ◌, nat_eq, is_some, option_map, count_by}
 use Rattle.std.specs.List.{list_any}
 use Rattle.std.proofs.lemmas.List.Sums.{sum_by_push}
-use Rattle.std.proofs.lemmas.Bool.{eqb-true, leb-false, cases_eq, false≢true, and_parts, or_cases}
+use Rattle.std.proofs.lemmas.Bool.{eqb-true, leb-false, cases_eq, false≢true, and_parts, or_cases, or_right}
 use Rattle.office_core.specs.Words.{numbered, some_and, stands}
 use Rattle.desk_core.specs.declared.reader.Place.TheVariants.{Shelf, Desk, Out}
 use Rattle.desk_core.specs.declared.reader.Place.{Place}
@@ -73,10 +73,6 @@ or_first : (a b : Bool) → a ≡ true → (a || b) ≡ true
 or_first true b e = refl
 or_first false b e = absurd (false≢true e)
 
-or_second : (a b : Bool) → b ≡ true → (a || b) ≡ true
-or_second true b e = refl
-or_second false b e = e
-
 pub is_by_its_ticket : (s : State) (p : ℕ) (order : Order) → numbered s.orders p ≡ Some order → is_by s order.ticket p ≡ true
 is_by_its_ticket s p order e = ap (some_and (λ r. nat_eq r.ticket order.ticket)) e ∙ same_number order.ticket
 
@@ -87,7 +83,7 @@ live_ordered s p other f e l =
     let by = is_by_its_ticket s p other e in
     elim (live_at (container_of s p) (λ k. stands p (s.queue k)) (λ k. is_out_for p (s.place k)) (s.past p) c (ap (option_map (λ r. r.container)) e) l (f.each p)) [
       | inl w ↦ or_first (list_any (is_by s t) (s.queue c)) (is_out_with s t c) (any_from_stands (is_by s t) p (s.queue c) w by)
-      | inr h ↦ or_second (list_any (is_by s t) (s.queue c)) (is_out_with s t c) (ap (some_and (is_by s t)) (out_is p (s.place c) h) ∙ by)
+      | inr h ↦ or_right (list_any (is_by s t) (s.queue c)) (is_out_with s t c) (ap (some_and (is_by s t)) (out_is p (s.place c) h) ∙ by)
     ]
 
 -- what is open is known

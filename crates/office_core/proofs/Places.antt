@@ -26,7 +26,7 @@ use Rattle.office_core.proofs.Counts.{count_le, count_one_more, count_further, c
 
 -- the order that a container is out with
 
-mapped_some : (r : Option Order) (c : ℕ) → option_map (λ order. order.container) r ≡ Some c → (order : Order) × (r ≡ Some order) × (order.container ≡ c)
+pub mapped_some : (r : Option Order) (c : ℕ) → option_map (λ order. order.container) r ≡ Some c → (order : Order) × (r ≡ Some order) × (order.container ≡ c)
 mapped_some None c e = absurd (cc)
 mapped_some (Some order) c e = (order, refl, cc)
 

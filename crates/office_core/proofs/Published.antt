@@ -28,6 +28,7 @@ use Rattle.office_core.specs.declared.query.Query.TheVariants as query
 use Rattle.office_core.specs.State.{State}
 use Rattle.office_core.specs.Queries.{answer, page_answer, press, public_forest}
 use Rattle.office_core.specs.Secrecy.{ShowsPublished, ShowsNumbered, ShowsBranch, PageShowsPublished, ShowsOnlyPublished, is_text, ShowsAllPublished}
+use Rattle.std.proofs.lemmas.Option.{same_Some}
 
 same_text : (a b : Bytes) → Text a ≡ Text b → a ≡ b
 same_text a b e = cc
@@ -80,14 +81,11 @@ aid_at s u false h text e = absurd (cc)
 
 -- ---- a page
 
-same_page : (a b : Page) → Some a ≡ Some b → a ≡ b
-same_page a b e = cc
-
 -- the head of a page, and the units below it
 page_parts : (at : Press) (way : List PublicUnit) (unit : PublicUnit) (low : Forest PublicUnit) (shown : Page) → page_at at way (Node unit low Empty) ≡ Some shown
     → (shown.head ≡ shown_unit at.at at.containers (map identifier_of way) 0 unit) × ((shown.below ≡ []) ⊎ (shown.below ≡ side_by_side at (map identifier_of way) low))
-page_parts at way (Stub id identifier level until) low shown e = let k = same_page _ shown e in (ap (λ (p : Page). p.head) (sym k), inl (ap (λ (p : Page). p.below) (sym k)))
-page_parts at way (Told id values) low shown e = let k = same_page _ shown e in (ap (λ (p : Page). p.head) (sym k), inr (ap (λ (p : Page). p.below) (sym k)))
+page_parts at way (Stub id identifier level until) low shown e = let k = same_Some _ shown e in (ap (λ (p : Page). p.head) (sym k), inl (ap (λ (p : Page). p.below) (sym k)))
+page_parts at way (Told id values) low shown e = let k = same_Some _ shown e in (ap (λ (p : Page). p.head) (sym k), inr (ap (λ (p : Page). p.below) (sym k)))
 
 page_shown : (s : State) (u : ℕ) (shown : Page) → page_of (press s) u (public_forest s) ≡ Some shown → PageShowsPublished s u shown
 page_shown s u shown e =

@@ -35,7 +35,7 @@ renewed_name until (r ∷ rs) (suc (suc t)) zero reader e = absurd (cc)
 renewed_name until (r ∷ rs) (suc (suc t)) (suc zero) reader e = (reader, e, refl)
 renewed_name until (r ∷ rs) (suc (suc t)) (suc (suc n)) reader e = renewed_name until rs (suc t) (suc n) reader e
 
-length-renewed : (until : ℤ) (rs : List Reader) (t : ℕ) → length (renewed until rs t) ≡ length rs
+pub length-renewed : (until : ℤ) (rs : List Reader) (t : ℕ) → length (renewed until rs t) ≡ length rs
 length-renewed until rs zero = refl
 length-renewed until [] (suc n) = refl
 length-renewed until (r ∷ rs) (suc zero) = refl

@@ -26,9 +26,7 @@ use Rattle.office_core.specs.State.{State}
 use Rattle.office_core.specs.Rules.{Reply, taken, imported}
 use Rattle.office_core.specs.Remarking.{way_of, BelongsAbove, HasEssentials, IsPoorTop, IsToldOf, AreToldOf, RemarksOnRows}
 use Rattle.office_core.proofs.Steps.{step_at}
-
-some_same : {X : Type 0} (x y : X) → Some x ≡ Some y → x ≡ y
-some_same x y e = cc
+use Rattle.std.proofs.lemmas.Option.{same_Some}
 
 -- ---- the six elements
 
@@ -102,8 +100,8 @@ two_told first second way row =
     at it false e = inr (inr (
       refl,
       (λ h.
-          let u = some_same it.unit h.unit (sym it.is_last ∙ h.is_last) in
-          let p = some_same it.parent h.parent (sym it.is_above ∙ h.is_above) in
+          let u = same_Some it.unit h.unit (sym it.is_last ∙ h.is_last) in
+          let p = same_Some it.parent h.parent (sym it.is_above ∙ h.is_above) in
           not_above (rank_of it.unit.values.level) (rank_of it.parent.values.level) h.rank h.rank_above e (ap (λ (x : Unit). rank_of x.values.level) u ∙ h.level) (ap (λ (x : Unit). rank_of x.values.level) p ∙ h.level_above) h.smaller),
       no_top,
     ))

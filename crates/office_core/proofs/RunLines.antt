@@ -16,10 +16,11 @@ use Rattle.catalogue_core.proofs.DistinctLists.{all_so}
 use Rattle.catalogue_core.specs.Intake.{Taken}
 use Rattle.office_core.specs.SoundDesk.{IsAscending, IsGoodLine, IsGoodRun, AreGoodRuns}
 use Rattle.office_core.proofs.LineOrder.{AreApart, all-in_order, length-in_order, by_container-in_order}
-use Rattle.office_core.proofs.Words.{same_number, all-push, ascending-push, numbered-push, numbered-push_last}
+use Rattle.office_core.proofs.Words.{same_number, all-push, ascending-push, numbered-push, numbered-push_last, ascending_at}
 use Rattle.office_core.proofs.Steps.{held_not, Passes}
 use Rattle.office_core.proofs.Filed.{all_taken, picked_due}
 use Rattle.office_core.proofs.Extends.{Extends, extends_after, same_day, no_later_than}
+use Rattle.office_core.proofs.Places.{mapped_some}
 
 -- the numbers of a run ascend
 
@@ -39,13 +40,9 @@ all_filter : (P : ℕ → Type 0) (test : ℕ → Bool) (ms : List ℕ) → AllB
 all_filter P test [] h = tt
 all_filter P test (m ∷ ms) h = all_filter_at P m (filter test ms) (test m) h.0 (all_filter P test ms h.1)
 
-ascending_filter_at : (m : ℕ) (ms : List ℕ) (b : Bool) → AllByRecursion (λ k. m < k) ms → IsAscending ms → IsAscending (cond b (m ∷ ms) ms)
-ascending_filter_at m ms true h a = (h, a)
-ascending_filter_at m ms false h a = a
-
 ascending_filter : (test : ℕ → Bool) (ms : List ℕ) → IsAscending ms → IsAscending (filter test ms)
 ascending_filter test [] h = tt
-ascending_filter test (m ∷ ms) h = ascending_filter_at m (filter test ms) (test m) (all_filter (λ k. m < k) test ms h.0) (ascending_filter test ms h.1)
+ascending_filter test (m ∷ ms) h = ascending_at m (filter test ms) (test m) (all_filter (λ k. m < k) test ms h.0) (ascending_filter test ms h.1)
 
 ascending_take : (k : ℕ) (ms : List ℕ) → IsAscending ms → IsAscending (take k ms)
 ascending_take zero ms h = tt
@@ -109,13 +106,9 @@ not_empty (n ∷ ns) e = omega arith
 
 -- runs as the state goes on
 
-goes_on : (r : Option Order) (c : ℕ) → option_map (λ order. order.container) r ≡ Some c → (order : Order) × (r ≡ Some order) × (order.container ≡ c)
-goes_on None c e = absurd (cc)
-goes_on (Some order) c e = (order, refl, cc)
-
 good_line : (s t : State) (l : Line) → Extends s t → IsGoodLine s l → IsGoodLine t l
 good_line s t l e g =
-    let x = goes_on (numbered s.orders l.order) l.container g.order in
+    let x = mapped_some (numbered s.orders l.order) l.container g.order in
     let n = e.orders l.order x.0 x.1 in
     record { order = ap (option_map (λ r. r.container)) n ∙ ap Some x.2; ticket = ap (some_and (λ r. nat_eq r.ticket l.ticket)) n ∙ (sym (ap (some_and (λ r. nat_eq r.ticket l.ticket)) x.1) ∙ g.ticket) }
 

@@ -3,7 +3,7 @@ use Rattle.std.proofs.Common.{◌≡◌, ◌≢◌, ℕ, zero, suc, Bool, true, 
 use Rattle.std.specs.Prelude.{nat_eq}
 use Rattle.std.specs.List.{list_any}
 use Rattle.std.proofs.lemmas.List.{length-map, length-replicate}
-use Rattle.std.proofs.lemmas.Bool.{eqb-true, cases_Bool, false≢true, or_cases, or_parts}
+use Rattle.std.proofs.lemmas.Bool.{eqb-true, cases_Bool, false≢true, or_cases, or_parts, or_right}
 use Rattle.desk_core.specs.declared.reader.Place.TheVariants.{Shelf, Desk, Out}
 use Rattle.desk_core.specs.declared.reader.Place.{Place}
 use Rattle.office_core.specs.State.{is_seated, State, container_of, is_ticket, is_seat_of, sit, rise}
@@ -17,10 +17,6 @@ use Rattle.office_core.proofs.Words.{same_number, other_number}
 use Rattle.office_core.proofs.Steps.{held_so, held_not, Passes}
 use Rattle.office_core.proofs.Extends.{Extends, extends_after}
 
-or_second : (a b : Bool) → b ≡ true → (a || b) ≡ true
-or_second true b e = refl
-or_second false b e = e
-
 or_both : (a b c : Bool) → (a || b) ≡ true → (b ≡ true → c ≡ true) → (a || c) ≡ true
 or_both true b c e h = refl
 or_both false b c e h = h e
@@ -32,7 +28,7 @@ length-sit t (Some u ∷ seats) = ap suc (length-sit t seats)
 
 pub sit_keeps : (u t : ℕ) (seats : List (Option ℕ)) → list_any (is_seat_of u) seats ≡ true → list_any (is_seat_of u) (sit t seats) ≡ true
 sit_keeps u t [] e = e
-sit_keeps u t (None ∷ seats) e = or_second (nat_eq u t) (list_any (is_seat_of u) seats) e
+sit_keeps u t (None ∷ seats) e = or_right (nat_eq u t) (list_any (is_seat_of u) seats) e
 sit_keeps u t (Some v ∷ seats) e = or_both (nat_eq u v) (list_any (is_seat_of u) seats) (list_any (is_seat_of u) (sit t seats)) e (sit_keeps u t seats)
 
 sit_only : (u t : ℕ) (seats : List (Option ℕ)) → list_any (is_seat_of u) (sit t seats) ≡ true → (u ≡ t) ⊎ (list_any (is_seat_of u) seats ≡ true)
@@ -41,7 +37,7 @@ sit_only u t (None ∷ seats) e = elim (or_cases (nat_eq u t) (list_any (is_seat
 sit_only u t (Some v ∷ seats) e =
     elim (or_cases (nat_eq u v) (list_any (is_seat_of u) (sit t seats)) e) [
       | inl same ↦ inr (ap (λ b. b || list_any (is_seat_of u) seats) same)
-      | inr r ↦ elim (sit_only u t seats r) [ inl same ↦ inl same | inr k ↦ inr (or_second (nat_eq u v) (list_any (is_seat_of u) seats) k) ]
+      | inr r ↦ elim (sit_only u t seats r) [ inl same ↦ inl same | inr k ↦ inr (or_right (nat_eq u v) (list_any (is_seat_of u) seats) k) ]
     ]
 
 not_sat : (u t : ℕ) (seats : List (Option ℕ)) → u ≢ t → list_any (is_seat_of u) seats ≡ false → list_any (is_seat_of u) (sit t seats) ≡ false

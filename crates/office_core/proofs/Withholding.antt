@@ -28,6 +28,7 @@ use Rattle.office_core.proofs.Extends.{imported_extends}
 use Rattle.office_core.proofs.Places.{out_known, places_after}
 use Rattle.office_core.proofs.Steps.{passes}
 use Rattle.office_core.proofs.Words.{numbered_within}
+use Rattle.std.proofs.lemmas.Option.{same_Some}
 
 -- ---- which check tells it
 
@@ -38,11 +39,8 @@ is_for_reader _ = false
 abbrev Other : ℕ → Check → Type 0
 Other c check = check ≡ Some (WithReader c) → ⊥
 
-some_same : {X : Type 0} (x y : X) → Some x ≡ Some y → x ≡ y
-some_same x y e = cc
-
 for_another : (why : Refusal) (c : ℕ) → is_for_reader why ≡ false → Other c (Some why)
-for_another why c h e = false≢true (sym h ∙ ap is_for_reader (some_same why (WithReader c) e))
+for_another why c h e = false≢true (sym h ∙ ap is_for_reader (same_Some why (WithReader c) e))
 
 none_other : (c : ℕ) → Other c None
 none_other c e = absurd (cc)
@@ -141,7 +139,7 @@ only_one : (p : ℕ → Bool) (n c : ℕ) → first_that p (n ∷ []) ≡ Some c
 only_one p n c e = at (p n) refl e
   where
     at : (b : Bool) → p n ≡ b → cond b (Some n) None ≡ Some c → (n ≡ c) × (p n ≡ true)
-    at true h k = (some_same n c k, h)
+    at true h k = (same_Some n c k, h)
     at false h k = absurd (cc)
 
 lowest_of : (p : ℕ → Bool) (n c : ℕ) → first_that p (numbers_to n) ≡ Some c → (p c ≡ true) × ((d : ℕ) → 1 ≤ d → d ≤ n → p d ≡ true → c ≤ d)

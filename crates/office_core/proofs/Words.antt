@@ -2,9 +2,10 @@
 use Rattle.std.proofs.Common.{◌≡◌, ◌≢◌, ℕ, zero, suc, ◌<◌, ◌≤◌, Bool, true, false, not, cond, ◌||◌, List, [], ◌∷◌, ◌++◌, length, Some, None, refl, sym, ap, ◌∙◌, subst, inl, inr, arith}
 use Rattle.std.specs.Prelude.{nat_eq, is_some}
 use Rattle.std.specs.List.{AllByRecursion}
-use Rattle.std.proofs.lemmas.Bool.{eqb-true, ne_eqb, eq-eqb, cases_eq, false≢true}
+use Rattle.std.proofs.lemmas.Bool.{eqb-true, ne_eqb, eq-eqb, cases_eq, false≢true, or_right}
 use Rattle.office_core.specs.Words.{numbered, put, stands, without}
 use Rattle.office_core.specs.SoundDesk.{IsAscending}
+use Rattle.std.proofs.Math.Bool.{or-false}
 
 pub same_number : (n : ℕ) → nat_eq n n ≡ true
 same_number n = eq-eqb n n refl
@@ -26,16 +27,12 @@ put_each P f n x here there m =
       | inr h ↦ subst (P m) (sym (put_there f n x m h)) (there m h)
     ]
 
-pub or_false : (b : Bool) → (b || false) ≡ b
-or_false true = refl
-or_false false = refl
-
 pub or_assoc : (a b c : Bool) → ((a || b) || c) ≡ (a || (b || c))
 or_assoc true b c = refl
 or_assoc false b c = refl
 
 pub stands-push : (o n : ℕ) (ns : List ℕ) → stands o (ns ++ n ∷ []) ≡ (stands o ns || nat_eq o n)
-stands-push o n [] = or_false (nat_eq o n)
+stands-push o n [] = or-false (nat_eq o n)
 stands-push o n (m ∷ ms) = ap (λ b. nat_eq o m || b) (stands-push o n ms) ∙ sym (or_assoc (nat_eq o m) (stands o ms) (nat_eq o n))
 
 kept_or_not : (o n m : ℕ) (rest : List ℕ) (b : Bool) → nat_eq n m ≡ b → o ≢ n → stands o rest ≡ stands o (without n rest) → (nat_eq o m || stands o rest) ≡ stands o (cond (not b) (m ∷ without n rest) (without n rest))
@@ -68,7 +65,7 @@ pub all_without : (P : ℕ → Type 0) (n : ℕ) (ms : List ℕ) → AllByRecurs
 all_without P n [] h = tt
 all_without P n (m ∷ ms) h = all_without_at P n m (without n ms) (not (nat_eq n m)) h.0 (all_without P n ms h.1)
 
-ascending_at : (m : ℕ) (ms : List ℕ) (b : Bool) → AllByRecursion (λ k. m < k) ms → IsAscending ms → IsAscending (cond b (m ∷ ms) ms)
+pub ascending_at : (m : ℕ) (ms : List ℕ) (b : Bool) → AllByRecursion (λ k. m < k) ms → IsAscending ms → IsAscending (cond b (m ∷ ms) ms)
 ascending_at m ms true h a = (h, a)
 ascending_at m ms false h a = a
 
@@ -83,10 +80,6 @@ all-push P (m ∷ ms) n h p = (h.0, all-push P ms n h.1 p)
 pub ascending-push : (ms : List ℕ) (n : ℕ) → IsAscending ms → AllByRecursion (λ m. m < n) ms → IsAscending (ms ++ n ∷ [])
 ascending-push [] n a h = (tt, tt)
 ascending-push (m ∷ ms) n a h = (all-push (λ k. m < k) ms n a.0 h.0, ascending-push ms n a.1 h.1)
-
-or_right : (a b : Bool) → b ≡ true → (a || b) ≡ true
-or_right true b h = refl
-or_right false b h = h
 
 -- each number of a list has what each number that stands in it has
 pub all_from_stands : (P : ℕ → Type 0) (ms : List ℕ) → ((m : ℕ) → stands m ms ≡ true → P m) → AllByRecursion P ms

@@ -17,7 +17,7 @@ use Rattle.tree_core.proofs.MarkWalks.{list_all-append}
 use Rattle.tree_core.proofs.SpanShifts.{cut_none}
 use Rattle.catalogue_core.specs.Housing.{own_or, housed_below, housed, paths_below, is_withheld_from, is_some_there, is_open}
 use Rattle.catalogue_core.specs.Units.{Unit, has_id}
-use Rattle.office_core.proofs.Words.{or_false}
+use Rattle.std.proofs.Math.Bool.{or-false}
 use Rattle.refinement.specs.Gate.{names_some, near}
 
 -- ---- truths
@@ -67,7 +67,7 @@ module _ (box : BoxKey) where
           → ((found : Option Unit) (above : List BoxKey) → in_it above ≡ list_any names_box (option_to_list found) → in_it (housed_below above way) ≡ list_any names_box (option_to_list (last_or found (filter names_some way))))
           → in_it (housed_below (own_or boxes above) way) ≡ list_any names_box (option_to_list (last_or found (cond (is_some_there boxes) (unit ∷ filter names_some way) (filter names_some way))))
       at [] is further = further found above so
-      at (b ∷ boxes) is further = further (Some unit) (b ∷ boxes) (sym (ap in_it is) ∙ sym (or_false (names_box unit)))
+      at (b ∷ boxes) is further = further (Some unit) (b ∷ boxes) (sym (ap in_it is) ∙ sym (or-false (names_box unit)))
 
   parted : (A : List Unit) (a : Unit) (c o : Forest Unit) → lying A (Node a c o) ≡ cond (lies (A ++ a ∷ [])) ((A ++ a ∷ []) ∷ (lying (A ++ a ∷ []) c ++ lying A o)) (lying (A ++ a ∷ []) c ++ lying A o)
   parted A a c o = ap (λ l. cond (lies (A ++ a ∷ [])) ((A ++ a ∷ []) ∷ l) l) (filter-append lies (paths_below (A ++ a ∷ []) c) (paths_below A o))

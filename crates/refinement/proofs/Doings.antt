@@ -56,3 +56,6 @@ accepted s asked none = ap (λ (why : Option Refusal). decided why s (after s as
 
 pub refused : (s : State) (asked : Command) (why : Refusal) → refusal s asked ≡ Some why → step s asked ≡ (s, Err why)
 refused s asked why some = ap (λ (why : Option Refusal). decided why s (after s asked) (told s asked)) some
+
+pub refuses : (places : Trees → Forest ℕ → Type 0) (version : Version) (s : State) (asked : Command) (why : Refusal) (db : Database) → refusal s asked ≡ Some why → CarriesOutStep places version s asked (Err why) db
+refuses places version s asked why db holds = record { told = sym (ap (λ (p : State × Reply). p.1) (refused s asked why holds)); represents = λ ok. absurd (cc) }

@@ -23,6 +23,7 @@ use Rattle.state_encoding.specs.Reading.{tables}
 use Rattle.state_encoding.proofs.DeskLookups.{flipped}
 use Rattle.state_encoding.proofs.Members.{to_from}
 use Rattle.tree_core.specs.Versions.{Version}
+use Rattle.std.proofs.Math.Bool.{and-false}
 
 abbrev bit : Bool → ℕ
 bit b = cond b 1 0
@@ -108,10 +109,6 @@ state_two (Some WithItsReader) e = refl
 state_two (Some (Ended Done)) e = absurd (false≢true e)
 state_two (Some (Ended Cancelled)) e = absurd (false≢true e)
 
-and_none : (b : Bool) → (b && false) ≡ false
-and_none true = refl
-and_none false = refl
-
 by_number : (t : ℕ) (b : Bool) (o : Option Order) → some_and (λ (order : Order). nat_eq t order.ticket && b) o ≡ (b && some_and (λ (order : Order). nat_eq order.ticket t) o)
 by_number t true None = refl
 by_number t false None = refl
@@ -120,7 +117,7 @@ by_number t true (Some order) = and_true (nat_eq t order.ticket) ∙ flipped t o
     and_true : (b : Bool) → (b && true) ≡ b
     and_true true = refl
     and_true false = refl
-by_number t false (Some order) = and_none (nat_eq t order.ticket)
+by_number t false (Some order) = and-false (nat_eq t order.ticket)
 
 module _ (s : State) (sound : IsSoundOffice s) (t : ℕ) where
   -- the container is out with that order, and the order is the ticket's
@@ -197,7 +194,7 @@ module _ (s : State) (sound : IsSoundOffice s) (t : ℕ) where
           and_true : (b : Bool) → (b && true) ≡ b
           and_true true = refl
           and_true false = refl
-      once false c low high = sum_none (λ k. bit (nat_eq k c && false)) (λ k. ap bit (and_none (nat_eq k c))) (containers s)
+      once false c low high = sum_none (λ k. bit (nat_eq k c && false)) (λ k. ap bit (and-false (nat_eq k c))) (containers s)
 
       nowhere : is_out_now o ≡ false → (c : ℕ) → is_out_for o (s.place c) ≡ false
       nowhere not c = elim (cases_Bool (is_out_for o (s.place c))) [

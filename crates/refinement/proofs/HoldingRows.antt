@@ -24,7 +24,7 @@ rows_of place cs = filter_map (λ c. holding_row c (place c)) cs
 
 -- ---- one row more, in its place
 
-greater : (m n : ℕ) → n < m → int_cmp (pos m) (pos n) ≡ Greater
+pub greater : (m n : ℕ) → n < m → int_cmp (pos m) (pos n) ≡ Greater
 greater m n h =
     let e : nat_lt m n ≡ false = grind (arith, nat_tests, h) in
     let k : nat_lt n m ≡ true = grind (arith, nat_tests, h) in

@@ -30,3 +30,4 @@ pub mod Passing
 pub mod PermitFrames
 pub mod RowsOfLists
 pub mod Tellings
+pub mod Paths

@@ -20,8 +20,8 @@ use Rattle.catalogue_core.proofs.EachOf.{all_append, all_split}
 use Rattle.catalogue_statements.specs.Rows.{HousingRow, counted_from}
 use Rattle.catalogue_statements.specs.Represents.{RepresentsHousings, housing_cells, housings_of}
 use Rattle.catalogue_statements.specs.declared.row_types.Housing.{Housing}
-use Rattle.office_core.proofs.Words.{or_false}
 use Rattle.refinement.specs.Gate.{has_row, is_one_of, names_some, near, says_so}
+use Rattle.std.proofs.Math.Bool.{or-false}
 
 -- ---- lists
 
@@ -57,7 +57,7 @@ pub one_more : (xs : List HousingRow) (n i : ℕ) (units found named : List ℕ)
 one_more xs n i units found named low before here =
     let told : ℕ → Bool = λ unit. list_any (says_so n unit) xs in
     list_any-append (λ m. nat_eq m n) found named
-    ∙ ap₂ ◌||◌ before (here ∙ sym (or_false (told (get_or units i 0))))
+    ∙ ap₂ ◌||◌ before (here ∙ sym (or-false (told (get_or units i 0))))
     ∙ sym (ap (list_any told) (take_more units i 0 low) ∙ list_any-append told (take i units) (get_or units i 0 ∷ []))
 
 ended : {X : Type 0} (x : X) (b : Bool) (found : Option X) (xs : List X) → last_or found (xs ++ cond b (x ∷ []) []) ≡ cond b (Some x) (last_or found xs)

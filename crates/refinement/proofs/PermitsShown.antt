@@ -1,5 +1,5 @@
 -- The rows of permits: those of a ticket, one that is granted, and one that is taken back.
-use Rattle.std.proofs.Common.{◌≡◌, ◌≢◌, ℕ, ℤ, zero, suc, ◌<◌, ◌≤◌, Bool, true, false, not, cond, nat_eq, List, [], ◌∷◌, ◌++◌, length, map, filter, inl, inr, refl, sym, ap, subst, ◌∙◌, arith}
+use Rattle.std.proofs.Common.{◌≡◌, ◌≢◌, ℕ, ℤ, zero, suc, ◌<◌, ◌≤◌, Bool, true, false, not, cond, nat_eq, List, [], ◌∷◌, ◌++◌, length, map, filter, inl, inr, refl, sym, ap, subst, ◌∙◌, arith, pos}
 use Rattle.std.specs.Prelude.{int_lt, nat_lt}
 use Rattle.std.specs.List.{AllByRecursion, flat_map}
 use Rattle.std.specs.List.Sorted.{IsPermutation}
@@ -10,7 +10,7 @@ use Rattle.std.proofs.lemmas.List.Concat.{flat_map-cons, flat_map-append}
 use Rattle.std.proofs.lemmas.List.Sorted.{IsPermutation-append_comm, IsPermutation-append_left, IsPermutation-append_right, IsPermutation-cons, IsPermutation-map, IsPermutation-refl, IsPermutation-swap, IsPermutation-sym, IsPermutation-trans}
 use Rattle.sqlite.specs.Tree.{Trees}
 use Rattle.desk_core.specs.DeskRows.{Desk, PermitRow}
-use Rattle.desk_store.specs.Permits.{is_permit, permits_of, without_permit}
+use Rattle.desk_store.specs.Permits.{is_permit, permits_of, without_permit, by_unit}
 use Rattle.desk_store.specs.Represents.{IsNumberOf, RepresentsDesk}
 use Rattle.desk_store.specs.declared.reader_permits.Permit.{Permit as Told}
 use Rattle.office_core.specs.SoundDesk.{AreGoodPermits, ByUnit}
@@ -20,11 +20,16 @@ use Rattle.office_core.proofs.Words.{other_number, put_here, put_there, same_num
 use Rattle.state_encoding.specs.DeskShown.{permit_row, permit_rows}
 use Rattle.state_encoding.specs.Reading.{tables}
 use Rattle.state_encoding.proofs.DeskLookups.{flipped}
-use Rattle.state_encoding.proofs.ReadBack.{filter_parts, permits_back}
+use Rattle.state_encoding.proofs.ReadBack.{permits_back}
 use Rattle.office_tables.proofs.Reading.{all_found}
 use Rattle.tree_core.specs.Versions.{Version}
+use Rattle.std.proofs.lemmas.List.Elements.{filter-append}
+use Rattle.std.specs.Cmp.{IsTotalOrder, int_cmp_total, on_total}
 
 -- ---- the permits of a ticket
+
+pub by_unit_total : IsTotalOrder by_unit
+by_unit_total = on_total (λ (p : Told). pos p.unit) int_cmp_total
 
 abbrev pub told_of : Permit → Told
 told_of permit = record { unit = permit.unit; until = permit.until }
@@ -52,7 +57,7 @@ filter_flat : {X Y : Type 0} (p : Y → Bool) (f : X → List Y) (xs : List X) �
 filter_flat p f [] = refl
 filter_flat p f (x ∷ xs) =
     flat_map-cons (λ x. filter p (f x)) x xs ∙ ap (λ l. filter p (f x) ++ l) (filter_flat p f xs)
-    ∙ sym (filter_parts p (f x) (flat_map f xs)) ∙ ap (filter p) (sym (flat_map-cons f x xs))
+    ∙ sym (filter-append p (f x) (flat_map f xs)) ∙ ap (filter p) (sym (flat_map-cons f x xs))
 
 flat_same : {X Y : Type 0} (f g : X → List Y) → ((x : X) → f x ≡ g x) → (xs : List X) → flat_map f xs ≡ flat_map g xs
 flat_same f g same [] = refl

@@ -16,6 +16,7 @@ use Rattle.state_encoding.proofs.Members.{in_filter}
 use Rattle.state_encoding.proofs.NumberedRows.{in_rows}
 use Rattle.state_encoding.proofs.TableLaws.{reads_back}
 use Rattle.office_tables.proofs.Rows.{same_test}
+use Rattle.std.proofs.Math.Bool.{and_comm}
 
 -- ---- where a container is
 
@@ -38,12 +39,6 @@ pub place_shown : (s : State) → IsSoundDesk s → (c : ℕ) (p : Place) → Is
 place_shown s sound c p is = sym (placed_as c (holding_rows s) p is) ∙ ap (λ (place : ℕ → Place). place c) (reads_back s sound).places
 
 -- ---- who waits
-
-swapped : (a b : Bool) → (a && b) ≡ (b && a)
-swapped true true = refl
-swapped true false = refl
-swapped false true = refl
-swapped false false = refl
 
 -- the order of a row waits for the container
 abbrev pub waits_in : ℕ → OrderRow → Bool
@@ -71,6 +66,6 @@ module _ {Y : Type 0} (s : State) (tell : ℕ → Order → Y) where
       ap (λ (queue : ℕ → List ℕ). filter_map (λ o. option_map (tell o) (numbered s.orders o)) (queue c)) (sym (reads_back s sound).queues)
       ∙ ap (λ rows. filter_map (λ o. option_map (tell o) (numbered s.orders o)) (map (λ (row : OrderRow). row.id) rows))
       (same_test (λ (row : OrderRow). nat_eq row.container c && nat_eq row.state 1) (waits_in c)
-      (λ (row : OrderRow). ap (λ b. b && nat_eq row.state 1) (flipped row.container c) ∙ ap (λ b. nat_eq c row.container && b) (flipped row.state 1) ∙ swapped (nat_eq c row.container) (nat_eq 1 row.state))
+      (λ (row : OrderRow). ap (λ b. b && nat_eq row.state 1) (flipped row.container c) ∙ ap (λ b. nat_eq c row.container && b) (flipped row.state 1) ∙ and_comm (nat_eq c row.container) (nat_eq 1 row.state))
       (order_rows s))
       ∙ told_rows (filter (waits_in c) (order_rows s)) (λ row k. (in_filter (waits_in c) (order_rows s) row k).0)

@@ -6,7 +6,7 @@ use Rattle.office_core.specs.Words.{numbered}
 use Rattle.office_core.proofs.Words.{same_number}
 use Rattle.state_encoding.specs.DeskShown.{rows_from}
 
-other : (n j : ℕ) → nat_eq (n + suc j) n ≡ false
+pub other : (n j : ℕ) → nat_eq (n + suc j) n ≡ false
 other n j = grind (arith, nat_tests)
 
 not_zero : (n : ℕ) → nat_eq 0 (suc n) ≡ false

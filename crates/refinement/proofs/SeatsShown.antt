@@ -1,8 +1,7 @@
 -- What the rows of the seats tell: who sits where, and which seat is free.
-use Rattle.std.proofs.Common.{◌≡◌, ℕ, suc, ◌+◌, ◌<◌, ◌≤◌, pos, Bool, true, false, not, cond, ◌||◌, nat_eq, List, [], ◌∷◌, length, map, filter, Option, Some, None, Greater, inl, inr, refl, sym, ap, subst, ◌∙◌, arith}
-use Rattle.std.specs.Prelude.{find, is_none, is_some, nat_lt, option_map}
+use Rattle.std.proofs.Common.{◌≡◌, ℕ, suc, ◌+◌, ◌<◌, ◌≤◌, pos, Bool, true, false, not, cond, ◌||◌, nat_eq, List, [], ◌∷◌, length, map, filter, Option, Some, None, inl, inr, refl, sym, ap, subst, ◌∙◌, arith}
+use Rattle.std.specs.Prelude.{find, is_none, is_some, option_map}
 use Rattle.std.specs.List.{list_any, range_with_len}
-use Rattle.std.specs.Ordering.{int_cmp}
 use Rattle.std.proofs.lemmas.Bool.{cases_Bool, eqb-true, or_parts}
 use Rattle.std.proofs.lemmas.Bool.Decides.{nat_tests}
 use Rattle.desk_core.specs.Decisions.{free_seat}
@@ -16,6 +15,7 @@ use Rattle.state_encoding.specs.DeskShown.{seat_rows_from}
 use Rattle.state_encoding.proofs.DeskLookups.{is_some-map}
 use Rattle.office_tables.specs.Put.{put_by}
 use Rattle.office_tables.proofs.numbered.Counted.{below_less}
+use Rattle.refinement.proofs.HoldingRows.{greater}
 
 abbrev number_of : SeatRow → ℕ
 number_of s = s.seat
@@ -89,12 +89,6 @@ kept_above n k (None ∷ seats) less = kept_above (suc n) k seats (omega (arith,
 kept_above n k (Some u ∷ seats) less =
     let apart : nat_eq k n ≡ false = grind (arith, nat_tests, less) in
     rw apart (ap (λ rows. (let r : SeatRow = record { seat = n; ticket = u } in r) ∷ rows) (kept_above (suc n) k seats (omega (arith, less))))
-
-greater : (m n : ℕ) → n < m → int_cmp (pos m) (pos n) ≡ Greater
-greater m n h =
-    let e : nat_lt m n ≡ false = grind (arith, nat_tests, h) in
-    let k : nat_lt n m ≡ true = grind (arith, nat_tests, h) in
-    rw (e, k) refl
 
 put_first : (n : ℕ) (x : SeatRow) (seats : List (Option ℕ)) → x.seat < n → put_by (λ (s : SeatRow). pos s.seat) x (seat_rows_from n seats) ≡ x ∷ seat_rows_from n seats
 put_first n x [] less = refl

@@ -1,6 +1,6 @@
 -- A call that reads, and hands on what a later call tells.
 use Rattle.std.proofs.Common.{Result, Ok, Err, OnOk, OnErr}
-use Rattle.std.specs.Prelude.{⊤, IfOk}
+use Rattle.std.specs.Prelude.{⊤}
 use Rattle.sqlite.specs.Effect.{Database}
 use Rattle.sqlite.specs.Held.{Held, state}
 use Rattle.sqlite.specs.State.{HasCleanDisk, State, Survives}
@@ -11,14 +11,11 @@ use Rattle.office_tables.specs.declared.fault.StoreFault.{StoreFault}
 use Rattle.office_tables.proofs.CallEnds.{excused_then}
 use Rattle.office_tables.proofs.Calls.{cut_then, early, looks_then, on_err_then, on_ok_then}
 use Rattle.desk_store.proofs.ToldCalls.{shown_on}
+use Rattle.std.proofs.lemmas.Result.{IfOk-weaker}
 
 pub looked_crash : {X E : Type 0} (r : Result X E) (a b : State) → OnOk r (LeavesUnchanged a b) → OnErr r (IsAborted a b) → Survives a b (λ _. ⊥)
 looked_crash (Ok x) a b looks cut = looks.goes.on.crash
 looked_crash (Err e) a b looks cut = cut.crash
-
-if_ok_then : {X E : Type 0} (r : Result X E) (P Q : X → Type 0) → ((x : X) → P x → Q x) → IfOk r P → IfOk r Q
-if_ok_then (Ok x) P Q f h = f x h
-if_ok_then (Err e) P Q f h = tt
 
 module _ {Model : Type 0} (represents : Database → ⊤ → Model → Type 0) {S Y : Type 0} (kept : Model → Type 0) (g : store.Ghosts S) (before mid after : Held S) (r : Result Y StoreFault) where
   abbrev a : State
@@ -35,7 +32,7 @@ module _ {Model : Type 0} (represents : Database → ⊤ → Model → Type 0) {
   told_then told answer looked means last =
       let still = λ (clean : HasCleanDisk c). early b c _ (looked_crash r b c last.looks last.cut) clean in
       record {
-        answers = λ clean beside m shown. if_ok_then r (told tt m) (answer tt m) (means (still clean) m shown) (last.answers clean tt m (shown_on represents a b looked (still clean) m shown));
+        answers = λ clean beside m shown. IfOk-weaker r (told tt m) (answer tt m) (means (still clean) m shown) (last.answers clean tt m (shown_on represents a b looked (still clean) m shown));
         looks = on_ok_then r (LeavesUnchanged b c) (LeavesUnchanged a c) (λ on. looks_then a b c looked on) last.looks;
         cut = on_err_then r (IsAborted b c) (IsAborted a c) (λ cut. cut_then a b c looked.goes.on cut) last.cut;
         faults = λ beside m shown may sound. excused_then a b c looked.goes.on r last.cut (λ at_b. last.faults tt m (shown_on represents a b looked at_b m shown) tt sound);

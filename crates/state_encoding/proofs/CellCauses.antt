@@ -2,7 +2,7 @@
 use Rattle.std.proofs.Common.{◌≡◌, true, false, Bool, List, [], ◌∷◌, ◌++◌, length, None, Some, Option, filter_map, if◌then◌else◌, refl, ap, subst, ◌||◌, IsUtf8, arith, unwrap_or, cond, nat_eq}
 use Rattle.std.specs.List.{AllByRecursion}
 use Rattle.std.proofs.lemmas.Bool.{or_parts}
-use Rattle.std.proofs.lemmas.Str.{IsUtf8-from_ascii}
+use Rattle.std.proofs.lemmas.Str.{IsUtf8-nil}
 use Rattle.sqlite.specs.Order.{Row, column}
 use Rattle.sqlite.specs.Tree.{Trees}
 use Rattle.desk_core.specs.Orders.{put_in_order, in_order}
@@ -116,11 +116,8 @@ legible_office row x h =
       subst IsUtf8 (ap (λ o. (made o).repo) repo.2) (is_text (column row 4) repo.0 repo.1),
     )
 
-no_text : IsUtf8 []
-no_text = IsUtf8-from_ascii [] (λ k. omega arith)
-
 legible_first : (rows : List OfficeRow) → AllByRecursion AreLegibleSettings rows → AreLegibleSettings (unwrap_or (first rows) no_office)
-legible_first [] all = (no_text, no_text)
+legible_first [] all = (IsUtf8-nil, IsUtf8-nil)
 legible_first (row ∷ rows) all = all.0
 
 pub legible_rows : (version : Version) (db : Trees) → AreLegibleRows (rows_in version db)

@@ -2,7 +2,7 @@
 use Rattle.std.proofs.Common.{◌≡◌, ℕ, ◌≤◌, Bool, true, false, not, ◌&&◌, List, length, Option, Some, None, refl, sym, ap, ◌∙◌}
 use Rattle.std.specs.Prelude.{map, nat_eq, nat_le, int_le, ◌≤ℤ◌, is_some, option_map, count_by}
 use Rattle.std.specs.List.{list_all, list_any}
-use Rattle.std.proofs.lemmas.Bool.{and_parts, leb-true, false≢true}
+use Rattle.std.proofs.lemmas.Bool.{and_parts, leb-true, false≢true, not-true}
 use Rattle.isad_core.specs.Days.{IsDayNumber, is_day_number}
 use Rattle.isad_core.specs.Limits.{most_orders, most_tickets, most_permits}
 use Rattle.office_core.specs.Words.{numbered}
@@ -24,10 +24,6 @@ use Rattle.state_encoding.proofs.DeskLookups.{is_some-map, is_between_so, is_not
 pub not_bad : (b : Bool) → not b ≡ false → b ≡ true
 not_bad true e = refl
 not_bad false e = absurd (false≢true (sym e))
-
-pub not_so : (b : Bool) → not b ≡ true → b ≡ false
-not_so true e = absurd (false≢true e)
-not_so false e = refl
 
 -- ---- readers, seats and permits
 
@@ -105,7 +101,7 @@ order_parts t row h =
       is_day = is_day_so row.day d.0;
       day = is_not_later row.day t.office.day e.0;
       daily = leb-true (count_by (is_of_the_day row) t.desk.orders) t.office.daily f.0;
-      once = not_so (list_any (are_twice row) t.desk.orders) f.1;
+      once = not-true (list_any (are_twice row) t.desk.orders) f.1;
     }
 
 pub orders_parts : (t : OfficeRows) → are_good_orders (around t) t.desk ≡ true → OrdersParts t

@@ -9,7 +9,8 @@ use Rattle.tree_core.specs.declared.rows.Span.{Span}
 use Rattle.catalogue_core.proofs.DistinctLists.{all_so}
 use Rattle.catalogue_core.proofs.EachOf.{all_append}
 use Rattle.catalogue_core.specs.CatalogueRows.{nested, places_said, SpanRows}
-use Rattle.state_encoding.proofs.ReadBack.{filter_parts}
+use Rattle.std.proofs.lemmas.List.Elements.{filter-append}
+use Rattle.std.proofs.lemmas.List.{append-nil}
 
 -- the first numbers of a forest that is numbered from k
 abbrev Within : ℕ → ℕ → Span → Type 0
@@ -39,23 +40,19 @@ drops : (p : Span → Bool) (rows : List Span) → AllByRecursion (λ row. p row
 drops p [] h = refl
 drops p (row ∷ rows) h = ap (λ b. cond b (row ∷ filter p rows) (filter p rows)) h.0 ∙ drops p rows h.1
 
-no_more : {X : Type 0} (xs : List X) → xs ++ [] ≡ xs
-no_more [] = refl
-no_more (x ∷ xs) = ap (λ l. x ∷ l) (no_more xs)
-
 module _ (k : ℕ) (c o : Forest ℕ) where
   inside : filter (λ (other : Span). nat_lt other.lft (k + 2 * size c + 1)) (number (k + 1) c ++ number (k + 2 * size c + 2) o) ≡ number (k + 1) c
   inside =
       let p : Span → Bool = λ other. nat_lt other.lft (k + 2 * size c + 1) in
-      filter_parts p (number (k + 1) c) (number (k + 2 * size c + 2) o)
+      filter-append p (number (k + 1) c) (number (k + 2 * size c + 2) o)
       ∙ (ap (λ l. l ++ filter p (number (k + 2 * size c + 2) o)) (keeps p (number (k + 1) c) (all_so (Within (k + 1) (k + 1 + 2 * size c)) (λ row. p row ≡ true) (λ row h. (let u = h.1 in lt-ltb row.lft (k + 2 * size c + 1) (omega (arith, u)))) (number (k + 1) c) (numbers_within (k + 1) c)))
       ∙ (ap (λ l. number (k + 1) c ++ l) (drops p (number (k + 2 * size c + 2) o) (all_so (Within (k + 2 * size c + 2) (k + 2 * size c + 2 + 2 * size o)) (λ row. p row ≡ false) (λ row h. (let l = h.0 in le-ltb row.lft (k + 2 * size c + 1) (omega (arith, l)))) (number (k + 2 * size c + 2) o) (numbers_within (k + 2 * size c + 2) o)))
-      ∙ no_more (number (k + 1) c)))
+      ∙ append-nil (number (k + 1) c)))
 
   outside : filter (λ (other : Span). not (nat_lt other.lft (k + 2 * size c + 1))) (number (k + 1) c ++ number (k + 2 * size c + 2) o) ≡ number (k + 2 * size c + 2) o
   outside =
       let p : Span → Bool = λ other. not (nat_lt other.lft (k + 2 * size c + 1)) in
-      filter_parts p (number (k + 1) c) (number (k + 2 * size c + 2) o)
+      filter-append p (number (k + 1) c) (number (k + 2 * size c + 2) o)
       ∙ (ap (λ l. l ++ filter p (number (k + 2 * size c + 2) o)) (drops p (number (k + 1) c) (all_so (Within (k + 1) (k + 1 + 2 * size c)) (λ row. p row ≡ false) (λ row h. (let u = h.1 in ap not (lt-ltb row.lft (k + 2 * size c + 1) (omega (arith, u))))) (number (k + 1) c) (numbers_within (k + 1) c)))
       ∙ keeps p (number (k + 2 * size c + 2) o) (all_so (Within (k + 2 * size c + 2) (k + 2 * size c + 2 + 2 * size o)) (λ row. p row ≡ true) (λ row h. (let l = h.0 in ap not (le-ltb row.lft (k + 2 * size c + 1) (omega (arith, l))))) (number (k + 2 * size c + 2) o) (numbers_within (k + 2 * size c + 2) o)))
 

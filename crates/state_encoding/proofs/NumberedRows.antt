@@ -8,8 +8,9 @@ use Rattle.catalogue_core.specs.Members.{StandsIn}
 use Rattle.state_encoding.specs.DeskShown.{rows_from}
 use Rattle.desk_core.specs.DeskCauses.{AreInOrder}
 use Rattle.isad_core.specs.Words.{are_numbered_from}
-use Rattle.office_core.proofs.Words.{same_number, other_number, or_false}
+use Rattle.office_core.proofs.Words.{same_number, other_number}
 use Rattle.state_encoding.proofs.Members.{any_same}
+use Rattle.std.proofs.Math.Bool.{or-false}
 
 module _ {R : Type 0} (key : R → ℕ) where
   -- the rows from n on, by their places
@@ -41,7 +42,7 @@ module _ {R : Type 0} (key : R → ℕ) where
       let z : n + 0 ≡ n = omega arith in
       subst (λ m. list_any (λ r. nat_eq (key r) m && p r) (x ∷ xs) ≡ p x) (sym z)
       (ap (λ b. (b && p x) || list_any (λ r. nat_eq (key r) n && p r) xs) both.0
-      ∙ (ap (λ b. p x || b) (none_below p (suc n) xs n both.1 (omega arith)) ∙ or_false (p x)))
+      ∙ (ap (λ b. p x || b) (none_below p (suc n) xs n both.1 (omega arith)) ∙ or-false (p x)))
   any_from p n (x ∷ xs) (suc j) h =
       let both = and_parts (nat_eq (key x) n) (are_numbered_from key (suc n) xs) h in
       let k = eqb-true (key x) n both.0 in

@@ -3,7 +3,7 @@ use Rattle.std.proofs.Common.{◌≡◌, ℕ, zero, suc, ◌<◌, ◌≤◌, Boo
 use Rattle.std.specs.Prelude.{nat_eq, map, filter, find, option_map, is_some}
 use Rattle.std.specs.List.{flat_map, AllByRecursion}
 use Rattle.std.proofs.Math.Path.{fun_ext}
-use Rattle.std.proofs.lemmas.List.{map-append}
+use Rattle.std.proofs.lemmas.List.{map-append, append-nil}
 use Rattle.std.proofs.lemmas.List.Concat.{flat_map-cons}
 use Rattle.std.proofs.lemmas.Grind.{flat_map-append}
 use Rattle.std.proofs.lemmas.Bool.{cases_eq, cases_Bool, false≢true, eq-eqb}
@@ -19,6 +19,7 @@ use Rattle.state_encoding.proofs.TableLaws.{rows_back, reads_back}
 use Rattle.office_core.specs.SoundDesk.{AreGoodPermits, IsSoundDesk}
 use Rattle.office_core.proofs.Words.{same_number, other_number, stands-push, numbered_within}
 use Rattle.office_core.proofs.Counts.{none_to, numbered_from_one}
+use Rattle.std.proofs.lemmas.List.Elements.{filter-append}
 
 -- ---- seats
 
@@ -64,14 +65,6 @@ seats_back n (Some t ∷ seats) =
 abbrev of_run : ℕ → RunLineRow → Bool
 of_run n row = nat_eq row.run n
 
-pub filter_parts : {X : Type 0} (p : X → Bool) (xs ys : List X) → filter p (xs ++ ys) ≡ filter p xs ++ filter p ys
-filter_parts p [] ys = refl
-filter_parts p (x ∷ xs) ys = at (p x) (filter_parts p xs ys)
-  where
-    at : (b : Bool) → filter p (xs ++ ys) ≡ filter p xs ++ filter p ys → cond b (x ∷ filter p (xs ++ ys)) (filter p (xs ++ ys)) ≡ cond b (x ∷ filter p xs) (filter p xs) ++ filter p ys
-    at true e = ap (λ l. x ∷ l) e
-    at false e = e
-
 no_lines : (n : ℕ) (rows : List RunLineRow) → AllByRecursion (λ row. nat_eq row.run n ≡ false) rows → filter (of_run n) rows ≡ []
 no_lines n [] h = refl
 no_lines n (row ∷ rows) h = ap (λ b. cond b (row ∷ filter (of_run n) rows) (filter (of_run n) rows)) h.0 ∙ no_lines n rows h.1
@@ -101,7 +94,7 @@ runs_from front n (run ∷ runs) h =
     let mine : List RunLineRow = map (run_line_row n) run.lines in
     let rest : List RunLineRow = lines_from (suc n) runs in
     let all : List RunLineRow = front ++ (mine ++ rest) in
-    let a : filter (of_run n) all ≡ filter (of_run n) mine = filter_parts (of_run n) front (mine ++ rest) ∙ (ap (λ l. l ++ filter (of_run n) (mine ++ rest)) (no_lines n front (h n (omega arith))) ∙ (filter_parts (of_run n) mine rest ∙ (ap (λ l. filter (of_run n) mine ++ l) (no_lines n rest (later_lines (suc n) n runs (omega arith))) ∙ nothing_more (filter (of_run n) mine)))) in
+    let a : filter (of_run n) all ≡ filter (of_run n) mine = filter-append (of_run n) front (mine ++ rest) ∙ (ap (λ l. l ++ filter (of_run n) (mine ++ rest)) (no_lines n front (h n (omega arith))) ∙ (filter-append (of_run n) mine rest ∙ (ap (λ l. filter (of_run n) mine ++ l) (no_lines n rest (later_lines (suc n) n runs (omega arith))) ∙ nothing_more (filter (of_run n) mine)))) in
     ap (λ ls. record { day = run.day; lines = map line_from ls } ∷ map (run_from all) (rows_from run_row (suc n) runs)) a
     ∙ (ap (λ ls. record { day = run.day; lines = ls } ∷ map (run_from all) (rows_from run_row (suc n) runs)) (own_lines n run.lines)
     ∙ ap (λ l. run ∷ l) (ap (λ l. map (run_from l) (rows_from run_row (suc n) runs)) (sym (append_assoc front mine rest)) ∙ runs_from (front ++ mine) (suc n) runs (λ m k. all_append (λ row. nat_eq row.run m ≡ false) front mine (h m (omega (arith, k))) (all_of_run n m run.lines (other_number n m (λ e. omega (arith, k, e)))))))
@@ -140,18 +133,14 @@ past_all (suc n) m h =
 
 said_parts : (xs ys : List PermitRow) (t : ℕ) → permits_said (xs ++ ys) t ≡ permits_said xs t ++ permits_said ys t
 said_parts xs ys t =
-    ap (map (λ (row : PermitRow). record { unit = row.unit; until = row.until })) (filter_parts (of_ticket t) xs ys)
+    ap (map (λ (row : PermitRow). record { unit = row.unit; until = row.until })) (filter-append (of_ticket t) xs ys)
     ∙ map-append (λ (row : PermitRow). record { unit = row.unit; until = row.until }) (filter (of_ticket t) xs) (filter (of_ticket t) ys)
-
-no_more : {X : Type 0} (xs : List X) → xs ++ [] ≡ xs
-no_more [] = refl
-no_more (x ∷ xs) = ap (λ l. x ∷ l) (no_more xs)
 
 one_more : (permits : ℕ → List Permit) (n : ℕ) → permits_of permits (suc n) ≡ permits_of permits n ++ map (permit_row (suc n)) (permits (suc n))
 unfolding permits_of
 one_more permits n =
     flat_map-append (λ t. map (permit_row t) (permits t)) (numbers_to n) (suc n ∷ [])
-    ∙ ap (λ l. permits_of permits n ++ l) (flat_map-cons (λ t. map (permit_row t) (permits t)) (suc n) [] ∙ no_more (map (permit_row (suc n)) (permits (suc n))))
+    ∙ ap (λ l. permits_of permits n ++ l) (flat_map-cons (λ t. map (permit_row t) (permits t)) (suc n) [] ∙ append-nil (map (permit_row (suc n)) (permits (suc n))))
 
 permits_all : (permits : ℕ → List Permit) (n t : ℕ) → permits_said (permits_of permits n) t ≡ cond (stands t (numbers_to n)) (permits t) []
 unfolding permits_of
@@ -167,7 +156,7 @@ permits_all permits (suc n) t =
           ∙ (ap permits (sym e) ∙ sym (ap (λ b. cond b (permits t) []) (stands-push t (suc n) (numbers_to n) ∙ (ap (λ b. b || nat_eq t (suc n)) (past_all n t (omega (arith, e))) ∙ eq-eqb t (suc n) e)))))
       | inr ne ↦
           ap (λ l. cond (stands t (numbers_to n)) (permits t) [] ++ l) (own_permits t (suc n) (permits (suc n)) false (other_number (suc n) t (λ e. ne (sym e))))
-          ∙ (no_more (cond (stands t (numbers_to n)) (permits t) [])
+          ∙ (append-nil (cond (stands t (numbers_to n)) (permits t) [])
           ∙ sym (ap (λ b. cond b (permits t) []) (stands-push t (suc n) (numbers_to n) ∙ or_none (stands t (numbers_to n)) (nat_eq t (suc n)) (other_number t (suc n) ne))))
     ]))
   where

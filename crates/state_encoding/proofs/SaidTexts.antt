@@ -1,8 +1,8 @@
 -- The texts of a state that rows say are texts of the rows.
-use Rattle.std.proofs.Common.{◌≡◌, ℕ, zero, suc, ◌&&◌, Bool, length, List, [], ◌∷◌, Option, Some, None, map, refl, nat_eq, IsUtf8, arith, sym, subst}
+use Rattle.std.proofs.Common.{◌≡◌, ℕ, zero, suc, ◌&&◌, Bool, length, List, [], ◌∷◌, Option, Some, None, map, refl, nat_eq, IsUtf8, sym, subst}
 use Rattle.std.specs.Prelude.{find, option_map, unwrap_or, IfSome, false}
 use Rattle.std.specs.List.{AllByRecursion, cons_option}
-use Rattle.std.proofs.lemmas.Str.{IsUtf8-from_ascii}
+use Rattle.std.proofs.lemmas.Str.{IsUtf8-nil}
 use Rattle.isad_core.specs.Legible.{IsLegibleBox, AreLegibleValues}
 use Rattle.isad_core.specs.Texts.{Bytes}
 use Rattle.isad_core.specs.declared.values.BoxKey.{BoxKey}
@@ -20,9 +20,6 @@ use Rattle.state_encoding.specs.Reading.{OfficeRows, state_of, box_at, boxes_fro
 use Rattle.state_encoding.specs.CellJudged.{IsLegibleUnitRow, IsLegibleContainerRow, AreLegibleRows}
 use Rattle.state_encoding.proofs.RowsByNumber.{each_in}
 use Rattle.state_encoding.proofs.NumberedRows.{numbered_in}
-
-no_text : IsUtf8 []
-no_text = IsUtf8-from_ascii [] (λ k. omega arith)
 
 readers_said : (rows : List ReaderRow) → AllByRecursion (λ (row : ReaderRow). IsUtf8 row.name) rows → AllByRecursion (λ reader. IsUtf8 reader.name) (map reader_from rows)
 readers_said [] h = tt
@@ -75,7 +72,7 @@ module _ (t : OfficeRows) (l : AreLegibleRows t) where
     where
       at : (r : Option UnitRow) → find (λ (row : UnitRow). nat_eq row.id u) t.catalogue.units ≡ r
           → HasLegibleTexts (unwrap_or (option_map (unit_from t.catalogue) r) (record { id = u; source = []; legacy = []; values = values_said t.catalogue u []; draft = false; until = None }))
-      at None e = record { source = no_text; legacy = no_text; values = values_legible u [] no_text }
+      at None e = record { source = IsUtf8-nil; legacy = IsUtf8-nil; values = values_legible u [] IsUtf8-nil }
       at (Some row) e =
           let texts = each_in IsLegibleUnitRow t.catalogue.units row l.units (find_some (λ (row : UnitRow). nat_eq row.id u) t.catalogue.units row e).0 in
           record { source = texts.source; legacy = texts.legacy; values = values_legible row.id row.level texts.level }

@@ -28,7 +28,7 @@ use Rattle.state_encoding.proofs.Linked.{links_say}
 use Rattle.office_core.proofs.Words.{same_number, other_number}
 use Rattle.catalogue_core.proofs.Imported.{same_box}
 use Rattle.catalogue_core.proofs.ImportedAgain.{box_itself}
-use Rattle.state_encoding.proofs.ReadBack.{filter_parts}
+use Rattle.std.proofs.lemmas.List.Elements.{filter-append}
 
 -- ---- units with numbers of their own
 
@@ -70,7 +70,7 @@ module _ {R : Type 0} (key : R → ℕ) (rows : Unit → List R) (own : (u : Uni
   none_of n [] h = refl
   none_of n (v ∷ us) h =
       ap (filter (λ r. nat_eq (key r) n)) (flat_map-cons rows v us)
-      ∙ (filter_parts (λ r. nat_eq (key r) n) (rows v) (flat_map rows us)
+      ∙ (filter-append (λ r. nat_eq (key r) n) (rows v) (flat_map rows us)
       ∙ (ap (λ l. l ++ filter (λ r. nat_eq (key r) n) (flat_map rows us)) (kept_own v.id n (rows v) false h.0 (own v)) ∙ none_of n us h.1))
 
   flip : (n m : ℕ) → nat_eq n m ≡ false → nat_eq m n ≡ false
@@ -82,13 +82,13 @@ module _ {R : Type 0} (key : R → ℕ) (rows : Unit → List R) (own : (u : Uni
       let h = apart_head v.id (map number_of us) d in
       let apart = of_units (λ n. nat_eq v.id n ≡ false) us h.0 in (
         ap (filter (λ r. nat_eq (key r) v.id)) (flat_map-cons rows v us)
-            ∙ (filter_parts (λ r. nat_eq (key r) v.id) (rows v) (flat_map rows us)
+            ∙ (filter-append (λ r. nat_eq (key r) v.id) (rows v) (flat_map rows us)
             ∙ (ap (λ l. l ++ filter (λ r. nat_eq (key r) v.id) (flat_map rows us)) (kept_own v.id v.id (rows v) true (same_number v.id) (own v))
             ∙ (ap (λ l. rows v ++ l) (none_of v.id us (flipped us apart)) ∙ no_more (rows v)))),
         all_two (λ u. nat_eq v.id u.id ≡ false) (λ u. filter (λ r. nat_eq (key r) u.id) (flat_map rows us) ≡ rows u) (λ u. filter (λ r. nat_eq (key r) u.id) (flat_map rows (v ∷ us)) ≡ rows u)
             (λ u e f.
             ap (filter (λ r. nat_eq (key r) u.id)) (flat_map-cons rows v us)
-            ∙ (filter_parts (λ r. nat_eq (key r) u.id) (rows v) (flat_map rows us)
+            ∙ (filter-append (λ r. nat_eq (key r) u.id) (rows v) (flat_map rows us)
             ∙ (ap (λ l. l ++ filter (λ r. nat_eq (key r) u.id) (flat_map rows us)) (kept_own v.id u.id (rows v) false e (own v)) ∙ f))) us apart (own_rows us h.1),
       )
     where

@@ -2,7 +2,7 @@
 -- rows that are read, and these have their keys.
 use Rattle.std.proofs.Common.{◌≡◌, ℕ, length, List, [], ◌∷◌, true, false, not, ◌&&◌, inl, inr, IsTrue, filter_map, nat_eq, refl, sym, ap, subst, ◌∙◌, arith}
 use Rattle.std.specs.List.{AllByRecursion}
-use Rattle.std.proofs.lemmas.Bool.{and_parts, eq-eqb, false≢true}
+use Rattle.std.proofs.lemmas.Bool.{and_parts, eq-eqb, false≢true, not-true}
 use Rattle.sqlite.specs.Ops.{is_null}
 use Rattle.sqlite.specs.Order.{Row}
 use Rattle.sqlite.specs.Table.{Table}
@@ -17,7 +17,6 @@ use Rattle.tree_core.specs.Versions.{Version}
 use Rattle.catalogue_core.specs.Members.{StandsIn}
 use Rattle.desk_core.specs.DeskCauses.{AreInOrder, MeetsDeskKeys}
 use Rattle.desk_core.specs.DeskRows.{Desk, ReaderRow, SeatRow, OrderRow, HoldingRow, RunRow, RunLineRow, PermitRow}
-use Rattle.state_encoding.proofs.DeskParts.{not_so}
 use Rattle.state_encoding.proofs.Grouped.{order_weaker}
 use Rattle.state_encoding.proofs.Members.{test_in}
 use Rattle.row_decoding.specs.TableRows.{then_by}
@@ -99,7 +98,7 @@ module _ (version : Version) (db : Trees) (obeys : Obeys (schema version) db) (w
       → AllByRecursion (λ row. clashes index.order index.columns (db table.tree) row ≡ false) rows
   guarded table index rows there guard keeps =
       all_weaker (λ row. passes Unique (schema version) db table row ≡ true) (λ row. clashes index.order index.columns (db table.tree) row ≡ false)
-      (λ row h. not_so (clashes index.order index.columns (db table.tree) row)
+      (λ row h. not-true (clashes index.order index.columns (db table.tree) row)
       (sym (ap (λ b. not (b && clashes index.order index.columns (db table.tree) row)) guard)
       ∙ test_in (λ (i : Index). not (guards i table && clashes i.order i.columns (db table.tree) row)) (schema version).indexes index h there))
       rows keeps
