@@ -1,0 +1,106 @@
+#!/usr/bin/env python3
+"""Counts the statements of a page, an aid of ten units and a list, in the offices that beside.py makes, and prints a table:
+
+    bench/statements.py [UNITS ..]
+
+It follows the calls of `nested_sets` and `catalogue_store` on numbers in memory, so it has to be changed with them. The three
+statements of each question for its transaction and the office's own row are left out, and the moves of branches.
+"""
+import sys
+
+from measure import BELOW, Archive
+
+FEW, STRETCH, SHORTER = 4, 64, 8
+HEAD, VALUES, MARK = 3, 4, 2
+
+
+class Places:
+    """The nested sets of an office before any move."""
+
+    def __init__(self, archive):
+        self.above, self.below, self.first, self.last = {}, {None: []}, {}, {}
+        for place in range(archive.units):
+            file, row = divmod(place, archive.rows)
+            unit = place + 1
+            top = row < archive.tops
+            self.above[unit] = None if top else file * archive.rows + (row - archive.tops) // BELOW + 1
+            self.below[unit] = []
+            self.below[self.above[unit]].append(unit)
+        self.number()
+        self.from_first = {number: unit for unit, number in self.first.items()}
+        self.from_last = {number: unit for unit, number in self.last.items()}
+
+    def number(self):
+        number, open_units = 0, [(None, iter(self.below[None]))]
+        while open_units:
+            unit, left = open_units[-1]
+            number += 1
+            child = next(left, None)
+            if child is not None:
+                self.first[child] = number
+                open_units.append((child, iter(self.below[child])))
+            else:
+                open_units.pop()
+                self.last[unit] = number
+
+    def search(self, unit):
+        """What the search for the row right above takes: statements, and rows that are looked over."""
+        statements = rows = 0
+        elder, younger, before, few = unit, unit, self.first[unit], FEW
+        while True:
+            begun = before
+            for _ in range(few):
+                next_elder = self.from_last.get(self.first[elder] - 1)
+                next_younger = self.from_first.get(self.last[younger] + 1)
+                if next_elder is None or next_younger is None:
+                    return statements + (2 if next_elder is None else 3), rows
+                statements += 2
+                elder, younger, before = next_elder, next_younger, self.first[next_elder]
+            stretch = few * STRETCH
+            start = max(before - (stretch // SHORTER if begun - before > stretch else stretch), 0)
+            over = [self.from_first[number] for number in range(start, before) if number in self.from_first]
+            statements, rows = statements + 1, rows + len(over)
+            if start <= 1 or any(self.last[it] > self.last[elder] for it in over):
+                return statements, rows
+            before, few = start, 2 * few
+
+    def path(self, unit):
+        """The same for a whole path, and how many units are on it."""
+        statements, rows, depth = 1, 0, 0
+        while unit is not None:
+            more, looked_over = self.search(unit)
+            statements, rows, depth, unit = statements + more, rows + looked_over, depth + 1, self.above[unit]
+        return statements, rows, depth
+
+
+def mean(numbers):
+    return sum(numbers) / len(numbers)
+
+
+def count(units):
+    archive = Archive(units)
+    places = Places(archive)
+    tops = len(places.below[None])
+
+    def say(what, asked, more):
+        paths = [places.path(unit) for unit in asked]
+        whole = mean([path[0] + more(unit, path[2]) for unit, path in zip(asked, paths)])
+        print(f"| {what} | {whole:.0f} | {mean([path[0] for path in paths]):.0f} | {mean([path[1] for path in paths]):.0f} |")
+
+    def page(unit, depth):
+        children = len(places.below[unit])
+        return HEAD * depth + VALUES * depth + 2 + children + HEAD * children
+
+    def aid(_unit, depth):
+        return HEAD * depth + 2 + 10 * MARK + 10 * VALUES
+
+    requests = range(archive.requests)
+    print(f"\n| {units:,} units | Statements | of them for the path | Rows looked over for it |\n|---|---|---|---|")
+    say("a page", [archive.unit(n, archive.requests) for n in requests], page)
+    say("an aid of ten units", [archive.unit_with_nine_below(n, archive.requests) for n in requests], aid)
+    print(f"| the list of {tops} fonds | {1 + tops + HEAD * tops} | 0 | 0 |")
+
+
+if __name__ == "__main__":
+    for units in map(int, sys.argv[1:] or ["60000", "200000"]):
+        count(units)
