@@ -9,7 +9,7 @@ use Rattle.tree_core.specs.Forest.{Forest}
 use Rattle.tree_core.specs.Versions.{Version}
 use Rattle.state_encoding.specs.Causes.{day_is_broken}
 use Rattle.state_encoding.specs.CellCauses.{rows_in}
-use Rattle.office_tables.specs.Asking.{Reads}
+use Rattle.adoption.specs.Looking.{Looks}
 use Rattle.office_tables.specs.Calls.{Answers}
 use Rattle.office_tables.specs.Faults.{FaultsHaveCause}
 use Rattle.office_tables.specs.Step.{InTransaction, LeavesUnchanged}
@@ -46,7 +46,7 @@ module _ (places : Trees → Forest ℕ → Type 0) (v : Version) {S : Type 0} (
   abbrev pub TellsTheDay : Type 0
   TellsTheDay = Answers g (RepresentsWhole places v) CanBeJudged before after r (λ _. ⊤) (λ _ s broken. CanBeJudged s → own.today ≡ s.day → own.limits.hands ≡ s.settings.hands → broken ≡ breaks_day_rules s)
 
-  pub day_read : TellsTheDay → Reads old new r
+  pub day_read : TellsTheDay → Looks old new r
   day_read told = record { crash = looked_crash r old new told.looks told.cut; looks = told.looks; cut = told.cut }
 
   module _ (law : GoodTablesShowTheirState places v old.now) (inside : InTransaction v old) (live : IsLive old) (told : TellsTheDay) (opened : IsTrue old.is_open) (ordered : StandInOrder old.now) (none : HasNoEarlierCause v old.now.trees) (clean : HasCleanDisk new) where

@@ -1,3 +1,4 @@
+pub mod Lookings
 pub mod DeskChecked
 pub mod catalogue
 pub mod tables

@@ -1,3 +1,4 @@
+pub mod Looking
 pub mod DeskChecked
 pub mod OrderedTables
 pub mod Found

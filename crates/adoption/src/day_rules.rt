@@ -5,7 +5,7 @@ ghost use Rattle.sqlite.specs.Held.{state};
 ghost use Rattle.sqlite.specs.State.{HasCleanDisk};
 ghost use Rattle.state_encoding.specs.Causes.{day_is_broken};
 ghost use Rattle.state_encoding.specs.CellCauses.{rows_in};
-ghost use Rattle.office_tables.specs.Asking.{Reads};
+ghost use Rattle.adoption.specs.Looking.{Looks};
 ghost use Rattle.office_tables.specs.Faults.{FaultsHaveCause};
 ghost use Rattle.office_tables.specs.Step.{InTransaction};
 ghost use Rattle.adoption.specs.Causes.{HasNoEarlierCause};
@@ -26,7 +26,7 @@ pub(crate) fn breaks_day_rules<P: CheckedPlaces, S: Alter>(
     own: &OwnRow,
 ) -> Result<bool, StoreFault>
     requires inside { InTransaction P.version (state S.Store conn.old) }
-    ensures reads { Reads (state S.Store conn.old) (state S.Store conn.new) result }
+    ensures reads { Looks (state S.Store conn.old) (state S.Store conn.new) result }
     ensures tells { HasCleanDisk (state S.Store conn.new) → IsTrue (state S.Store conn.old).is_open
         → StandInOrder (state S.Store conn.old).now
         → own_row_of P.version (state S.Store conn.old).now.trees ≡ Some own.now

@@ -10,7 +10,7 @@ ghost use Rattle.isad_core.specs.Days.{is_day_number};
 ghost use Rattle.isad_core.specs.Words.{is_between};
 ghost use Rattle.office_core.specs.Soundness.{is_country as is_country_code, is_repository as is_repository_code};
 ghost use Rattle.office_tables.specs.Cells.{text_in};
-ghost use Rattle.office_tables.specs.Asking.{Reads};
+ghost use Rattle.adoption.specs.Looking.{Looks};
 ghost use Rattle.office_tables.specs.Faults.{FaultsHaveCause};
 ghost use Rattle.office_tables.specs.Step.{InTransaction};
 ghost use Rattle.adoption.specs.OwnRows.{are_good_numbers, are_good_texts, numbers_said, numbers_told, own_from as own_of_numbers, own_judged, own_row_of};
@@ -200,7 +200,7 @@ pub(crate) fn own_row<P: Places, S: Alter>(
     conn: &mut Connection<S>,
 ) -> Result<Option<OwnRow>, StoreFault>
     requires inside { InTransaction P.version (state S.Store conn.old) }
-    ensures reads { Reads (state S.Store conn.old) (state S.Store conn.new) result }
+    ensures reads { Looks (state S.Store conn.old) (state S.Store conn.new) result }
     ensures tells { HasCleanDisk (state S.Store conn.new) → StandInOrder (state S.Store conn.old).now
         → IfOk result (λ found. found ≡ own_row_of P.version (state S.Store conn.old).now.trees) }
     ensures opened { HasCleanDisk (state S.Store conn.new)

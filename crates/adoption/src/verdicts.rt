@@ -4,7 +4,7 @@ ghost use Rattle.std.specs.Prelude.{◌≡◌, IfOk, IsTrue, None, Some};
 ghost use Rattle.sqlite.specs.Held.{state};
 ghost use Rattle.sqlite.specs.State.{HasCleanDisk};
 ghost use Rattle.state_encoding.specs.CellCauses.{cell_cause};
-ghost use Rattle.office_tables.specs.Asking.{Reads};
+ghost use Rattle.adoption.specs.Looking.{Looks};
 ghost use Rattle.office_tables.specs.Faults.{FaultsHaveCause, IsUnlimited};
 ghost use Rattle.office_tables.specs.Step.{InTransaction};
 ghost use Rattle.adoption.specs.DeskChecked.{catalogue_cell_cause};
@@ -29,7 +29,7 @@ fn desk_cause<P: CheckedPlaces, S: Alter>(
     own: &OwnRow,
 ) -> Result<Option<u8>, StoreFault>
     requires inside { InTransaction P.version (state S.Store conn.old) }
-    ensures reads { Reads (state S.Store conn.old) (state S.Store conn.new) result }
+    ensures reads { Looks (state S.Store conn.old) (state S.Store conn.new) result }
     ensures tells { HasCleanDisk (state S.Store conn.new) → IsTrue (state S.Store conn.old).is_open
         → StandInOrder (state S.Store conn.old).now
         → own_row_of P.version (state S.Store conn.old).now.trees ≡ Some own.now
@@ -55,7 +55,7 @@ fn least_cause<P: CheckedPlaces, S: Alter>(
     conn: &mut Connection<S>,
 ) -> Result<Option<u8>, StoreFault>
     requires inside { InTransaction P.version (state S.Store conn.old) }
-    ensures reads { Reads (state S.Store conn.old) (state S.Store conn.new) result }
+    ensures reads { Looks (state S.Store conn.old) (state S.Store conn.new) result }
     ensures tells { HasCleanDisk (state S.Store conn.new) → StandInOrder (state S.Store conn.old).now
         → IfOk result (λ cause. cause ≡ cell_cause P.version (state S.Store conn.old).now.trees) }
     ensures faults { StandInOrder (state S.Store conn.old).now
@@ -77,7 +77,7 @@ pub fn judge<P: CheckedPlaces, S: Alter>(
 ) -> Result<Verdict, StoreFault>
     requires inside { HasCleanDisk (state S.Store conn.old) → IsTrue (state S.Store conn.old).in_transaction }
     requires unlimited { IsUnlimited (state S.Store conn.old) }
-    ensures reads { Reads (state S.Store conn.old) (state S.Store conn.new) result }
+    ensures reads { Looks (state S.Store conn.old) (state S.Store conn.new) result }
     ensures tells { HasCleanDisk (state S.Store conn.new)
         → IfOk result (IsVerdict P.version (state S.Store conn.old).now) }
     ensures faults { StandInOrder (state S.Store conn.old).now

@@ -3,7 +3,7 @@
 ghost use Rattle.std.specs.Prelude.{◌≡◌, IfOk, IsTrue};
 ghost use Rattle.sqlite.specs.Held.{state};
 ghost use Rattle.sqlite.specs.State.{HasCleanDisk};
-ghost use Rattle.office_tables.specs.Asking.{Reads};
+ghost use Rattle.adoption.specs.Looking.{Looks};
 ghost use Rattle.office_tables.specs.Faults.{FaultsHaveCause, IsUnlimited};
 ghost use Rattle.adoption.specs.Verdicts.{IsVersionVerdict, verdict_of_version};
 ghost use Rattle.adoption.specs.Versions.{AreVersions};
@@ -18,7 +18,7 @@ use sqlite::{Alter, Connection, Row};
 fn versions<S: Alter>(conn: &mut Connection<S>) -> Result<Option<Vec<Row>>, StoreFault>
     requires inside { HasCleanDisk (state S.Store conn.old) → IsTrue (state S.Store conn.old).in_transaction }
     requires unlimited { IsUnlimited (state S.Store conn.old) }
-    ensures reads { Reads (state S.Store conn.old) (state S.Store conn.new) result }
+    ensures reads { Looks (state S.Store conn.old) (state S.Store conn.new) result }
     ensures tells { HasCleanDisk (state S.Store conn.new)
         → IfOk result (AreVersions (state S.Store conn.old).now) }
     ensures faults { FaultsHaveCause (state S.Store conn.old) (state S.Store conn.new) result }
@@ -49,7 +49,7 @@ pub(crate) fn judge_version<P: Places, S: Alter>(
 ) -> Result<Option<Verdict>, StoreFault>
     requires inside { HasCleanDisk (state S.Store conn.old) → IsTrue (state S.Store conn.old).in_transaction }
     requires unlimited { IsUnlimited (state S.Store conn.old) }
-    ensures reads { Reads (state S.Store conn.old) (state S.Store conn.new) result }
+    ensures reads { Looks (state S.Store conn.old) (state S.Store conn.new) result }
     ensures tells { HasCleanDisk (state S.Store conn.new)
         → IfOk result (IsVersionVerdict P.version (state S.Store conn.old).now) }
     ensures faults { FaultsHaveCause (state S.Store conn.old) (state S.Store conn.new) result }

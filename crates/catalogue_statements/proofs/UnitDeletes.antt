@@ -1,6 +1,6 @@
 -- DELETE of a unit, with its elements, its housings and the permits for it.
 use Rattle.office_tables.specs.Schema as tables
-use Rattle.std.proofs.Common.{◌≡◌, inl, inr, ℕ, ℤ, pos, List, [], ◌∷◌, map, filter, find, codes, Bool, true, false, ◌&&◌, ◌||◌, not, cond, Some, None, unwrap_or, Ok, nat_eq, refl, sym, ap, ap₂, subst, ◌∙◌}
+use Rattle.std.proofs.Common.{◌≡◌, inl, inr, ℕ, zero, suc, arith, length, length-append, ℤ, pos, List, [], ◌∷◌, map, filter, find, codes, Bool, true, false, ◌&&◌, ◌||◌, not, cond, Some, None, unwrap_or, Ok, nat_eq, refl, sym, ap, ap₂, subst, ◌∙◌}
 use Rattle.std.proofs.lemmas.Bool.{eq-eqb, eqb-true, cases_Bool}
 use Rattle.std.specs.List.{AllByRecursion, list_any}
 use Rattle.std.specs.List.Sorted.{IsPermutation}
@@ -21,7 +21,7 @@ use Rattle.sqlite.specs.Listing.{understood}
 use Rattle.sqlite.specs.declared.run.Mode.{Mode}
 use Rattle.sqlite.specs.State.{State, Writes, Executes, mode_of}
 use Rattle.sqlite.proofs.Callers.{IsPlain, command_of, statement_of, runs_as, one_permutation}
-use Rattle.sqlite_rules.specs.Action.{works, Work, loses, Settles, is_child_of}
+use Rattle.sqlite_rules.specs.Action.{works, Work, pairs, loses, Settles, is_child_of}
 use Rattle.sqlite_rules.specs.Calls.{ids_of}
 use Rattle.sqlite_rules.specs.declared.action.Deed.TheVariants.{Delete}
 use Rattle.sqlite_schema.specs.Names.{same_name}
@@ -91,6 +91,22 @@ works_are : (v : Version) (u : Unit) → works (schema v) Enforced 0 tables.unit
 unfolding joined same_name
 works_are Links u = rw (lost u) refl
 works_are Spans u = rw (lost u) refl
+
+-- the same where any rows are gone
+
+abbrev work_with : Table → ℕ → List (Row × Row) → Work
+work_with child place moves = record { depth = 0; child = child; ref = to_unit place; places = 0 ∷ []; order = plain; deed = Delete; moves = moves }
+
+works_any : (v : Version) (olds : List Row) → list_any (loses plain (0 ∷ [])) (pairs olds []) ≡ true
+    → works (schema v) Enforced 0 tables.unit.tree olds [] ≡ work_with permit 2 (pairs olds []) ∷ work_with element 1 (pairs olds []) ∷ work_with housing 1 (pairs olds []) ∷ []
+unfolding joined same_name
+works_any Links olds some = rw some refl
+works_any Spans olds some = rw some refl
+
+works_none : (v : Version) (olds : List Row) → list_any (loses plain (0 ∷ [])) (pairs olds []) ≡ false → works (schema v) Enforced 0 tables.unit.tree olds [] ≡ []
+unfolding joined same_name
+works_none Links olds none = rw none refl
+works_none Spans olds none = rw none refl
 
 child_is : (child : Table) (place : ℕ) (u : Unit) (n : ℕ) (r : Row) → column r place ≡ Int (pos n) → list_any (is_child_of (work_on child place u) r) (work_on child place u).moves ≡ nat_eq u.id n
 unfolding first_key
@@ -204,6 +220,49 @@ module _ (old new : Database) (id : ℕ) (units : List Unit) (u : Unit) (v : Ver
         (touched_then (tables.unit.tree ∷ []) (tables.housing.tree ∷ []) old (record old { trees = it.next }) (record old { trees = first }) to_next to_first)
         (touched_then (tables.element.tree ∷ []) (tables.permit.tree ∷ []) (record old { trees = first }) (record old { trees = second }) new to_second to_new));
   }
+
+-- ---- which tables it touches, whatever their rows are
+
+nothing_left : (v : Version) (next final : Trees) → Settles (schema v) Enforced next [] (Ok final) → final ≡ next
+nothing_left v next final (zero, h) = sym (let e = h.1 in cc)
+nothing_left v next final (suc n, h) = absurd (omega (arith, ap length h.2, length-append h.0 (h.1 ∷ [])))
+
+module _ (old new : Database) (id : ℕ) (v : Version) (it : DeletedWith (schema v) 8 unit refl strict (Int (pos id) ∷ []) remove_unit_program old new) where
+  gone : List Row
+  gone = taken_by old.trees (edit_of old.trees unit (ids_of it.rows) Given 0 [])
+
+  moves : List (Row × Row)
+  moves = pairs gone []
+
+  next_only : OnlyTouches (tables.unit.tree ∷ []) old (record old { trees = it.next })
+  next_only = touched v old (record old { trees = it.next }) tables.unit.tree it.applies.tables
+
+  all_only : (first second : Trees) → IsCascade (schema v) Enforced (work_with housing 1 moves) it.next first → IsCascade (schema v) Enforced (work_with element 1 moves) first second
+      → IsCascade (schema v) Enforced (work_with permit 2 moves) second new.trees → OnlyTouches (tables.permit.tree ∷ tables.unit.tree ∷ tables.element.tree ∷ tables.housing.tree ∷ []) old new
+  all_only first second p q r =
+      let next = record old { trees = it.next } in
+      let one = record old { trees = first } in
+      let two = record old { trees = second } in
+      let to_one = touched v next one tables.housing.tree (cascade_apart (schema v) Enforced (work_with housing 1 moves) it.next first p) in
+      let to_two = touched v one two tables.element.tree (cascade_apart (schema v) Enforced (work_with element 1 moves) first second q) in
+      let to_new = touched v two new tables.permit.tree (cascade_apart (schema v) Enforced (work_with permit 2 moves) second new.trees r) in
+      touched_wider (tables.unit.tree ∷ tables.housing.tree ∷ tables.element.tree ∷ tables.permit.tree ∷ []) (tables.permit.tree ∷ tables.unit.tree ∷ tables.element.tree ∷ tables.housing.tree ∷ []) old new refl
+      (touched_then (tables.unit.tree ∷ tables.housing.tree ∷ []) (tables.element.tree ∷ tables.permit.tree ∷ []) old one new
+      (touched_then (tables.unit.tree ∷ []) (tables.housing.tree ∷ []) old next one next_only to_one)
+      (touched_then (tables.element.tree ∷ []) (tables.permit.tree ∷ []) one two new to_two to_new))
+
+  pub remove_unit_only : OnlyTouches (tables.permit.tree ∷ tables.unit.tree ∷ tables.element.tree ∷ tables.housing.tree ∷ []) old new
+  unfolding gone moves
+  remove_unit_only = elim (cases_Bool (list_any (loses plain (0 ∷ [])) moves)) [
+    | inl some ↦
+        let all = three_works (schema v) Enforced it.next new.trees (work_with permit 2 moves) (work_with element 1 moves) (work_with housing 1 moves) (permit_alone v) (element_alone v) (housing_alone v)
+        (subst (λ ws. Settles (schema v) Enforced it.next ws (Ok new.trees)) (works_any v gone some) it.settles) in
+        all_only all.0 all.1 all.2 all.3 all.4
+    | inr none ↦
+        let same : new.trees ≡ it.next = nothing_left v it.next new.trees (subst (λ ws. Settles (schema v) Enforced it.next ws (Ok new.trees)) (works_none v gone none) it.settles) in
+        touched_wider (tables.unit.tree ∷ []) (tables.permit.tree ∷ tables.unit.tree ∷ tables.element.tree ∷ tables.housing.tree ∷ []) old new refl
+        (λ tree there other. ap (λ (d : Trees). d tree) same ∙ next_only tree there other)
+  ]
 
 -- ---- the one unit of a number
 

@@ -1,6 +1,6 @@
 //! What the rows of the catalogue's tables tell, read one by one.
 
-ghost use Rattle.std.specs.Prelude.{◌≡◌, pos, [], ◌∷◌, true, IfSome, IfOk, IsOk};
+ghost use Rattle.std.specs.Prelude.{◌≡◌, pos, [], ◌∷◌, true, IfSome, IfOk, IfErr, IsOk};
 ghost use Rattle.isad_core.specs.Days.{is_day_number};
 ghost use Rattle.sqlite.specs.declared.types.Value.TheVariants.{Int};
 
@@ -50,6 +50,7 @@ pub struct Standing {
 fn day_of(number: Option<i32>) -> Result<Option<Day>, StoreFault>
     ensures value { IfOk result (λ day. day ≡ number) }
     ensures days { IfSome number (λ n. is_day_number n ≡ true) → IsOk result }
+    ensures fair { IfErr result (λ e. e ≡ StoreFault.Schema) }
 {
     let Some(number) = number else {
         return Ok(None);

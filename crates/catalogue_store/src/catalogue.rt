@@ -7,7 +7,7 @@ ghost use Rattle.sqlite.specs.Effect.{Database};
 ghost use Rattle.sqlite.specs.Change.{KeepsRows};
 ghost use Rattle.isad_core.specs.Limits.{IsNumber};
 ghost use Rattle.tree_core.specs.Forest.{Empty};
-ghost use Rattle.office_tables.specs.Calls.{RepresentsAlone, Answers};
+ghost use Rattle.office_tables.specs.Calls.{RepresentsAlone, Tells};
 ghost use Rattle.office_tables.specs.Creation.{IsMaking, LeavesMaking};
 ghost use Rattle.catalogue_core.specs.Bounds.{IsKept};
 ghost use Rattle.catalogue_core.specs.Finding.{Finds, has_unit};
@@ -57,7 +57,7 @@ pub fn known<S: Alter>(
     legacy: &Text,
 ) -> Result<Option<u64>, StoreFault>
     requires inside { InOffice (state S.Store conn.old) }
-    ensures tells { Answers S.Store (RepresentsAlone RepresentsUnits) (λ _. ⊤) conn.old conn.new result (λ _. ⊤)
+    ensures tells { Tells S.Store (RepresentsAlone RepresentsUnits) (λ _. ⊤) conn.old conn.new result (λ _. ⊤)
         (λ _ f. Finds (is_from source.now legacy.now) f) }
 {
     let found = units_from(alloc, conn, source, legacy)?;
@@ -71,7 +71,7 @@ pub fn is_unit<P: Places, S: Alter>(
     unit: u64,
 ) -> Result<bool, StoreFault>
     requires inside { InTransaction P.version (state S.Store conn.old) }
-    ensures tells { Answers S.Store (Represents P.represents P.version) IsKept conn.old conn.new result (λ _. ⊤)
+    ensures tells { Tells S.Store (Represents P.represents P.version) IsKept conn.old conn.new result (λ _. ⊤)
         (λ _ c there. IsKept c → there ≡ has_unit c.forest unit) }
     ensures small { IfOk result (λ there. there ≡ true → IsNumber unit) }
 {

@@ -14,7 +14,7 @@ ghost use Rattle.catalogue_core.specs.Bounds.{IsKept};
 ghost use Rattle.catalogue_core.specs.Finding.{has_unit};
 ghost use Rattle.catalogue_core.specs.Units.{has_id};
 ghost use Rattle.office_tables.specs.Asking.{Reads};
-ghost use Rattle.office_tables.specs.Calls.{Answers};
+ghost use Rattle.office_tables.specs.Calls.{Tells};
 ghost use Rattle.office_tables.specs.Faults.{FaultsHaveCause};
 ghost use Rattle.office_tables.specs.Numbered.{HoldsNumbered};
 ghost use Rattle.office_tables.specs.Schema as tables;
@@ -85,7 +85,7 @@ pub fn find_head<P: Places, S: Alter>(
 ) -> Result<Option<Head>, StoreFault>
     requires inside { InTransaction P.version (state S.Store conn.old) }
     requires small { IsNumber unit }
-    ensures tells { Answers S.Store (Represents P.represents P.version) IsKept conn.old conn.new result (λ _. ⊤)
+    ensures tells { Tells S.Store (Represents P.represents P.version) IsKept conn.old conn.new result (λ _. ⊤)
         (λ _ c head. head ≡ option_map head_of (find (has_id unit) (nodes c.forest))) }
 {
     let mut found = standings_of(alloc, conn, unit)?;
@@ -111,7 +111,7 @@ fn heads_of<P: Places, S: Alter>(
     units: &[u64],
 ) -> Result<Vec<Head>, StoreFault>
     requires inside { InTransaction P.version (state S.Store conn.old) }
-    ensures tells { Answers S.Store (Represents P.represents P.version) IsKept conn.old conn.new result
+    ensures tells { Tells S.Store (Represents P.represents P.version) IsKept conn.old conn.new result
         (λ c. AllByRecursion (λ unit. has_unit c.forest unit ≡ true) units.now)
         (λ _ c heads. map Some heads.items ≡ map (head_at c.forest) units.now) }
 {
@@ -138,7 +138,7 @@ pub fn path_heads<P: Places, S: Alter>(
 ) -> Result<Vec<Head>, StoreFault>
     requires inside { InTransaction P.version (state S.Store conn.old) }
     requires small { IsNumber unit }
-    ensures tells { Answers S.Store (Represents P.represents P.version) IsKept conn.old conn.new result (λ _. ⊤)
+    ensures tells { Tells S.Store (Represents P.represents P.version) IsKept conn.old conn.new result (λ _. ⊤)
         (λ _ c heads. heads.items ≡ map head_of (path (has_id unit) c.forest)) }
 {
     let units = P::path(alloc, conn, unit)?;
@@ -153,7 +153,7 @@ pub fn heads_below<P: Places, S: Alter>(
 ) -> Result<Vec<Head>, StoreFault>
     requires inside { InTransaction P.version (state S.Store conn.old) }
     requires small { IfSome unit IsNumber }
-    ensures tells { Answers S.Store (Represents P.represents P.version) IsKept conn.old conn.new result (λ _. ⊤)
+    ensures tells { Tells S.Store (Represents P.represents P.version) IsKept conn.old conn.new result (λ _. ⊤)
         (λ _ c heads. heads.items ≡ map head_of (tops (part_below has_id unit c.forest))) }
 {
     let units = P::below(alloc, conn, unit)?;

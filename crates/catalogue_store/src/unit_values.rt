@@ -1,7 +1,7 @@
 //! The values of a unit, read from its rows.
 
 ghost use Rattle.std.specs.Prelude.{◌≡◌, ◌≢◌, ◌<◌, ◌^◌, ℕ, List, length, map, true, IsPermutation, IsOk, IfOk};
-ghost use Rattle.std.specs.Prelude.{IfSome, IfNone, IsUtf8, ⊤};
+ghost use Rattle.std.specs.Prelude.{IfSome, IfNone, IfErr, IsUtf8, ⊤};
 ghost use Rattle.std.specs.List.{AllByRecursion, list_any, list_all};
 ghost use Rattle.sqlite.specs.Held.{state};
 ghost use Rattle.sqlite.specs.State.{HasCleanDisk};
@@ -14,7 +14,7 @@ ghost use Rattle.catalogue_core.specs.Bounds.{IsKept};
 ghost use Rattle.catalogue_core.specs.Describing.{KnowsItsContainers};
 ghost use Rattle.catalogue_core.specs.Merging.{box_number};
 ghost use Rattle.office_tables.specs.Asking.{Reads};
-ghost use Rattle.office_tables.specs.Calls.{Answers};
+ghost use Rattle.office_tables.specs.Calls.{Tells};
 ghost use Rattle.office_tables.specs.Faults.{FaultsHaveCause};
 ghost use Rattle.office_tables.specs.Numbered.{HoldsNumbered};
 ghost use Rattle.office_tables.specs.Schema as tables;
@@ -65,6 +65,7 @@ fn placed(elements: Vec<Element>) -> Result<[Option<Text>; 25], StoreFault>
         → IfOk result (λ texts. texts ≡ values.texts) }
     ensures places { (values : Description) → length values.texts ≡ 25
         → map (λ (e : Element). (e.k, e.value)) elements.items ≡ element_cells values → IsOk result }
+    ensures fair { IfErr result (λ e. e ≡ StoreFault.Schema) }
 {
     let mut texts = array::from_fn(|_| None);
     for element in elements {
@@ -84,7 +85,7 @@ fn texts_of<S: Alter>(
 ) -> Result<[Option<Text>; 25], StoreFault>
     requires inside { InOffice (state S.Store conn.old) }
     requires small { IsNumber unit }
-    ensures tells { Answers S.Store (TellsTexts unit) (AllByRecursion (λ e. IsUtf8 e.value)) conn.old conn.new result
+    ensures tells { Tells S.Store (TellsTexts unit) (AllByRecursion (λ e. IsUtf8 e.value)) conn.old conn.new result
         (λ _. ⊤) (λ values _ texts. texts ≡ values.texts) }
 {
     let found = elements_of(alloc, conn, unit)?;
@@ -180,7 +181,7 @@ pub fn values<S: Alter>(
 ) -> Result<Option<UnitValues>, StoreFault>
     requires inside { InOffice (state S.Store conn.old) }
     requires small { IsNumber unit }
-    ensures tells { Answers S.Store RepresentsValues IsKept conn.old conn.new result KnowsItsContainers
+    ensures tells { Tells S.Store RepresentsValues IsKept conn.old conn.new result KnowsItsContainers
         (λ _ c found. found ≡ values_of unit c) }
 {
     let mut levels = levels_of(alloc, conn, unit)?;

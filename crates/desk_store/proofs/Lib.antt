@@ -22,6 +22,7 @@ pub mod WaitingRows
 pub mod ReshelvingRows
 pub mod ReshelvingCalls
 pub mod ToldCalls
+pub mod TellingCalls
 pub mod BoxRows
 pub mod PlaceRows
 pub mod QueueCalls

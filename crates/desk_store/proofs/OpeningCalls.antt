@@ -6,7 +6,7 @@ use Rattle.sqlite.specs.Held.{Held, state}
 use Rattle.sqlite.specs.State.{State, HasCleanDisk}
 use Rattle.sqlite_trees.specs.declared.store.Store as store
 use Rattle.desk_core.specs.DeskRows.{Desk, SeatRow}
-use Rattle.office_tables.specs.Calls.{Updates}
+use Rattle.office_tables.specs.Calls.{Makes}
 use Rattle.office_tables.specs.Changing.{Leaves}
 use Rattle.office_tables.specs.Faults.{FaultsHaveCause}
 use Rattle.office_tables.specs.Schema.{seat, office}
@@ -25,6 +25,7 @@ use Rattle.office_tables.specs.Permits.{permit_cells}
 use Rattle.desk_store.specs.Represents.{RepresentsDesk}
 use Rattle.office_tables.specs.Numbered.{AreByNumber}
 use Rattle.desk_store.proofs.Frames.{with_seats}
+use Rattle.office_tables.proofs.Sparing.{untouched, untouched_last, last_touched}
 
 -- another row of the office is nothing to the desk
 same_desk : (old new : Database) (d : Desk) → OnlyTouches (tables.office.tree ∷ []) old new → RepresentsDesk old.trees d → RepresentsDesk new.trees d
@@ -56,12 +57,13 @@ module _ {S : Type 0} (g : store.Ghosts S) (before mid : Held S) (day : ℤ) whe
   b = state g mid
 
   -- the seats could not be freed
-  pub not_freed : (e : StoreFault) → Leaves {X = Unit} a b (Err e) → FaultsHaveCause {X = Unit} a b (Err e) → Updates {X = Unit} g RepresentsBoth IsLegibleHouse before mid (Err e) (λ _. ⊤) (opened day) (tables.seat.tree ∷ tables.office.tree ∷ [])
+  pub not_freed : (e : StoreFault) → Leaves {X = Unit} a b (Err e) → FaultsHaveCause {X = Unit} a b (Err e) → Makes {X = Unit} g RepresentsBoth IsLegibleHouse before mid (Err e) (λ _. ⊤) (opened day) (tables.seat.tree ∷ tables.office.tree ∷ [])
   not_freed e leaves faults = record {
     represents_updated = λ clean beside house shown may. tt;
     only = λ clean. tt;
     goes = tt;
     cut = leaves.cut;
+    spares = λ clean. untouched (tables.seat.tree ∷ tables.office.tree ∷ []) a b e (leaves.spares clean);
     faults = λ beside house shown may kept. faults;
   }
 
@@ -72,7 +74,7 @@ module _ {S : Type 0} (g : store.Ghosts S) (before mid : Held S) (day : ℤ) whe
 
     pub opens : Leaves b c r → (HasCleanDisk c → (o : OfficeRow) → Holds office office_cells b (o ∷ []) → OnOk r (HasRows tables.office.tree (office_cells (record o { day = day }) ∷ []) b.now c.now))
         → (HasCleanDisk c → OnOk r (OnlyTouches (tables.office.tree ∷ []) b.now c.now)) → ((o : OfficeRow) → Holds office office_cells b (o ∷ []) → FaultsHaveCause b c r)
-        → Updates g RepresentsBoth IsLegibleHouse before after r (λ _. ⊤) (opened day) (tables.seat.tree ∷ tables.office.tree ∷ [])
+        → Makes g RepresentsBoth IsLegibleHouse before after r (λ _. ⊤) (opened day) (tables.seat.tree ∷ tables.office.tree ∷ [])
     opens leaves dated dates faults =
         let back = early b c _ leaves.crash in
         record {
@@ -83,6 +85,9 @@ module _ {S : Type 0} (g : store.Ghosts S) (before mid : Held S) (day : ℤ) whe
           only = λ clean. on_ok_then r _ _ (λ touched. touched_again (tables.seat.tree ∷ tables.office.tree ∷ []) a.now b.now c.now (touched_wider (tables.seat.tree ∷ []) (tables.seat.tree ∷ tables.office.tree ∷ []) a.now b.now refl (only (back clean))) (touched_wider (tables.office.tree ∷ []) (tables.seat.tree ∷ tables.office.tree ∷ []) b.now c.now refl touched)) (dates clean);
           goes = on_ok_then r _ _ (goes_then a b c goes) leaves.goes;
           cut = on_err_then r _ _ (cut_then a b c goes.on) leaves.cut;
+          spares = λ clean.
+              let both = tables.seat.tree ∷ tables.office.tree ∷ [] in
+              last_touched both a b c goes.on (λ cleaner. touched_wider (tables.seat.tree ∷ []) both a.now b.now refl (only cleaner)) r leaves.cut clean (untouched_last both b c r (leaves.spares clean));
           faults = λ beside house shown may kept clean free. last_cause a b c goes.on r leaves.cut clean (λ cleaner.
               faults house.office (only cleaner tables.office.tree refl refl ∙ shown.office) clean (still_unlimited a b goes.on free));
         }

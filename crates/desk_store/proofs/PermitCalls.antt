@@ -19,7 +19,7 @@ use Rattle.sqlite_rules.proofs.ListLemmas.{has_filtered}
 use Rattle.sqlite_trees.proofs.ListLemmas.{all-filter}
 use Rattle.sqlite_trees.specs.declared.store.Store as store
 use Rattle.desk_core.specs.DeskRows.{Desk, PermitRow}
-use Rattle.office_tables.specs.Calls.{Updates}
+use Rattle.office_tables.specs.Calls.{Makes}
 use Rattle.office_tables.specs.Changing.{Leaves}
 use Rattle.office_tables.specs.Faults.{FaultsHaveCause}
 use Rattle.office_tables.specs.Order.{IsOrdered}
@@ -40,6 +40,7 @@ use Rattle.desk_store.proofs.NumbersOf.{none_after}
 use Rattle.desk_store.proofs.Frames.{with_permits}
 use Rattle.office_tables.proofs.numbered.OwnNumbers.{one_more, told_permuted}
 use Rattle.desk_store.proofs.PermitRows.{by_ticket, permit_of, told_of}
+use Rattle.office_tables.proofs.Sparing.{untouched, untouched_last, last_touched}
 
 -- ---- what is told
 
@@ -100,12 +101,13 @@ module _ {S : Type 0} (g : store.Ghosts S) (before after : Held S) (r : Result U
   new = state g after
 
   pub takes_back : (t u : ℕ) → Leaves old new r → (HasCleanDisk new → (ps : List PermitRow) → HasNumbered permit_cells (old.now.trees tables.permit.tree) ps → OnOk r (HasNumbered permit_cells (new.now.trees tables.permit.tree) (without_permit t u ps)))
-      → (HasCleanDisk new → OnOk r (OnlyTouches (tables.permit.tree ∷ []) old.now new.now)) → FaultsHaveCause old new r → Updates g RepresentsDeskAlone IsLegible before after r (λ _. ⊤) (revoked t u) (tables.permit.tree ∷ [])
+      → (HasCleanDisk new → OnOk r (OnlyTouches (tables.permit.tree ∷ []) old.now new.now)) → FaultsHaveCause old new r → Makes g RepresentsDeskAlone IsLegible before after r (λ _. ⊤) (revoked t u) (tables.permit.tree ∷ [])
   takes_back t u leaves rows only faults = record {
     represents_updated = λ clean beside d shown may. on_ok_both r _ _ _ (λ touches has. with_permits old.now new.now d shown _ touches has (tickets_left t u d old.now.trees shown)) (only clean) (rows clean d.permits shown.permits);
     only = only;
     goes = leaves.goes;
     cut = leaves.cut;
+    spares = λ clean. untouched_last (tables.permit.tree ∷ []) old new r (leaves.spares clean);
     faults = λ beside d shown may kept. faults;
   }
 
@@ -125,12 +127,13 @@ module _ {S : Type 0} (g : store.Ghosts S) (before mid after : Held S) (t u : �
   row = record { ticket = t; unit = u; until = until }
 
   pub not_cleared : (e : StoreFault) → Leaves {X = Unit} a b (Err e) → FaultsHaveCause {X = Unit} a b (Err e)
-      → Updates {X = Unit} g RepresentsDeskAlone IsLegible before mid (Err e) (MayHave t u a.now.trees) (with_permit t u until) (tables.permit.tree ∷ [])
+      → Makes {X = Unit} g RepresentsDeskAlone IsLegible before mid (Err e) (MayHave t u a.now.trees) (with_permit t u until) (tables.permit.tree ∷ [])
   not_cleared e leaves faults = record {
     represents_updated = λ clean beside d shown may. tt;
     only = λ clean. tt;
     goes = tt;
     cut = leaves.cut;
+    spares = λ clean. untouched (tables.permit.tree ∷ []) a b e (leaves.spares clean);
     faults = λ beside d shown may kept. faults;
   }
 
@@ -146,7 +149,7 @@ module _ {S : Type 0} (g : store.Ghosts S) (before mid after : Held S) (t u : �
 
     pub grants : Leaves b c r → (HasCleanDisk c → OnOk r (PutsRow tables.permit.tree (permit_cells (next_rowid (b.now.trees tables.permit.tree), row)) b.now c.now))
         → ((ps : List PermitRow) → HasNumbered permit_cells (b.now.trees tables.permit.tree) ps → list_any (is_permit t u) ps ≡ false → HasUnitRow u b.now.trees → FaultsHaveCause b c r)
-        → Updates g RepresentsDeskAlone IsLegible before after r (MayHave t u a.now.trees) (with_permit t u until) (tables.permit.tree ∷ [])
+        → Makes g RepresentsDeskAlone IsLegible before after r (MayHave t u a.now.trees) (with_permit t u until) (tables.permit.tree ∷ [])
     grants leaves puts faults =
         let back = early b c _ leaves.crash in
         record {
@@ -154,6 +157,7 @@ module _ {S : Type 0} (g : store.Ghosts S) (before mid after : Held S) (t u : �
           only = λ clean. on_ok_then r _ _ (λ (at : PutsRow tables.permit.tree (permit_cells (next_rowid (b.now.trees tables.permit.tree), row)) b.now c.now) tree known other. at.only tree known other ∙ only (back clean) tree known other) (puts clean);
           goes = on_ok_then r _ _ (goes_then a b c goes) leaves.goes;
           cut = on_err_then r _ _ (cut_then a b c goes.on) leaves.cut;
+          spares = λ clean. last_touched (tables.permit.tree ∷ []) a b c goes.on only r leaves.cut clean (untouched_last (tables.permit.tree ∷ []) b c r (leaves.spares clean));
           faults = λ beside d shown may kept clean free. last_cause a b c goes.on r leaves.cut clean (λ cleaner.
               faults (without_permit t u d.permits) (left cleaner d.permits shown.permits) (none_left t u d.permits) (still_there cleaner may.1) clean (still_unlimited a b goes.on free));
         }

@@ -12,11 +12,11 @@ use Rattle.sqlite.specs.Tree.{put_row}
 use Rattle.sqlite_trees.specs.declared.store.Store as store
 use Rattle.isad_core.specs.Limits.{most_tickets}
 use Rattle.desk_core.specs.DeskRows.{Desk, ReaderRow}
-use Rattle.office_tables.specs.Calls.{Updates}
+use Rattle.office_tables.specs.Calls.{Makes}
 use Rattle.office_tables.specs.Faults.{IsUnlimited, HasCause}
 use Rattle.office_tables.specs.Schema.{reader}
 use Rattle.office_tables.specs.Schema as tables
-use Rattle.office_tables.specs.Step.{Goes, Holds, IsAborted, LeavesUnchanged, OnlyTouches, PutsRow}
+use Rattle.office_tables.specs.Step.{Goes, Holds, IsAborted, LeavesUnchanged, OnlyTouches, PutsRow, Spares, IsSame}
 use Rattle.office_tables.specs.declared.fault.StoreFault.{StoreFault}
 use Rattle.office_tables.proofs.Calls.{early, goes_then, cut_then}
 use Rattle.office_tables.proofs.Causes.{still_unlimited}
@@ -27,6 +27,7 @@ use Rattle.desk_store.specs.Rows.{reader_cells}
 use Rattle.desk_store.specs.Represents.{RepresentsDesk, RepresentsDeskAlone, IsLegible}
 use Rattle.office_tables.proofs.numbered.Counted.{counted_more, counted_free, put_end}
 use Rattle.desk_store.proofs.Frames.{with_readers}
+use Rattle.office_tables.proofs.Sparing.{untouched, looked_spares}
 
 -- where there is a next ticket, it is one more than those that were given
 next_is : (d : Desk) (t : ℕ) → Some t ≡ next_ticket d → (t ≡ 1 + length d.readers) × (length d.readers < most_tickets)
@@ -65,7 +66,7 @@ module _ {S : Type 0} (g : store.Ghosts S) (before mid after : Held S) (name : B
         (counted_more (λ (r : ReaderRow). r.ticket) 1 d.readers row shown.tickets n.0)
         (let size = length-append d.readers (row ∷ []) in omega (arith, size, few)) (let size = length-append d.readers (row ∷ []) in omega (arith, size)))
 
-    pub added : Goes b c → (HasCleanDisk c → PutsRow tables.reader.tree (reader_cells row) b.now c.now) → Updates g RepresentsDeskAlone IsLegible before after (Ok (Some ticket)) (λ _. ⊤) (λ d. with_reader (next_ticket d) name until d) (tables.reader.tree ∷ [])
+    pub added : Goes b c → (HasCleanDisk c → PutsRow tables.reader.tree (reader_cells row) b.now c.now) → Makes g RepresentsDeskAlone IsLegible before after (Ok (Some ticket)) (λ _. ⊤) (λ d. with_reader (next_ticket d) name until d) (tables.reader.tree ∷ [])
     added goes puts =
         let back = early b c _ goes.on.crash in
         record {
@@ -73,17 +74,19 @@ module _ {S : Type 0} (g : store.Ghosts S) (before mid after : Held S) (name : B
           only = λ clean. subst (λ (db : Database). OnlyTouches (tables.reader.tree ∷ []) db c.now) (looked.same (back clean)) (puts clean).only;
           goes = goes_then a b c looked.goes goes;
           cut = tt;
+          spares = λ clean. tt;
           faults = λ beside d shown may kept clean free. tt;
         }
 
-    pub failed : (e : StoreFault) → IsAborted b c
+    pub failed : (e : StoreFault) → IsAborted b c → (HasCleanDisk c → Spares IsSame b c e)
         → ((xs : List ReaderRow) → Holds reader reader_cells b xs → list_any (λ (r : ReaderRow). nat_eq ticket r.ticket) xs ≡ false → HasCleanDisk c → IsUnlimited b → HasCause b c e)
-        → Updates {X = Option ℕ} g RepresentsDeskAlone IsLegible before after (Err e) (λ _. ⊤) (λ d. with_reader (next_ticket d) name until d) (tables.reader.tree ∷ [])
-    failed e cut why = record {
+        → Makes {X = Option ℕ} g RepresentsDeskAlone IsLegible before after (Err e) (λ _. ⊤) (λ d. with_reader (next_ticket d) name until d) (tables.reader.tree ∷ [])
+    failed e cut spares why = record {
       represents_updated = λ clean beside d shown may. tt;
       only = λ clean. tt;
       goes = tt;
       cut = cut_then a b c looked.goes.on cut;
+      spares = λ clean. untouched (tables.reader.tree ∷ []) a c e (looked_spares a b c looked (early b c _ cut.crash clean) e (spares clean));
       faults = λ beside d shown may kept clean free. next_cause a b c looked.goes.on cut clean e (λ cleaner.
           why d.readers (still_shown cleaner d shown).readers (counted_free (λ (r : ReaderRow). r.ticket) 1 d.readers ticket shown.tickets (next_is d ticket (is cleaner d shown)).0) clean (still_unlimited a b looked.goes.on free));
     }

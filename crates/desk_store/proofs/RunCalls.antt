@@ -14,9 +14,9 @@ use Rattle.sqlite_trees.specs.declared.store.Store as store
 use Rattle.tree_core.proofs.Lists.{eqb_comm}
 use Rattle.isad_core.specs.Limits.{most_runs}
 use Rattle.desk_core.specs.DeskRows.{Desk, RunRow, RunLineRow}
-use Rattle.office_tables.specs.Calls.{Updates}
+use Rattle.office_tables.specs.Calls.{Makes}
 use Rattle.office_tables.specs.Faults.{IsUnlimited, HasCause}
-use Rattle.office_tables.specs.Step.{Goes, IsAborted, LeavesUnchanged, OnlyTouches, PutsRow}
+use Rattle.office_tables.specs.Step.{Goes, IsAborted, LeavesUnchanged, OnlyTouches, PutsRow, Spares}
 use Rattle.office_tables.specs.declared.fault.StoreFault.{StoreFault}
 use Rattle.office_tables.proofs.Calls.{early, goes_then, cut_then}
 use Rattle.office_tables.proofs.Causes.{still_unlimited}
@@ -33,6 +33,7 @@ use Rattle.office_tables.proofs.numbered.Counted.{counted_more, counted_free, pu
 use Rattle.office_tables.proofs.numbered.OwnNumbers.{still_numbered}
 use Rattle.desk_store.proofs.Frames.{with_runs}
 use Rattle.desk_store.proofs.NumbersOf.{widened, none_after}
+use Rattle.office_tables.proofs.Sparing.{looked_spares}
 
 -- ---- the lines
 
@@ -140,7 +141,7 @@ module _ {S : Type 0} (g : store.Ghosts S) (before mid after : Held S) (on : ℤ
     still_shown clean d shown = subst (λ (db : Database). RepresentsDesk db.trees d) (sym (looked.same clean)) shown
 
     pub recorded : Goes b c → (HasCleanDisk c → (d : Desk) → RepresentsDesk b.now.trees d → Some run ≡ next_run d → RepresentsDesk c.now.trees (with_run (Some run) on taken d)) → (HasCleanDisk c → OnlyTouches (tables.run.tree ∷ tables.run_line.tree ∷ []) b.now c.now)
-        → Updates g RepresentsDeskAlone IsLegible before after (Ok (Some run)) (λ _. TakesEachOnce taken) (λ d. with_run (next_run d) on taken d) (tables.run.tree ∷ tables.run_line.tree ∷ [])
+        → Makes g RepresentsDeskAlone IsLegible before after (Ok (Some run)) (λ _. TakesEachOnce taken) (λ d. with_run (next_run d) on taken d) (tables.run.tree ∷ tables.run_line.tree ∷ [])
     recorded goes represents only =
         let back = early b c _ goes.on.crash in
         record {
@@ -150,15 +151,17 @@ module _ {S : Type 0} (g : store.Ghosts S) (before mid after : Held S) (on : ℤ
           only = λ clean. subst (λ (db : Database). OnlyTouches (tables.run.tree ∷ tables.run_line.tree ∷ []) db c.now) (looked.same (back clean)) (only clean);
           goes = goes_then a b c looked.goes goes;
           cut = tt;
+          spares = λ clean. tt;
           faults = λ beside d shown may kept clean free. tt;
         }
 
-    pub not_recorded : (e : StoreFault) → IsAborted b c → ((d : Desk) → RepresentsDesk b.now.trees d → Some run ≡ next_run d → TakesEachOnce taken → HasCleanDisk c → IsUnlimited b → HasCause b c e)
-        → Updates {X = Option ℕ} g RepresentsDeskAlone IsLegible before after (Err e) (λ _. TakesEachOnce taken) (λ d. with_run (next_run d) on taken d) (tables.run.tree ∷ tables.run_line.tree ∷ [])
-    not_recorded e cut why = record {
+    pub not_recorded : (e : StoreFault) → IsAborted b c → (HasCleanDisk c → Spares (OnlyTouches (tables.run.tree ∷ tables.run_line.tree ∷ [])) b c e) → ((d : Desk) → RepresentsDesk b.now.trees d → Some run ≡ next_run d → TakesEachOnce taken → HasCleanDisk c → IsUnlimited b → HasCause b c e)
+        → Makes {X = Option ℕ} g RepresentsDeskAlone IsLegible before after (Err e) (λ _. TakesEachOnce taken) (λ d. with_run (next_run d) on taken d) (tables.run.tree ∷ tables.run_line.tree ∷ [])
+    not_recorded e cut spares why = record {
       represents_updated = λ clean beside d shown may. tt;
       only = λ clean. tt;
       goes = tt;
       cut = cut_then a b c looked.goes.on cut;
+      spares = λ clean. looked_spares a b c looked (early b c _ cut.crash clean) e (spares clean);
       faults = λ beside d shown may kept clean free. next_cause a b c looked.goes.on cut clean e (λ cleaner. why d (still_shown cleaner d shown) (is cleaner d shown) may clean (still_unlimited a b looked.goes.on free));
     }

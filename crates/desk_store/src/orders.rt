@@ -1,6 +1,6 @@
 //! Orders, from when they are placed to when they end.
 
-ghost use Rattle.std.specs.Prelude.{◌≡◌, ◌≤◌, nat_eq, List as Rows, map, filter, IfOk, IfSome};
+ghost use Rattle.std.specs.Prelude.{◌≡◌, ◌≤◌, nat_eq, List as Rows, map, filter, IfOk, IfSome, ◌≢◌, IfErr};
 ghost use Rattle.std.specs.Prelude.{IsOk, ⊤};
 ghost use Rattle.std.specs.List.{AllByRecursion};
 ghost use Rattle.sqlite.specs.Held.{state};
@@ -8,7 +8,7 @@ ghost use Rattle.sqlite.specs.State.{HasCleanDisk};
 ghost use Rattle.isad_core.specs.Limits.{IsNumber};
 ghost use Rattle.desk_core.specs.DeskRows.{OrderRow};
 ghost use Rattle.office_tables.specs.Asking.{Reads};
-ghost use Rattle.office_tables.specs.Calls.{Answers};
+ghost use Rattle.office_tables.specs.Calls.{Tells};
 ghost use Rattle.office_tables.specs.Faults.{FaultsHaveCause};
 ghost use Rattle.office_tables.specs.Schema as tables;
 ghost use Rattle.office_tables.specs.Step.{InOffice, Holds};
@@ -117,6 +117,7 @@ impl OrderEntry {
         ensures day { IfOk result (λ o. o.day ≡ self.now.day) }
         ensures state { IfOk result (λ o. state_number o.state ≡ self.now.state) }
         ensures known { 1 ≤ self.now.state → self.now.state ≤ 4 → IsOk result }
+        ensures fair { IfErr result (λ e. e ≢ StoreFault.Disk) }
     {
         let state = match self.state {
             1 => OrderState::Waiting,
@@ -141,7 +142,7 @@ pub fn order<S: Alter>(
     order: u64,
 ) -> Result<Option<PlacedOrder>, StoreFault>
     requires inside { InOffice (state S.Store conn.old) }
-    ensures tells { Answers S.Store RepresentsDeskAlone IsLegible conn.old conn.new result (λ _. ⊤)
+    ensures tells { Tells S.Store RepresentsDeskAlone IsLegible conn.old conn.new result (λ _. ⊤)
         (λ _ d found. IsThere (order_with order d) found) }
     ensures small { IfOk result (λ found. IfSome found (λ _. IsNumber order)) }
 {

@@ -1,12 +1,12 @@
 //! Queues of containers.
 
-ghost use Rattle.std.specs.Prelude.{◌≡◌, nat_eq, List as Rows, map, filter, IfOk, IfSome, IsOk, ⊤};
+ghost use Rattle.std.specs.Prelude.{◌≡◌, ◌≢◌, nat_eq, List as Rows, map, filter, IfOk, IfErr, IfSome, IsOk, ⊤};
 ghost use Rattle.sqlite.specs.Held.{state};
 ghost use Rattle.sqlite.specs.State.{HasCleanDisk};
 ghost use Rattle.isad_core.specs.Limits.{IsNumber};
 ghost use Rattle.desk_core.specs.DeskRows.{HoldingRow};
 ghost use Rattle.office_tables.specs.Asking.{Reads};
-ghost use Rattle.office_tables.specs.Calls.{Answers};
+ghost use Rattle.office_tables.specs.Calls.{Tells};
 ghost use Rattle.office_tables.specs.Faults.{FaultsHaveCause};
 ghost use Rattle.office_tables.specs.Schema as tables;
 ghost use Rattle.office_tables.specs.Step.{InOffice, Holds};
@@ -69,6 +69,7 @@ impl PlaceEntry {
         ensures place { IfOk result
             (IsAt (Some (record { container = 0; place = self.now.place; held_by = self.now.held_by }))) }
         ensures known { IsKnownPlace self.now.place self.now.held_by → IsOk result }
+        ensures fair { IfErr result (λ e. e ≢ StoreFault.Disk) }
     {
         match (self.place, self.held_by) {
             (1, _) => Ok(Place::Desk),
@@ -111,7 +112,7 @@ fn place_of<S: Alter>(
 ) -> Result<Place, StoreFault>
     requires inside { InOffice (state S.Store conn.old) }
     requires small { IsNumber container }
-    ensures tells { Answers S.Store RepresentsDeskAlone IsLegible conn.old conn.new result (λ _. ⊤)
+    ensures tells { Tells S.Store RepresentsDeskAlone IsLegible conn.old conn.new result (λ _. ⊤)
         (λ _ d place. IsAt (holding_of container d) place) }
 {
     let found = places_with(alloc, conn, container)?;
@@ -128,7 +129,7 @@ pub fn queue<S: Alter>(
     container: u64,
 ) -> Result<Option<ContainerQueue>, StoreFault>
     requires inside { InOffice (state S.Store conn.old) }
-    ensures tells { Answers S.Store RepresentsQueues IsLegibleStacks conn.old conn.new result (λ _. ⊤)
+    ensures tells { Tells S.Store RepresentsQueues IsLegibleStacks conn.old conn.new result (λ _. ⊤)
         (λ _ stacks found. IsQueued container stacks (box_with container stacks) found) }
     ensures small { IfOk result (λ found. IfSome found (λ _. IsNumber container)) }
 {

@@ -1,5 +1,5 @@
 -- How a call of one step or several ends, by how its steps ended.
-use Rattle.std.proofs.Common.{◌≡◌, ℕ, List, Ok, Err, Result, sym, ap, subst, IfErr, OnErr, OnOk, refl}
+use Rattle.std.proofs.Common.{◌≡◌, ◌≢◌, inl, ℕ, List, Ok, Err, Result, sym, ap, subst, IfErr, OnErr, OnOk, refl}
 use Rattle.std.specs.Prelude.{IsErr, IsErrAnd}
 use Rattle.sqlite_trees.specs.declared.store.Store as store
 use Rattle.sqlite.specs.Effect.{Database}
@@ -7,12 +7,13 @@ use Rattle.sqlite.specs.Held.{Held, state}
 use Rattle.sqlite.specs.State.{State, HasCleanDisk}
 use Rattle.office_tables.specs.Calls.{Updates, Answers}
 use Rattle.office_tables.specs.Faults.{IsUnlimited, HasCause, FaultsHaveCause, BlamesDisk}
-use Rattle.office_tables.specs.Step.{Continues, IsAborted, Goes, LeavesUnchanged}
+use Rattle.office_tables.specs.Step.{Continues, IsAborted, Goes, LeavesUnchanged, OnlyTouches, Spares, IsSame}
 use Rattle.office_tables.specs.declared.fault.StoreFault.{StoreFault}
 use Rattle.office_tables.specs.declared.fault.StoreFault.TheVariants as fault
 use Rattle.office_tables.proofs.Causes.{still_unlimited}
 use Rattle.office_tables.proofs.LaterCauses.{last_cause, next_cause}
-use Rattle.office_tables.specs.Changing.{Leaves}
+use Rattle.office_tables.specs.Changing.{Leaves, LeavesOr}
+use Rattle.office_tables.proofs.Sparing.{spares_own, untouched_last, looked_spares, touched_spares}
 use Rattle.office_tables.specs.Creation.{LeavesMaking}
 use Rattle.office_tables.proofs.Calls.{early, continues_then, cut_after, cut_then, on_err_then, on_ok_then, goes_then}
 use Rattle.office_tables.proofs.WriteCauses.{disk_then, last_disk}
@@ -57,18 +58,24 @@ module _ {S X Stays Model : Type 0} (g : store.Ghosts S) (represents : Database 
 -- ---- a call of several steps that writes
 
 -- all of them succeeded
-pub left_well : {X : Type 0} (a b : State) → Goes a b → {x : X} → Leaves a b (Ok x)
-left_well a b went = record { crash = went.on.crash; goes = went; cut = tt; disk = λ clean. tt }
+pub left_well : {X : Type 0} (touched : List ℕ) (a b : State) → Goes a b → {x : X} → LeavesOr (OnlyTouches touched) a b (Ok x)
+left_well touched a b went = record { crash = went.on.crash; goes = went; cut = tt; spares = λ clean. tt }
 
 -- the rows are not ours
-pub left_known : {X : Type 0} (a b : State) → Goes a b → Leaves {X = X} a b (Err fault.Schema)
-left_known a b went = record { crash = went.on.crash; goes = tt; cut = cut_after a b went.on; disk = λ clean. tt }
+pub left_known : {X : Type 0} (touched : List ℕ) (a b : State) → Goes a b → (HasCleanDisk b → OnlyTouches touched a.now b.now) → LeavesOr {X = X} (OnlyTouches touched) a b (Err fault.Schema)
+left_known touched a b went only = record { crash = went.on.crash; goes = tt; cut = cut_after a b went.on; spares = λ clean. record { disk = tt; rows = inl (only clean) } }
 
--- the last of them failed
-pub left_fault : {X Y : Type 0} (a b c : State) → Goes a b → (r : Result X StoreFault) (e : StoreFault) → r ≡ Err e → Leaves {X = Y} b c (Err e) → Leaves a c r
-left_fault {X} a b c went r e is last =
-    let cut = cut_then a b c went.on last.cut in
-    subst (Leaves {X = X} a c) (sym is) (record { crash = cut.crash; goes = tt; cut = cut; disk = λ clean. disk_then a b c went.on (early b c _ last.crash clean) e (last.disk clean) })
+-- it ends with a fault
+pub left_by : {X : Type 0} (touched : List ℕ) (a b : State) (r : Result X StoreFault) (e : StoreFault) → r ≡ Err e → IsAborted a b → (HasCleanDisk b → Spares (OnlyTouches touched) a b e) → LeavesOr (OnlyTouches touched) a b r
+left_by {X} touched a b r e is cut spares = subst (LeavesOr {X = X} (OnlyTouches touched) a b) (sym is) (record { crash = cut.crash; goes = tt; cut = cut; spares = spares })
+
+-- one of them failed
+pub left_fault : {X : Type 0} (touched : List ℕ) (a b c : State) → Goes a b → (HasCleanDisk b → OnlyTouches touched a.now b.now) → (r : Result X StoreFault) (e : StoreFault) → r ≡ Err e → IsAborted b c → (HasCleanDisk c → Spares (OnlyTouches touched) b c e)
+    → LeavesOr (OnlyTouches touched) a c r
+left_fault {X} touched a b c went only r e is aborted spares =
+    let cut = cut_then a b c went.on aborted in
+    subst (LeavesOr {X = X} (OnlyTouches touched) a c) (sym is)
+    (record { crash = cut.crash; goes = tt; cut = cut; spares = λ clean. let before = early b c _ aborted.crash clean in touched_spares touched a b c went.on before (only before) e (spares clean) })
 
 -- ---- a call that makes tables
 
@@ -93,21 +100,33 @@ making_last a b c on r goes cut blames why = record {
 
 -- ---- a call that reads
 
--- all its steps read, whatever it makes of what they told
-pub read_only : {X : Type 0} (a b : State) (r : Result X StoreFault) → LeavesUnchanged a b → Reads a b r
-read_only a b (Ok x) looked = record { crash = looked.goes.on.crash; looks = looked; cut = tt }
-read_only a b (Err e) looked = record { crash = looked.goes.on.crash; looks = tt; cut = cut_after a b looked.goes.on }
+-- it ends with what was read
+pub read_well : {X : Type 0} (a b : State) → LeavesUnchanged a b → {x : X} → Reads a b (Ok x)
+read_well a b looked = record { crash = looked.goes.on.crash; looks = looked; cut = tt; spares = λ clean. tt }
+
+-- all its steps read, and what they told cannot be taken over for a reason that is not the disk's
+pub read_only : {X : Type 0} (a b : State) (r : Result X StoreFault) → LeavesUnchanged a b → IfErr r (λ e. e ≢ fault.Disk) → Reads a b r
+read_only a b (Ok x) looked other = read_well a b looked
+read_only a b (Err e) looked other = record { crash = looked.goes.on.crash; looks = tt; cut = cut_after a b looked.goes.on; spares = λ clean. spares_own a b looked clean e other }
 
 -- it ends with a fault
-pub read_not : {X : Type 0} (a b : State) (r : Result X StoreFault) (e : StoreFault) → r ≡ Err e → IsAborted a b → Reads a b r
-read_not a b r e is cut = subst (Reads a b) (sym is) (record { crash = cut.crash; looks = tt; cut = cut })
+pub read_not : {X : Type 0} (a b : State) (r : Result X StoreFault) (e : StoreFault) → r ≡ Err e → IsAborted a b → (HasCleanDisk b → Spares IsSame a b e) → Reads a b r
+read_not a b r e is cut spares = subst (Reads a b) (sym is) (record { crash = cut.crash; looks = tt; cut = cut; spares = spares })
+
+-- after a look
+pub read_cut : {X : Type 0} (a b c : State) (r : Result X StoreFault) (e : StoreFault) → r ≡ Err e → LeavesUnchanged a b → IsAborted b c → (HasCleanDisk c → Spares IsSame b c e) → Reads a c r
+read_cut a b c r e is looked cut spares = read_not a c r e is (cut_then a b c looked.goes.on cut) (λ clean. looked_spares a b c looked (early b c _ cut.crash clean) e (spares clean))
 
 -- ---- a call that writes
 
 -- its last step leaves the transaction so, after others that went well
-pub leaves_last : {X : Type 0} (a b c : State) (r : Result X StoreFault) → Goes a b → Leaves b c r → Leaves a c r
-leaves_last a b c (Ok x) went last = left_well a c (goes_then a b c went last.goes)
-leaves_last a b c (Err e) went last = left_fault a b c went (Err e) e refl last
+pub leaves_last : {X : Type 0} (touched : List ℕ) (a b c : State) (r : Result X StoreFault) → Goes a b → (HasCleanDisk b → OnlyTouches touched a.now b.now) → LeavesOr (OnlyTouches touched) b c r → LeavesOr (OnlyTouches touched) a c r
+leaves_last touched a b c (Ok x) went only last = left_well touched a c (goes_then a b c went last.goes)
+leaves_last touched a b c (Err e) went only last = left_fault touched a b c went only (Err e) e refl last.cut last.spares
+
+-- a statement touches no table where it fails
+pub leaves_part : {X : Type 0} (touched : List ℕ) (a b : State) (r : Result X StoreFault) → Leaves a b r → LeavesOr (OnlyTouches touched) a b r
+leaves_part touched a b r it = record { crash = it.crash; goes = it.goes; cut = it.cut; spares = λ clean. untouched_last touched a b r (it.spares clean) }
 
 -- ---- a call on tables that show a model, of which a later step fails
 

@@ -27,7 +27,7 @@ both_open a b p q = q ∙ sym p
 on_then : (a b c : State) → GoesOn a b → GoesOn b c → GoesOn a c
 on_then a b c p q = record { opened = q.opened ∙ p.opened; committed = q.committed ∙ p.committed; was_inside = p.was_inside; is_inside = q.is_inside }
 
-back_then : (a b c : State) → GoesOn a b → IsBack b c → IsBack a c
+pub back_then : (a b c : State) → GoesOn a b → IsBack b c → IsBack a c
 back_then a b c p q = record { was_open = λ h. subst IsTrue p.opened (q.was_open h); now = λ h. q.now h ∙ p.committed; committed = λ h. q.committed h ∙ p.committed; ended = q.ended }
 
 cut_on : (a b c : State) → GoesOn a b → GoesOn b c ⊎ IsBack b c → GoesOn a c ⊎ IsBack a c

@@ -12,9 +12,10 @@ use Rattle.office_tables.specs.declared.fault.StoreFault.{StoreFault}
 use Rattle.office_tables.specs.Faults.{fault_of}
 use Rattle.office_tables.specs.Faults as cause
 use Rattle.office_tables.specs.Asking.{IsOurQuery, Reads, Gathers, StopsShort}
-use Rattle.office_tables.specs.Step.{GoesOn, IsBack, LeavesUnchanged, IsAborted}
+use Rattle.office_tables.specs.Step.{GoesOn, IsBack, LeavesUnchanged, IsAborted, Spares, IsSame}
 use Rattle.office_tables.proofs.Errors.{fails, keeps}
 use Rattle.office_tables.proofs.Calls.{early, unchanged_on, stopped}
+use Rattle.office_tables.proofs.Sparing.{query_spares}
 use Rattle.sqlite.specs.State.{State, HasCleanDisk, Survives, IsUnchanged, IsRolledBack, IsStatement, IsNoStatement, IsNotRun, Shown, ShowsRows, FailsToQuery, FailsToShow, Fails, HasCause}
 use Rattle.sqlite.proofs.Callers.{IsPlain, unchanged_then}
 
@@ -97,13 +98,18 @@ module _ (sql : List ℕ) (old new : State) (ours : IsOurQuery sql old) (crash :
       at clean (inl h) = inl (unchanged_on old new (inside clean) h.1)
       at clean (inr h) = stopped old new (inside clean) (fails sql [] old new h.0 h.2)
 
+  short_spares : (e : StoreFault) → HasCleanDisk new → StopsShort sql [] old new e → Spares IsSame old new e
+  short_spares e clean (inl h) = subst (Spares IsSame old new) (sym h.0) (record { disk = tt; rows = inl h.1.0.now_is })
+  short_spares e clean (inr h) = subst (Spares IsSame old new) (sym h.1) (query_spares sql [] old new (our_plain sql old ours (early old new _ crash clean)) h.0 h.2)
+
   pub gathered_reads : {G : Type 0} (Holds : List Row → G → Type 0) (r : Result G StoreFault) → (HasCleanDisk new → IfOk r (Gathers Holds sql [] old new)) → (HasCleanDisk new → IfErr r (StopsShort sql [] old new)) → Reads old new r
   gathered_reads Holds (Ok all) gathers stops = record {
     crash = crash;
     looks = looked (λ clean. keeps sql [] old new (gathers clean).rows (our_plain sql old ours (early old new _ crash clean)) (gathers clean).shown);
     cut = tt;
+    spares = λ clean. tt;
   }
-  gathered_reads Holds (Err e) gathers stops = record { crash = crash; looks = tt; cut = short e stops }
+  gathered_reads Holds (Err e) gathers stops = record { crash = crash; looks = tt; cut = short e stops; spares = λ clean. short_spares e clean (stops clean) }
 
 -- why it stopped, where the query is refused for such a cause alone
 pub stop_cause : (sql : List ℕ) (old new : State) (e : StoreFault) → ((why : Error) → FailsToQuery sql [] old new why → cause.HasCause old new (fault_of why)) → StopsShort sql [] old new e → cause.HasCause old new e

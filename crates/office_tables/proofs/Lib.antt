@@ -35,5 +35,7 @@ pub mod Gatherings
 pub mod ByNumber
 pub mod Fresh
 pub mod numbered
+pub mod Sparing
 pub mod CallEnds
+pub mod StoreCalls
 pub mod statements

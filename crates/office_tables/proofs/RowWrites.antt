@@ -15,11 +15,13 @@ use Rattle.office_tables.specs.Changing.{IsOurs, changes_rows, Ran}
 use Rattle.office_tables.specs.Meaning.{Means}
 use Rattle.office_tables.specs.Faults.{fault_of, HasCause, BlamesDisk}
 use Rattle.office_tables.specs.Schema.{Version, schema}
-use Rattle.office_tables.specs.Step.{Goes, IsAborted, InOffice, InTransaction}
+use Rattle.office_tables.specs.Step.{Goes, IsAborted, InOffice, InTransaction, Spares, IsSame}
 use Rattle.office_tables.specs.declared.fault.StoreFault.{StoreFault}
 use Rattle.office_tables.proofs.Calls.{early, Knows, known_in, is_write, write_cut, write_continues}
 use Rattle.office_tables.proofs.Steps.{went, same_value}
 use Rattle.office_tables.proofs.WriteCauses.{write_disk}
+use Rattle.office_tables.proofs.Errors.{stops}
+use Rattle.office_tables.proofs.Sparing.{spares_stopped}
 
 at_rows : (limit : Option ℕ) (mode : Mode) (params : Row) (before after : Database) (tally : Tally) (command : Command) (table : Option Table)
     → AtPlace (λ t. OnRows (record { limit = limit; keys = mode.keys; schema = before.schema; table = t; params = params }) mode None command before.trees) table (Ok (tally, after))
@@ -66,6 +68,9 @@ module _ (sql : List ℕ) (params : Row) (old new : State) (ours : IsOurs sql ol
 
   pub blames : (e : Error) → (HasCleanDisk new → Executes sql params old new (Err e)) → HasCleanDisk new → BlamesDisk old new (fault_of e)
   blames e runs clean = write_disk sql params old new ours.command (is_one ours.command ours.changes) (known (early old new _ survives clean)) e (runs clean)
+
+  pub statement_spares : (e : Error) → (HasCleanDisk new → Executes sql params old new (Err e)) → HasCleanDisk new → Spares IsSame old new (fault_of e)
+  statement_spares e runs clean = spares_stopped old new (fault_of e) (blames e runs clean) (stops sql params old new e (runs clean))
 
 -- ---- what callers cite
 

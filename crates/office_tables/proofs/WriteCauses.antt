@@ -52,7 +52,7 @@ is_disk fault.Schema = false
 abbrev Blames : {A : Type 0} → Part A → Type 0
 Blames {A} P = (e : Error) → P (Err (Some e)) → is_disk (fault_of e) ≡ false
 
-by : (e x : Error) → e ≡ x → is_disk (fault_of x) ≡ false → is_disk (fault_of e) ≡ false
+pub by : (e x : Error) → e ≡ x → is_disk (fault_of x) ≡ false → is_disk (fault_of e) ≡ false
 by e x is h = ap (λ e. is_disk (fault_of e)) is ∙ h
 
 given : {A : Type 0} (a : A) → Blames (Gives a)
@@ -217,10 +217,10 @@ module _ (old new : State) where
   fair_store too_big Broken h = inr h
   fair_store too_big Unstorable h = tt
 
-  fair_failure : (too_big : Type 0) (e : Error) → Fails old new too_big e → BlamesDisk old new (fault_of e)
+  pub fair_failure : (too_big : Type 0) (e : Error) → Fails old new too_big e → BlamesDisk old new (fault_of e)
   fair_failure too_big e failed = subst (λ e. BlamesDisk old new (fault_of e)) (sym failed.1) (fair_store too_big failed.0 failed.2)
 
-no_statement : (s : State) (sql : List ℕ) (params : Row) (e : Error) → IsNoStatement s sql params e → is_disk (fault_of e) ≡ false
+pub no_statement : (s : State) (sql : List ℕ) (params : Row) (e : Error) → IsNoStatement s sql params e → is_disk (fault_of e) ≡ false
 no_statement s sql params e (inl h) = by e _ h.2 refl
 no_statement s sql params e (inr (c, u, inl h)) = by e _ h.1 refl
 no_statement s sql params e (inr (c, u, inr (inl h))) = by e _ h.1 refl

@@ -1,5 +1,5 @@
 -- One query of ours: what it tells, and what it leaves.
-use Rattle.std.specs.Prelude.{◌≡◌, ◌⊎◌, ℕ, pos, List, [], ◌∷◌, map, slice_index_or, Result, OnOk, OnErr, IsTrue}
+use Rattle.std.specs.Prelude.{◌≡◌, ◌⊎◌, ℕ, pos, List, [], ◌∷◌, map, slice_index_or, Result, IfErr, OnOk, OnErr, IsTrue}
 use Rattle.std.specs.List.{AllByRecursion}
 use Rattle.sqlite.specs.Order.{Row}
 use Rattle.sqlite.specs.Command.{Command}
@@ -9,7 +9,7 @@ use Rattle.sqlite.specs.declared.types.Value.TheVariants.{Int}
 use Rattle.office_tables.specs.Faults.{fault_of}
 use Rattle.office_tables.specs.Meaning.{Means}
 use Rattle.office_tables.specs.Schema.{Version, schema}
-use Rattle.office_tables.specs.Step.{LeavesUnchanged, IsAborted}
+use Rattle.office_tables.specs.Step.{LeavesUnchanged, IsAborted, Spares, IsSame}
 use Rattle.office_tables.specs.declared.fault.StoreFault.{StoreFault}
 use Rattle.office_tables.specs.declared.fault.StoreFault.TheVariants as fault
 
@@ -19,11 +19,13 @@ pub record IsOurQuery (sql : List ℕ) (s : State) : Type 0 where
   pub command : Command
   pub here : HasCleanDisk s → (v : Version) × (s.now.schema ≡ schema v) × IsTrue s.in_transaction × Means v sql count command
 
--- what a call leaves that reads: nothing is changed, or the transaction is cut
+-- What a call leaves that reads: nothing is changed; or it fails, the disk is blamed for its own failures only, and every row
+-- is as it was or the transaction was taken back.
 pub record Reads {X : Type 0} (old new : State) (r : Result X StoreFault) : Type 0 where
   pub crash : Survives old new (λ _. ⊥)
   pub looks : OnOk r (LeavesUnchanged old new)
   pub cut : OnErr r (IsAborted old new)
+  pub spares : HasCleanDisk new → IfErr r (Spares IsSame old new)
 
 -- these are the records of the rows that the query shows
 pub record Finds {A : Type 0} (cells : A → Row) (sql : List ℕ) (params : Row) (old new : State) (found : List A) : Type 0 where

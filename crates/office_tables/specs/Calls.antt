@@ -1,12 +1,12 @@
 -- What a call promises on tables that show a model: a catalogue, or a desk.
-use Rattle.std.specs.Prelude.{ℕ, ⊤, List, Result, IfOk, OnOk, OnErr}
+use Rattle.std.specs.Prelude.{ℕ, ⊤, List, Result, IfOk, IfErr, OnOk, OnErr}
 use Rattle.sqlite_trees.specs.declared.store.Store as store
 use Rattle.sqlite.specs.Effect.{Database}
 use Rattle.sqlite.specs.Tree.{Trees}
 use Rattle.sqlite.specs.Held.{Held, state}
 use Rattle.sqlite.specs.State.{State, HasCleanDisk}
 use Rattle.office_tables.specs.Faults.{FaultsHaveCause}
-use Rattle.office_tables.specs.Step.{Goes, IsAborted, LeavesUnchanged, OnlyTouches}
+use Rattle.office_tables.specs.Step.{Goes, IsAborted, LeavesUnchanged, OnlyTouches, Spares, IsSame}
 use Rattle.office_tables.specs.declared.fault.StoreFault.{StoreFault}
 
 -- the rows show the model, beside nothing else
@@ -36,4 +36,23 @@ module _ {S X Stays Model : Type 0} (g : store.Ghosts S) (represents : Database 
     pub answers : HasCleanDisk new → (s : Stays) (m : Model) → represents old.now s m → IfOk r (answer s m)
     pub looks : OnOk r (LeavesUnchanged old new)
     pub cut : OnErr r (IsAborted old new)
+    pub faults : (s : Stays) (m : Model) → represents old.now s m → may m → kept m → FaultsHaveCause old new r
+
+  -- The same of a call of a store. Where it fails and the transaction goes on, it has touched these tables only, whatever
+  -- the rows are; and it blames the disk for its own failures only.
+  pub record Makes (may : Model → Type 0) (made : Model → Model) (touched : List ℕ) : Type 0 where
+    pub represents_updated : HasCleanDisk new → (s : Stays) (m : Model) → represents old.now s m → may m → OnOk r (represents new.now s (made m))
+    pub only : HasCleanDisk new → OnOk r (OnlyTouches touched old.now new.now)
+    pub goes : OnOk r (Goes old new)
+    pub cut : OnErr r (IsAborted old new)
+    pub spares : HasCleanDisk new → IfErr r (Spares (OnlyTouches touched) old new)
+    pub faults : (s : Stays) (m : Model) → represents old.now s m → may m → kept m → FaultsHaveCause old new r
+
+  -- The same of a call of a store. Where it fails and the transaction goes on, every row is as it was, whatever the rows
+  -- are; and it blames the disk for its own failures only.
+  pub record Tells (may : Model → Type 0) (answer : Stays → Model → X → Type 0) : Type 0 where
+    pub answers : HasCleanDisk new → (s : Stays) (m : Model) → represents old.now s m → IfOk r (answer s m)
+    pub looks : OnOk r (LeavesUnchanged old new)
+    pub cut : OnErr r (IsAborted old new)
+    pub spares : HasCleanDisk new → IfErr r (Spares IsSame old new)
     pub faults : (s : Stays) (m : Model) → represents old.now s m → may m → kept m → FaultsHaveCause old new r

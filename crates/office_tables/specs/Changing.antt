@@ -1,14 +1,15 @@
 -- One statement of ours that changes rows: what it leaves.
 use Rattle.std.specs.Prelude.{◌≡◌, ℕ, Bool, true, false, List, Result, Ok, Err, IfErr, OnOk, OnErr, IsTrue}
+use Rattle.sqlite.specs.Effect.{Database}
 use Rattle.sqlite.specs.Order.{Row}
 use Rattle.sqlite.specs.Command.{Command}
 use Rattle.sqlite.specs.Command.TheVariants.{Insert, Update, Delete}
 use Rattle.sqlite.specs.State.{State, HasCleanDisk, Executes, Survives}
 use Rattle.sqlite.specs.declared.error.Error.{Error}
-use Rattle.office_tables.specs.Faults.{fault_of, BlamesDisk}
+use Rattle.office_tables.specs.Faults.{fault_of}
 use Rattle.office_tables.specs.Meaning.{Means}
 use Rattle.office_tables.specs.Schema.{Version, schema}
-use Rattle.office_tables.specs.Step.{Goes, IsAborted}
+use Rattle.office_tables.specs.Step.{Goes, IsAborted, Spares, IsSame}
 use Rattle.office_tables.specs.declared.fault.StoreFault.{StoreFault}
 
 abbrev pub changes_rows : Command → Bool
@@ -24,12 +25,17 @@ pub record IsOurs (sql : List ℕ) (s : State) : Type 0 where
   pub changes : changes_rows command ≡ true
   pub here : HasCleanDisk s → (v : Version) × (s.now.schema ≡ schema v) × IsTrue s.in_transaction × Means v sql count command
 
--- what a call leaves that changes tables: the transaction goes on, or it is cut and the disk is blamed for its own failures only
-pub record Leaves {X : Type 0} (old new : State) (r : Result X StoreFault) : Type 0 where
+-- What a call leaves that changes rows: the transaction goes on; or the call fails, the disk is blamed for its own failures
+-- only, and the rows are left so or the transaction was taken back.
+pub record LeavesOr {X : Type 0} (Left : Database → Database → Type 0) (old new : State) (r : Result X StoreFault) : Type 0 where
   pub crash : Survives old new (λ _. ⊥)
   pub goes : OnOk r (Goes old new)
   pub cut : OnErr r (IsAborted old new)
-  pub disk : HasCleanDisk new → IfErr r (BlamesDisk old new)
+  pub spares : HasCleanDisk new → IfErr r (Spares Left old new)
+
+-- the same of one statement: where it fails, every row is as it was
+abbrev pub Leaves : {X : Type 0} → State → State → Result X StoreFault → Type 0
+Leaves old new r = LeavesOr IsSame old new r
 
 -- the statement was carried out, or refused for a reason that the fault tells
 abbrev pub Ran : List ℕ → Row → State → State → Result Unit StoreFault → Type 0

@@ -8,8 +8,10 @@ use Rattle.sqlite.specs.Tree.{put_row}
 use Rattle.sqlite.specs.Edit.{is_taken}
 use Rattle.sqlite.specs.State.{State, HasCleanDisk, Survives}
 use Rattle.tree_core.specs.Versions.{Version}
+use Rattle.office_tables.specs.Faults.{BlamesDisk}
 use Rattle.office_tables.specs.Schema.{schema}
 use Rattle.office_tables.specs.Schema as tables
+use Rattle.office_tables.specs.declared.fault.StoreFault.{StoreFault}
 
 -- while the disk is clean, the connection has our tables, and a transaction is open
 abbrev pub InTransaction : Version → State → Type 0
@@ -47,6 +49,16 @@ pub record Goes (old new : State) : Type 0 where
 pub record IsAborted (old new : State) : Type 0 where
   pub crash : Survives old new (λ _. ⊥)
   pub cut : HasCleanDisk new → GoesOn old new ⊎ IsBack old new
+
+-- What a fault spares: the disk is blamed for its own failures only; and the rows are left so, or the transaction was
+-- taken back.
+pub record Spares (Left : Database → Database → Type 0) (old new : State) (e : StoreFault) : Type 0 where
+  pub disk : BlamesDisk old new e
+  pub rows : Left old.now new.now ⊎ IsBack old new
+
+-- every row is as it was
+abbrev pub IsSame : Database → Database → Type 0
+IsSame old new = new ≡ old
 
 -- the trees of the tables, in either version
 abbrev pub table_trees : List ℕ

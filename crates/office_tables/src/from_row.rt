@@ -1,6 +1,6 @@
 //! Rows that a query answers, read one by one.
 
-ghost use Rattle.std.specs.Prelude.{◌≡◌, ◌<◌, ◌^◌, ℕ, pos, List, [], ◌∷◌, map, slice_index_or, IfOk, IfErr};
+ghost use Rattle.std.specs.Prelude.{◌≡◌, ◌≢◌, ◌<◌, ◌^◌, ℕ, pos, List, [], ◌∷◌, map, slice_index_or, IfOk, IfErr};
 ghost use Rattle.std.specs.List.{AllByRecursion};
 ghost use Rattle.sqlite.specs.declared.types.Value.TheVariants.{Int};
 
@@ -24,7 +24,8 @@ pub trait FromRow {
     where
         Self: Sized,
         ensures value { (x : Self) → row.now ≡ cells x → IfOk result (λ y. y ≡ x) }
-        ensures faults { (x : Self) → row.now ≡ cells x → is_legible x → IfErr result (λ e. e ≡ StoreFault.Memory) };
+        ensures faults { (x : Self) → row.now ≡ cells x → is_legible x → IfErr result (λ e. e ≡ StoreFault.Memory) }
+        ensures fair { IfErr result (λ e. e ≢ StoreFault.Disk) };
 }
 
 impl FromRow for u64 {
@@ -108,6 +109,7 @@ pub fn read_all<T: FromRow + Drop>(alloc: Global, rows: &[Row]) -> Result<Vec<T>
     ensures value { (xs : List T) → rows.now ≡ map T.cells xs → IfOk result (λ all. all.items ≡ xs) }
     ensures faults { (xs : List T) → rows.now ≡ map T.cells xs → AllByRecursion T.is_legible xs
         → IfErr result (λ e. e ≡ StoreFault.Memory) }
+    ensures fair { IfErr result (λ e. e ≢ StoreFault.Disk) }
 {
     let mut all = Vec::new(alloc);
     for row in rows {
@@ -118,7 +120,8 @@ pub fn read_all<T: FromRow + Drop>(alloc: Global, rows: &[Row]) -> Result<Vec<T>
 
 /// The number of an answer that has one.
 pub fn only_number(numbers: &[u64]) -> Result<u64, StoreFault>
-    ensures { (n : ℕ) → numbers.now ≡ n ∷ [] → result ≡ Ok n }
+    ensures value { (n : ℕ) → numbers.now ≡ n ∷ [] → result ≡ Ok n }
+    ensures fair { IfErr result (λ e. e ≢ StoreFault.Disk) }
 {
     match numbers {
         [number] => Ok(*number),
@@ -132,6 +135,7 @@ pub fn first_or_zero(rows: &[Row]) -> Result<u32, StoreFault>
         → IfOk result (λ n. n ≡ slice_index_or xs 0 0) }
     ensures faults { (xs : List ℕ) → rows.now ≡ map (λ n. Int (pos n) ∷ []) xs → AllByRecursion (λ n. n < 2 ^ 32) xs
         → IfErr result (λ e. e ≡ StoreFault.Memory) }
+    ensures fair { IfErr result (λ e. e ≢ StoreFault.Disk) }
 {
     match rows.first() {
         Some(row) => Ok(row.get(0)?),

@@ -1,10 +1,11 @@
 -- Calls that read, one after the other.
-use Rattle.std.proofs.Common.{◌≡◌, Result, Ok, Err, ap}
+use Rattle.std.proofs.Common.{◌≡◌, Result, Ok, Err, ap, refl}
 use Rattle.sqlite.specs.State.{State, HasCleanDisk}
 use Rattle.office_tables.specs.Asking.{Reads}
-use Rattle.office_tables.specs.Step.{LeavesUnchanged, IsAborted}
+use Rattle.office_tables.specs.Step.{LeavesUnchanged}
 use Rattle.office_tables.specs.declared.fault.StoreFault.{StoreFault}
-use Rattle.office_tables.proofs.Calls.{early, cut_then, looks_then}
+use Rattle.office_tables.proofs.CallEnds.{read_well, read_cut}
+use Rattle.office_tables.proofs.Calls.{early, looks_then}
 
 -- the tables are as they were
 pub same_trees : (a b : State) → LeavesUnchanged a b → HasCleanDisk b → b.now.trees ≡ a.now.trees
@@ -14,11 +15,8 @@ pub before : (a b : State) → LeavesUnchanged a b → HasCleanDisk b → HasCle
 before a b one clean = early a b _ one.goes.on.crash clean
 
 pub reads_well : {X : Type 0} (a b : State) (x : X) → LeavesUnchanged a b → Reads a b (Ok x)
-reads_well a b x one = record { crash = one.goes.on.crash; looks = one; cut = tt }
-
-pub reads_not : {X : Type 0} (a b : State) (e : StoreFault) → IsAborted a b → Reads {X = X} a b (Err e)
-reads_not a b e cut = record { crash = cut.crash; looks = tt; cut = cut }
+reads_well a b x one = read_well a b one
 
 pub reads_then : {X : Type 0} (a b c : State) (r : Result X StoreFault) → LeavesUnchanged a b → Reads b c r → Reads a c r
-reads_then a b c (Ok x) one two = reads_well a c x (looks_then a b c one two.looks)
-reads_then a b c (Err e) one two = reads_not a c e (cut_then a b c one.goes.on two.cut)
+reads_then a b c (Ok x) one two = read_well a c (looks_then a b c one two.looks)
+reads_then a b c (Err e) one two = read_cut a b c (Err e) e refl one two.cut two.spares

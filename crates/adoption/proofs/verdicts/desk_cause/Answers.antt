@@ -7,12 +7,13 @@ use Rattle.office_tables.specs.Faults.{FaultsHaveCause}
 use Rattle.office_tables.specs.declared.fault.StoreFault.{StoreFault}
 use Rattle.office_tables.proofs.CallEnds.{excused_then}
 use Rattle.office_tables.proofs.Calls.{office_of, looks_then, cut_then}
-use Rattle.row_decoding.proofs.ReadCalls.{before, reads_well}
+use Rattle.row_decoding.proofs.ReadCalls.{before}
 use Rattle.adoption.specs.Causes.{HasNoEarlierCause}
 use Rattle.adoption.specs.OwnRows.{own_row_of}
 use Rattle.adoption.specs.OrderedTables.{StandInOrder}
 use Rattle.adoption.proofs.CauseLemmas.{told_desk, fine_desk, broken_day, kept_day}
 use Rattle.adoption.proofs.DayRules.{opened_then}
+use Rattle.adoption.proofs.Lookings.{looked_well}
 use Rattle.adoption.proofs.verdicts.desk_cause.Goals as goal
 
 pub load_check_desk-requires : goal.load_check_desk-requires
@@ -34,7 +35,7 @@ pub returns-then-branch-clause-reads : goal.returns-then-branch-clause-reads
 returns-then-branch-clause-reads g c =
     let old = state g.S.Store c.args.conn.now in
     let new = state g.S.Store c.breaks_day_rules.new.conn in
-    reads_well old new (Some 10) (looks_then old (state g.S.Store c.load_check_desk.new.conn) new c.in_ok-doubt.ensures.reads.looks c.in_ok-breaks_day_rules.ensures.reads.looks)
+    looked_well old new (Some 10) (looks_then old (state g.S.Store c.load_check_desk.new.conn) new c.in_ok-doubt.ensures.reads.looks c.in_ok-breaks_day_rules.ensures.reads.looks)
 
 pub returns-then-branch-clause-tells : goal.returns-then-branch-clause-tells
 returns-then-branch-clause-tells g c clean opened ordered own catalogue =
@@ -51,7 +52,7 @@ pub returns-clause-reads : goal.returns-clause-reads
 returns-clause-reads g c =
     let old = state g.S.Store c.args.conn.now in
     let new = state g.S.Store c.breaks_day_rules.new.conn in
-    reads_well old new None (looks_then old (state g.S.Store c.load_check_desk.new.conn) new c.in_ok-doubt.ensures.reads.looks c.in_ok-breaks_day_rules.ensures.reads.looks)
+    looked_well old new None (looks_then old (state g.S.Store c.load_check_desk.new.conn) new c.in_ok-doubt.ensures.reads.looks c.in_ok-breaks_day_rules.ensures.reads.looks)
 
 pub returns-clause-tells : goal.returns-clause-tells
 returns-clause-tells g c clean opened ordered own catalogue =

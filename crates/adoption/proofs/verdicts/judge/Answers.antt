@@ -3,10 +3,11 @@ use Rattle.sqlite.specs.Effect.{Database}
 use Rattle.sqlite.specs.Held.{state}
 use Rattle.state_encoding.specs.CellCauses.{cell_cause}
 use Rattle.office_tables.proofs.Calls.{looks_then, cut_then}
-use Rattle.row_decoding.proofs.ReadCalls.{before, reads_well}
+use Rattle.row_decoding.proofs.ReadCalls.{before}
 use Rattle.adoption.specs.Verdicts.{IsVersionVerdict}
 use Rattle.adoption.specs.OrderedTables.{StandInOrder}
 use Rattle.adoption.specs.declared.verdict.Verdict.TheVariants.{Sound, Unsound}
+use Rattle.adoption.proofs.Lookings.{looked_well}
 use Rattle.adoption.proofs.verdicts.judge.Goals as goal
 
 pub returns-in_err-cause-clause-reads : goal.returns-in_err-cause-clause-reads
@@ -19,7 +20,7 @@ pub returns-in-Some-2-clause-reads : goal.returns-in-Some-2-clause-reads
 returns-in-Some-2-clause-reads g c =
     let old = state g.S.Store c.args.conn.now in
     let new = state g.S.Store c.least_cause.new.conn in
-    reads_well old new (Unsound c.in-Some-2.cause) (looks_then old (state g.S.Store c.judge_version.new.conn) new c.in_ok-verdict.ensures.reads.looks c.in_ok-cause.ensures.reads.looks)
+    looked_well old new (Unsound c.in-Some-2.cause) (looks_then old (state g.S.Store c.judge_version.new.conn) new c.in_ok-verdict.ensures.reads.looks c.in_ok-cause.ensures.reads.looks)
 
 pub returns-in-Some-2-clause-tells : goal.returns-in-Some-2-clause-tells
 returns-in-Some-2-clause-tells g c clean =
@@ -40,7 +41,7 @@ pub returns-in-None-clause-reads : goal.returns-in-None-clause-reads
 returns-in-None-clause-reads g c =
     let old = state g.S.Store c.args.conn.now in
     let new = state g.S.Store c.least_cause.new.conn in
-    reads_well old new Sound (looks_then old (state g.S.Store c.judge_version.new.conn) new c.in_ok-verdict.ensures.reads.looks c.in_ok-cause.ensures.reads.looks)
+    looked_well old new Sound (looks_then old (state g.S.Store c.judge_version.new.conn) new c.in_ok-verdict.ensures.reads.looks c.in_ok-cause.ensures.reads.looks)
 
 pub returns-in-None-clause-tells : goal.returns-in-None-clause-tells
 returns-in-None-clause-tells g c clean =

@@ -8,12 +8,13 @@ use Rattle.state_encoding.specs.CellCauses.{cell_cause}
 use Rattle.office_tables.specs.Faults.{FaultsHaveCause}
 use Rattle.office_tables.proofs.CallEnds.{excused_then}
 use Rattle.office_tables.proofs.Calls.{early, looks_then, cut_then}
-use Rattle.row_decoding.proofs.ReadCalls.{before, same_trees, reads_well, reads_then}
+use Rattle.row_decoding.proofs.ReadCalls.{before, same_trees}
 use Rattle.adoption.specs.DeskChecked.{catalogue_cell_cause}
 use Rattle.adoption.specs.OwnRows.{own_row_of}
 use Rattle.adoption.specs.OrderedTables.{StandInOrder}
 use Rattle.adoption.proofs.CauseLemmas.{no_own_row, told_catalogue, fine_catalogue}
 use Rattle.adoption.proofs.DayRules.{opened_then}
+use Rattle.adoption.proofs.Lookings.{looked_well, looked_then}
 use Rattle.adoption.proofs.verdicts.least_cause.Goals as goal
 
 pub returns-in_default-clause-tells : goal.returns-in_default-clause-tells
@@ -30,7 +31,7 @@ pub returns-in-Some-2-clause-reads : goal.returns-in-Some-2-clause-reads
 returns-in-Some-2-clause-reads g c =
     let old = state g.S.Store c.args.conn.now in
     let new = state g.S.Store c.load_check.new.conn in
-    reads_well old new (Some c.cause.result) (looks_then old (state g.S.Store c.own_row.new.conn) new c.in_ok-own.ensures.reads.looks c.in_ok-doubt.ensures.reads.looks)
+    looked_well old new (Some c.cause.result) (looks_then old (state g.S.Store c.own_row.new.conn) new c.in_ok-own.ensures.reads.looks c.in_ok-doubt.ensures.reads.looks)
 
 pub returns-in-Some-2-clause-tells : goal.returns-in-Some-2-clause-tells
 returns-in-Some-2-clause-tells g c clean ordered =
@@ -47,7 +48,7 @@ pub returns-clause-reads : goal.returns-clause-reads
 returns-clause-reads g c =
     let old = state g.S.Store c.args.conn.now in
     let late = state g.S.Store c.load_check.new.conn in
-    reads_then old late (state g.S.Store c.desk_cause.new.conn) c.desk_cause.result
+    looked_then old late (state g.S.Store c.desk_cause.new.conn) c.desk_cause.result
     (looks_then old (state g.S.Store c.own_row.new.conn) late c.in_ok-own.ensures.reads.looks c.in_ok-doubt.ensures.reads.looks) c.desk_cause.ensures.reads
 
 pub returns-clause-tells : goal.returns-clause-tells

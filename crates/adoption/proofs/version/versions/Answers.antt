@@ -2,8 +2,8 @@ use Rattle.std.proofs.Common.{rules, sym, subst, ◌∙◌}
 use Rattle.sqlite.specs.Held.{state}
 use Rattle.sqlite.specs.State.{HasCleanDisk}
 use Rattle.office_tables.specs.Faults.{HasCause}
-use Rattle.office_tables.proofs.CallEnds.{read_only}
 use Rattle.adoption.proofs.VersionLemmas.{shown_versions, versions_refused, versions_cause, looks_unchanged, cut_by}
+use Rattle.adoption.proofs.Lookings.{looked_only}
 use Rattle.adoption.proofs.version.versions.Goals as goal
 
 pub returns-in-Ok-clause-reads : goal.returns-in-Ok-clause-reads
@@ -11,7 +11,7 @@ returns-in-Ok-clause-reads g c =
     let old = state g.S.Store c.args.conn.now in
     let new = state g.S.Store c.query_all.new.self in
     let same = λ (clean : HasCleanDisk new). (shown_versions old new c.in-Ok.rows.items (c.in-Ok.ensures.ok clean)).1 in
-    read_only old new _ (looks_unchanged old new c.requires.inside c.query_all.ensures.survives same)
+    looked_only old new _ (looks_unchanged old new c.requires.inside c.query_all.ensures.survives same)
 
 pub returns-in-Ok-clause-tells : goal.returns-in-Ok-clause-tells
 returns-in-Ok-clause-tells g c clean =
@@ -23,7 +23,7 @@ returns-in-Schema-clause-reads g c =
     let new = state g.S.Store c.query_all.new.self in
     let is = sym c.from.ensures ∙ c.in-Schema.is in
     let same = λ (clean : HasCleanDisk new). (versions_refused old new c.in-Err.error c.requires.unlimited (c.in-Err.ensures.err clean) is).same in
-    read_only old new _ (looks_unchanged old new c.requires.inside c.query_all.ensures.survives same)
+    looked_only old new _ (looks_unchanged old new c.requires.inside c.query_all.ensures.survives same)
 
 pub returns-in-Schema-clause-tells : goal.returns-in-Schema-clause-tells
 returns-in-Schema-clause-tells g c clean =

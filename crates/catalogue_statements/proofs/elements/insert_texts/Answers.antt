@@ -1,5 +1,5 @@
 use Rattle.office_tables.specs.Schema as tables
-use Rattle.std.proofs.Common.{rules, map, take, arith, refl, false, nat_eq, ◌&&◌, Option, length, get_or, ◌≡◌, ◌<◌, ◌+◌, ◌∙◌, List, [], ◌∷◌, ◌++◌, ap, sym, subst, option_copied}
+use Rattle.std.proofs.Common.{rules, map, take, arith, refl, false, nat_eq, ◌&&◌, Option, length, get_or, ◌≡◌, ◌<◌, ◌+◌, ◌∙◌, List, [], ◌∷◌, ◌++◌, ap, sym, subst, option_copied, inl}
 use Rattle.std.specs.List.{list_any}
 use Rattle.std.proofs.lemmas.List.{take_all}
 use Rattle.sqlite.specs.Held.{state}
@@ -13,6 +13,8 @@ use Rattle.catalogue_statements.proofs.Parts.{cells_then}
 use Rattle.catalogue_statements.proofs.TextLemmas.{first_cells, cells_step}
 use Rattle.office_tables.proofs.Causes.{cause_then, still_unlimited}
 use Rattle.catalogue_statements.proofs.Untold.{text_free, unit_still}
+use Rattle.office_tables.proofs.Sparing.{touched_spares, untouched}
+use Rattle.office_tables.specs.Step.{OnlyTouches, Spares}
 use Rattle.catalogue_statements.proofs.elements.insert_texts.Goals as goal
 
 pub loop-text-preserved : goal.loop-text-preserved
@@ -76,3 +78,18 @@ returns-clause-adds g c clean xs at =
     let got = c.loop-text.invariant.1.1.1.1 clean xs at in
     let all : take i texts ≡ texts = take_all i texts (omega (arith, c.loop-text-test.false, ap length c.as_slice-text-items.ensures)) in
     (got.0, got.1, subst (λ l. WithTexts c.args.unit (map (λ t. (element_number t.0, t.1)) (texts_from 0 l)) xs got.0) all got.2)
+
+pub returns-in_err-insert_text-clause-spares : goal.returns-in_err-insert_text-clause-spares
+returns-in_err-insert_text-clause-spares g c clean =
+    let a = state g.S.Store c.args.conn.now in
+    let b = state g.S.Store c.loop-text.conn in
+    let d = state g.S.Store c.insert_text.new.conn in
+    let so_far = c.loop-text.invariant.1.1 in
+    let last = c.in_err-insert_text.ensures in
+    let before = early b d _ last.cut.crash clean in
+    let touched = tables.element.tree ∷ [] in
+    let all : Spares (OnlyTouches touched) a d c.in_err-insert_text.field-0.0 = touched_spares touched a b d so_far.0.on before (so_far.1.0 before) _ (untouched touched b d _ (last.spares clean)) in
+    search (rules, all)
+
+pub returns-then-place-ge25-clause-spares : goal.returns-then-place-ge25-clause-spares
+returns-then-place-ge25-clause-spares g c clean = record { disk = tt; rows = inl (c.loop-text.invariant.1.1.1.0 clean) }

@@ -8,6 +8,8 @@ use Rattle.office_tables.proofs.Calls.{early}
 use Rattle.catalogue_statements.proofs.Numbered.{one_container}
 use Rattle.office_tables.proofs.Causes.{cause_then, still_unlimited}
 use Rattle.catalogue_statements.proofs.Untold.{next_free, none_alike}
+use Rattle.office_tables.proofs.Sparing.{looked_spares}
+use Rattle.office_tables.specs.Step.{IsSame, Spares}
 use Rattle.catalogue_statements.proofs.housing.add_container.Goals as goal
 
 pub returns-clause-numbers : goal.returns-clause-numbers
@@ -34,3 +36,12 @@ returns-in_err-insert_container-clause-faults g c boxes at new clean free =
     let why = c.in_err-insert_container.ensures.faults (counted_from 1 boxes) there (next_free 1 n boxes (omega (arith, is))) (none_alike 1 boxes c.args.key.now new) clean (still_unlimited a b looked.goes.on free) in
     let whole = cause_then a b d looked.goes.on before _ why in
     search (rules, whole)
+
+pub returns-in_err-insert_container-clause-spares : goal.returns-in_err-insert_container-clause-spares
+returns-in_err-insert_container-clause-spares g c clean =
+    let a = state g.S.Store c.args.conn.now in
+    let b = state g.S.Store c.next_number.new.conn in
+    let d = state g.S.Store c.insert_container.new.conn in
+    let last = c.in_err-insert_container.ensures.leaves in
+    let all : Spares IsSame a d c.in_err-insert_container.field-0.0 = looked_spares a b d c.in_ok-number.ensures.looks (early b d _ last.cut.crash clean) _ (last.spares clean) in
+    search (rules, all)

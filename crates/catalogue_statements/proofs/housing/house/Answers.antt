@@ -1,5 +1,5 @@
 use Rattle.office_tables.specs.Schema as tables
-use Rattle.std.proofs.Common.{◌≡◌, ℤ, List, [], ◌∷◌, false, nat_eq, ◌&&◌, refl, sym, subst}
+use Rattle.std.proofs.Common.{◌≡◌, ℤ, List, [], ◌∷◌, false, nat_eq, ◌&&◌, refl, sym, subst, rules}
 use Rattle.std.specs.List.{list_any}
 use Rattle.sqlite.specs.Held.{state}
 use Rattle.sqlite.specs.Edit.{next_rowid}
@@ -7,13 +7,15 @@ use Rattle.catalogue_statements.specs.Adding.{AreHoused, WithHousings}
 use Rattle.catalogue_core.specs.Describing.{with_boxes}
 use Rattle.catalogue_core.specs.Merging.{box_number}
 use Rattle.catalogue_statements.specs.Rows.{HousingRow, housing_row}
-use Rattle.office_tables.specs.Step.{Goes, PutsRow}
+use Rattle.office_tables.specs.Step.{Goes, PutsRow, OnlyTouches, Spares}
 use Rattle.office_tables.proofs.Calls.{early, on_ok_both}
 use Rattle.office_tables.proofs.numbered.OwnNumbers.{still_numbered}
 use Rattle.catalogue_statements.proofs.HousingLemmas.{housed}
 use Rattle.office_tables.proofs.Causes.{still_unlimited}
 use Rattle.office_tables.proofs.LaterCauses.{last_cause}
 use Rattle.catalogue_statements.proofs.Untold.{unit_still}
+use Rattle.office_tables.proofs.Sparing.{last_touched, untouched, untouched_last}
+use Rattle.office_tables.proofs.Touching.{touched_wider}
 use Rattle.catalogue_statements.proofs.housing.house.Goals as goal
 
 pub returns-clause-adds : goal.returns-clause-adds
@@ -44,3 +46,21 @@ returns-clause-faults g c known boxes xs at small place_free number_free clean f
     let here = unit_still a.now.trees b.now.trees unit (kept tables.unit.tree refl refl) known in
     let none = subst (λ n. list_any (λ (h : HousingRow). nat_eq unit h.unit && nat_eq n h.container) xs ≡ false) (sym is.0) number_free in
     c.insert_housing.ensures.faults here xs (still_numbered housing_row (a.now.trees tables.housing.tree) (b.now.trees tables.housing.tree) xs (kept tables.housing.tree refl refl) at.rows) place_free none clean (still_unlimited a b went.on free))
+
+pub returns-in_err-number-clause-spares : goal.returns-in_err-number-clause-spares
+returns-in_err-number-clause-spares g c clean =
+    let a = state g.S.Store c.args.conn.now in
+    let b = state g.S.Store c.number_of.new.conn in
+    let touched = tables.container.tree ∷ tables.housing.tree ∷ [] in
+    let all : Spares (OnlyTouches touched) a b c.in_err-number.field-0.0 = untouched touched a b _ (c.in_err-number.ensures.spares clean) in
+    search (rules, all)
+
+pub returns-clause-spares : goal.returns-clause-spares
+returns-clause-spares g c clean =
+    let a = state g.S.Store c.args.conn.now in
+    let b = state g.S.Store c.number_of.new.conn in
+    let d = state g.S.Store c.insert_housing.new.conn in
+    let touched = tables.container.tree ∷ tables.housing.tree ∷ [] in
+    let last = c.insert_housing.ensures.leaves in
+    last_touched touched a b d c.in_ok-number.ensures.goes.on (λ before. touched_wider (tables.container.tree ∷ []) touched a.now b.now refl (c.in_ok-number.ensures.only before))
+    c.insert_housing.result last.cut clean (untouched_last touched b d c.insert_housing.result (last.spares clean))

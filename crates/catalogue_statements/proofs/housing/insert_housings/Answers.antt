@@ -16,6 +16,8 @@ use Rattle.catalogue_statements.proofs.Parts.{cells_then}
 use Rattle.catalogue_statements.proofs.HousingLemmas.{boxes_more, cells_in, housing_more}
 use Rattle.office_tables.proofs.Causes.{cause_then, still_unlimited}
 use Rattle.catalogue_statements.proofs.Untold.{boxes_within, housing_number, housing_place, not_seen, unit_still}
+use Rattle.office_tables.proofs.Sparing.{touched_spares}
+use Rattle.office_tables.specs.Step.{OnlyTouches, Spares}
 use Rattle.catalogue_statements.proofs.housing.insert_housings.Goals as goal
 
 pub loop-key-preserved : goal.loop-key-preserved
@@ -106,3 +108,15 @@ returns-clause-adds g c clean boxes xs at =
     let got = c.loop-key.invariant.1.1.1.1 clean boxes xs at in
     let all : take i told ≡ told = take_all i told (omega (arith, c.loop-key-test.false, ap length c.as_slice-key-items.ensures)) in
     subst (λ l. (ys : List HousingRow) × AreHoused d.now.trees (with_boxes boxes l) ys × WithHousings c.args.unit (cells_in (with_boxes boxes l) l) xs ys) all got
+
+pub returns-in_err-house-clause-spares : goal.returns-in_err-house-clause-spares
+returns-in_err-house-clause-spares g c clean =
+    let a = state g.S.Store c.args.conn.now in
+    let b = state g.S.Store c.loop-key.conn in
+    let d = state g.S.Store c.house.new.conn in
+    let so_far = c.loop-key.invariant.1.1 in
+    let last = c.in_err-house.ensures in
+    let before = early b d _ last.cut.crash clean in
+    let touched = tables.container.tree ∷ tables.housing.tree ∷ [] in
+    let all : Spares (OnlyTouches touched) a d c.in_err-house.field-0.0 = touched_spares touched a b d so_far.0.on before (so_far.1.0 before) _ (last.spares clean) in
+    search (rules, all)

@@ -15,6 +15,7 @@ use Rattle.catalogue_statements.proofs.Numbered.{number_read}
 use Rattle.office_tables.proofs.Causes.{still_unlimited}
 use Rattle.office_tables.proofs.LaterCauses.{last_cause}
 use Rattle.catalogue_statements.proofs.Untold.{number_within}
+use Rattle.office_tables.proofs.Sparing.{last_spares, spares_known}
 use Rattle.catalogue_statements.proofs.housing.number_of.Goals as goal
 
 pub returns-in_default-clause-numbers : goal.returns-in_default-clause-numbers
@@ -68,3 +69,13 @@ returns-then-number-ge-NO_NUMBER-clause-faults g c boxes at small clean free =
     let some : number_in boxes key ≡ Some c.in-Some.number =
     sym (number_read boxes key got.0 got.1) ∙ sym (c.copied.ensures ∙ c.first.ensures.value ∙ ap (λ (l : List ℕ). slice_get l 0) (c.deref.ensures.value ∙ got.2)) ∙ c.in-Some.is in
     absurd (omega (arith, small, number_within boxes key c.in-Some.number some))
+
+pub returns-in_default-clause-spares : goal.returns-in_default-clause-spares
+returns-in_default-clause-spares g c clean =
+    let a = state g.S.Store c.args.conn.now in
+    let b = state g.S.Store c.container_number.new.conn in
+    let d = state g.S.Store c.add_container.new.conn in
+    last_spares a b d c.in_ok-found.ensures.reads.looks c.add_container.result c.add_container.ensures.cut clean (c.add_container.ensures.spares clean)
+
+pub returns-then-number-ge-NO_NUMBER-clause-spares : goal.returns-then-number-ge-NO_NUMBER-clause-spares
+returns-then-number-ge-NO_NUMBER-clause-spares g c clean = spares_known (state g.S.Store c.args.conn.now) (state g.S.Store c.container_number.new.conn) c.in_ok-found.ensures.reads.looks clean

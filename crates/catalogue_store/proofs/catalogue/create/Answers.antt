@@ -4,12 +4,14 @@ use Rattle.sqlite.specs.Held.{state}
 use Rattle.tree_core.specs.Forest.{Empty}
 use Rattle.office_tables.specs.Schema as tables
 use Rattle.office_tables.specs.Schema.{desk_tables}
-use Rattle.office_tables.specs.Step.{InTransaction, Continues, Goes, PutsRow}
+use Rattle.office_tables.specs.Step.{InTransaction, Continues, Goes, PutsRow, Spares, IsSame}
 use Rattle.office_tables.proofs.Calls.{early, continues_then, on_ok_both, on_ok_then}
 use Rattle.office_tables.proofs.CallEnds.{same_fault, making_last, making_not, making_then}
 use Rattle.catalogue_statements.specs.Rows.{office_row}
 use Rattle.catalogue_statements.specs.Represents.{Represents}
 use Rattle.catalogue_store.proofs.Beginning.{shows_beginning, desk_kept}
+use Rattle.office_tables.proofs.Sparing.{if_err_then}
+use Rattle.office_tables.specs.Faults.{BlamesDisk}
 use Rattle.catalogue_store.proofs.catalogue.create.Goals as goal
 
 pub returns-in_err-create_units-clause-leaves : goal.returns-in_err-create_units-clause-leaves
@@ -59,7 +61,7 @@ returns-clause-leaves g c start making =
     let a4 = state g.S.Store c.insert_office.new.conn in
     let left = c.insert_office.ensures.leaves inside in
     let r = c.insert_office.result in
-    making_last a0 a3 a4 on3 r (on_ok_then r (Goes a3 a4) (Continues a3 a4) (λ last. last.on) left.goes) left.cut left.disk (λ before. c.insert_office.ensures.faults inside (step3 before).0.empty.0)
+    making_last a0 a3 a4 on3 r (on_ok_then r (Goes a3 a4) (Continues a3 a4) (λ last. last.on) left.goes) left.cut (λ clean. if_err_then r (Spares IsSame a3 a4) (BlamesDisk a3 a4) (λ e it. it.disk) (left.spares clean)) (λ before. c.insert_office.ensures.faults inside (step3 before).0.empty.0)
 
 pub returns-clause-represents : goal.returns-clause-represents
 returns-clause-represents g c start making clean =

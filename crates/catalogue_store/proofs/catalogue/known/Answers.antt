@@ -4,7 +4,8 @@ use Rattle.catalogue_core.specs.Units.{Unit, is_from}
 use Rattle.catalogue_core.specs.Finding.{Finds}
 use Rattle.office_tables.specs.Calls.{RepresentsAlone}
 use Rattle.catalogue_statements.specs.Represents.{RepresentsUnits}
-use Rattle.office_tables.proofs.CallEnds.{same_fault, tells_not}
+use Rattle.office_tables.proofs.CallEnds.{same_fault}
+use Rattle.office_tables.proofs.StoreCalls.{tells_not}
 use Rattle.catalogue_statements.proofs.Finding.{finds_first}
 use Rattle.catalogue_store.proofs.catalogue.known.Goals as goal
 
@@ -14,7 +15,7 @@ returns-in_err-found g c =
     let e = c.in_err-found.field-0.0 in
     record {
       tells = tells_not g.S.Store (RepresentsAlone RepresentsUnits) (λ _. ⊤) (λ _. ⊤) c.args.conn.now c.units_from.new.conn c.from_residual.result (λ _ f. Finds (is_from c.args.source.now c.args.legacy.now) f) e
-          (same_fault c.from_residual.result e handed.0 handed.1) c.in_err-found.ensures.reads.cut
+          (same_fault c.from_residual.result e handed.0 handed.1) c.in_err-found.ensures.reads.cut c.in_err-found.ensures.reads.spares
           (λ beside f shown may kept clean free. c.in_err-found.ensures.faults shown.units shown.rows clean free);
     }
 
@@ -29,6 +30,7 @@ returns g c =
             subst (Finds is f) (sym e) (finds_first is f shown.units got.0 shown.are got.1.0);
         looks = c.in_ok-found.ensures.reads.looks;
         cut = tt;
+        spares = λ clean. tt;
         faults = λ beside f shown may kept clean free. tt;
       };
     }

@@ -10,10 +10,12 @@ use Rattle.office_tables.specs.Step.{IsAborted, LeavesUnchanged}
 use Rattle.catalogue_statements.specs.Represents.{Represents}
 use Rattle.catalogue_statements.specs.declared.office.OfficeRow.{OfficeRow}
 use Rattle.catalogue_store.specs.Attaching.{AreMarksOfEach, AreMarksOfContents}
-use Rattle.office_tables.proofs.CallEnds.{excused_then, same_fault, tells_not}
+use Rattle.office_tables.proofs.CallEnds.{excused_then, same_fault}
+use Rattle.office_tables.proofs.StoreCalls.{tells_not}
 use Rattle.office_tables.proofs.Calls.{cut_then, early, looks_then, office_of, on_err_then, on_ok_then}
 use Rattle.office_tables.proofs.Outcomes.{if_ok_by}
 use Rattle.catalogue_store.proofs.MarkCauses.{attached_low}
+use Rattle.office_tables.proofs.Sparing.{last_spares}
 use Rattle.catalogue_store.proofs.container_marks.contents_marks.Goals as goal
 
 pub attached_units-requires-clause-inside : goal.attached_units-requires-clause-inside
@@ -25,7 +27,7 @@ returns-in_err-units g c =
     let e = c.in_err-units.field-0.0 in
     record {
       tells = tells_not g.S.Store (Represents g.P.Places.represents g.P.Places.version) IsKept (λ _. ⊤) c.args.conn.now c.attached_units.new.conn c.from_residual.result (λ _ k found. AreMarksOfContents k c.args.container found.items) e
-          (same_fault c.from_residual.result e handed.0 handed.1) c.in_err-units.ensures.reads.cut
+          (same_fault c.from_residual.result e handed.0 handed.1) c.in_err-units.ensures.reads.cut c.in_err-units.ensures.reads.spares
           (λ o k it may kept clean free. c.in_err-units.ensures.faults k it.catalogue.housings clean free);
     }
 
@@ -51,6 +53,7 @@ returns g c =
             told.looks;
         looks = on_ok_then found (LeavesUnchanged b d) (LeavesUnchanged a d) (looks_then a b d looked) told.looks;
         cut = on_err_then found (IsAborted b d) (IsAborted a d) (cut_then a b d looked.goes.on) told.cut;
+        spares = λ clean. last_spares a b d looked found told.cut clean (told.spares clean);
         faults = λ o k it may kept.
             excused_then a b d looked.goes.on found told.cut (λ before.
             let got = c.in_ok-units.ensures.units before k it.catalogue.units it.catalogue.housings in

@@ -10,9 +10,11 @@ use Rattle.office_tables.specs.declared.fault.StoreFault.TheVariants as fault
 use Rattle.catalogue_statements.specs.Represents.{Represents}
 use Rattle.catalogue_store.specs.Attaching.{AreMarksOfEach}
 use Rattle.catalogue_store.specs.declared.container_marks.Attached.{Attached}
-use Rattle.office_tables.proofs.CallEnds.{same_fault, tells_not, tells_cut}
+use Rattle.office_tables.proofs.CallEnds.{same_fault}
+use Rattle.office_tables.proofs.StoreCalls.{tells_not, tells_cut}
 use Rattle.office_tables.proofs.Calls.{cut_after, early, looks_nowhere, looks_then, office_of}
 use Rattle.catalogue_store.proofs.MarkForests.{each_more}
+use Rattle.office_tables.proofs.Sparing.{spares_full, spares_known}
 use Rattle.catalogue_store.proofs.container_marks.marks_of_each.Goals as goal
 
 pub loop-unit-init : goal.loop-unit-init
@@ -54,7 +56,7 @@ returns-then-unit-ge-NO_NUMBER g c =
     let a = state g.S.Store c.args.conn.now in
     let b = state g.S.Store c.loop-unit.conn in
     record {
-      tells = tells_not g.S.Store (Represents g.P.Places.represents g.P.Places.version) IsKept (λ _. AllByRecursion IsNumber c.args.units.now) c.args.conn.now c.loop-unit.conn _ (λ _ k found. AreMarksOfEach k.forest c.args.units.now found.items) fault.Schema refl (cut_after a b c.loop-unit.invariant.looks.goes.on)
+      tells = tells_not g.S.Store (Represents g.P.Places.represents g.P.Places.version) IsKept (λ _. AllByRecursion IsNumber c.args.units.now) c.args.conn.now c.loop-unit.conn _ (λ _ k found. AreMarksOfEach k.forest c.args.units.now found.items) fault.Schema refl (cut_after a b c.loop-unit.invariant.looks.goes.on) (spares_known a b c.loop-unit.invariant.looks)
           (λ o k it low kept clean free.
           let small : get_or c.args.units.now c.loop-unit.unit-index 0 < 2 ^ 63 = all-get_or IsNumber c.args.units.now c.loop-unit.unit-index 0 low c.loop-unit-test.true in
           absurd (omega (arith, small, c.if-unit-ge-NO_NUMBER.true)));
@@ -67,7 +69,7 @@ returns-in_err-path g c =
     let looked = c.loop-unit.invariant.looks in
     record {
       tells = tells_cut g.S.Store (Represents g.P.Places.represents g.P.Places.version) IsKept (λ _. AllByRecursion IsNumber c.args.units.now) c.args.conn.now c.loop-unit.conn c.marks_on_path.new.conn c.from_residual.result (λ _ k found. AreMarksOfEach k.forest c.args.units.now found.items) e
-          (same_fault c.from_residual.result e handed.0 handed.1) looked c.in_err-path.ensures.tells.cut
+          (same_fault c.from_residual.result e handed.0 handed.1) looked c.in_err-path.ensures.tells.cut c.in_err-path.ensures.tells.spares
           (λ o k it low kept at_b clean free. c.in_err-path.ensures.tells.faults o k (subst (λ (db : Database). Represents g.P.Places.represents g.P.Places.version db o k) (sym (looked.same at_b)) it) tt kept clean free);
     }
 
@@ -81,7 +83,7 @@ returns-in_err-branch g c =
     let looked = looks_then a b d c.loop-unit.invariant.looks c.in_ok-path.ensures.tells.looks in
     record {
       tells = tells_cut g.S.Store (Represents g.P.Places.represents g.P.Places.version) IsKept (λ _. AllByRecursion IsNumber c.args.units.now) c.args.conn.now c.marks_on_path.new.conn c.marks_in_branch.new.conn c.from_residual-in_err-branch.result (λ _ k found. AreMarksOfEach k.forest c.args.units.now found.items) e
-          (same_fault c.from_residual-in_err-branch.result e handed.0 handed.1) looked c.in_err-branch.ensures.tells.cut
+          (same_fault c.from_residual-in_err-branch.result e handed.0 handed.1) looked c.in_err-branch.ensures.tells.cut c.in_err-branch.ensures.tells.spares
           (λ o k it low kept at_d clean free. c.in_err-branch.ensures.tells.faults o k (subst (λ (db : Database). Represents g.P.Places.represents g.P.Places.version db o k) (sym (looked.same at_d)) it) tt kept clean free);
     }
 
@@ -95,7 +97,7 @@ returns-in_err-push g c =
     let looked = looks_then a d e (looks_then a b d c.loop-unit.invariant.looks c.in_ok-path.ensures.tells.looks) c.in_ok-branch.ensures.tells.looks in
     record {
       tells = tells_not g.S.Store (Represents g.P.Places.represents g.P.Places.version) IsKept (λ _. AllByRecursion IsNumber c.args.units.now) c.args.conn.now c.marks_in_branch.new.conn c.from_residual-in_err-push.result (λ _ k found. AreMarksOfEach k.forest c.args.units.now found.items) fault.Memory
-          (same_fault c.from_residual-in_err-push.result fault.Memory handed.0 handed.1) (cut_after a e looked.goes.on) (λ o k it low kept clean free. tt);
+          (same_fault c.from_residual-in_err-push.result fault.Memory handed.0 handed.1) (cut_after a e looked.goes.on) (spares_full a e looked) (λ o k it low kept clean free. tt);
     }
 
 pub returns : goal.returns
@@ -107,6 +109,7 @@ returns g c =
             (c.loop-unit.invariant.so_far clean o k it);
         looks = c.loop-unit.invariant.looks;
         cut = tt;
+        spares = λ clean. tt;
         faults = λ o k it low kept clean free. tt;
       };
     }

@@ -11,13 +11,15 @@ use Rattle.office_tables.specs.Step.{Goes, HasRows, IsAborted, OnlyTouches}
 use Rattle.catalogue_statements.specs.Added.{unit_of}
 use Rattle.catalogue_statements.specs.Rows.{ElementRow, HousingRow, office_row}
 use Rattle.catalogue_statements.specs.Represents.{RepresentsNumbered, catalogue_trees}
-use Rattle.office_tables.proofs.CallEnds.{excused_then, makes_not, same_fault, makes_cut}
+use Rattle.office_tables.proofs.CallEnds.{excused_then, same_fault}
+use Rattle.office_tables.proofs.StoreCalls.{makes_not, makes_cut}
 use Rattle.office_tables.proofs.Calls.{cut_then, early, goes_then, office_of, on_err_then, on_ok_then, still_office}
 use Rattle.office_tables.proofs.Outcomes.{on_ok_by}
 use Rattle.office_tables.proofs.Touching.{touched_then, touched_wider}
 use Rattle.catalogue_statements.proofs.NewUnits.{no_unit, shows_added}
 use Rattle.catalogue_statements.proofs.Untold.{none_yet, unit_added}
 use Rattle.catalogue_store.proofs.Telling.{elements_shown, housed_shown, same_described, same_elements, same_housed}
+use Rattle.office_tables.proofs.Sparing.{last_touched, untouched_last, wider_spares}
 use Rattle.catalogue_store.proofs.descriptions.add_unit.Goals as goal
 
 pub insert_unit-requires-clause-inside : goal.insert_unit-requires-clause-inside
@@ -45,7 +47,7 @@ returns-in_err-insert_unit g c =
     let e = c.in_err-insert_unit.field-0.0 in
     record {
       makes = makes_not g.S.Store (RepresentsNumbered g.P.Places.represents g.P.Places.version) (λ k. IsKept k × IsNew (unit_of c.args.unit.now) k) (HasPlaceFor c.args.parent) c.args.conn.now c.insert_unit.new.conn c.from_residual.result (with_numbered c.args.parent (unit_of c.args.unit.now)) catalogue_trees e
-          (same_fault c.from_residual.result e handed.0 handed.1) c.in_err-insert_unit.ensures.leaves.cut
+          (same_fault c.from_residual.result e handed.0 handed.1) c.in_err-insert_unit.ensures.leaves.cut c.in_err-insert_unit.ensures.leaves.spares
           (λ o k it may kept clean free.
           let at = it.catalogue.units in
           c.in_err-insert_unit.ensures.faults at.units at.rows (sym (list_any-IsPermutation (has_id u.id) (nodes k.forest) at.units at.are) ∙ kept.1.number)
@@ -61,7 +63,9 @@ returns-in_err-add g c =
     let e = c.in_err-add.field-0.0 in
     record {
       makes = makes_cut g.S.Store (RepresentsNumbered g.P.Places.represents g.P.Places.version) (λ k. IsKept k × IsNew (unit_of c.args.unit.now) k) (HasPlaceFor c.args.parent) c.args.conn.now c.insert_unit.new.conn c.add.new.conn c.from_residual-in_err-add.result (with_numbered c.args.parent (unit_of c.args.unit.now)) catalogue_trees e
-          (same_fault c.from_residual-in_err-add.result e handed.0 handed.1) c.in_ok-insert_unit.ensures.leaves.goes.on c.in_err-add.ensures.makes.cut
+          (same_fault c.from_residual-in_err-add.result e handed.0 handed.1) c.in_ok-insert_unit.ensures.leaves.goes.on
+          (λ at_b. touched_wider (tables.unit.tree ∷ []) catalogue_trees a.now b.now refl (c.in_ok-insert_unit.ensures.puts at_b).only) c.in_err-add.ensures.makes.cut
+          (λ clean. wider_spares (tables.link.tree ∷ []) catalogue_trees b (state g.S.Store c.add.new.conn) e refl (c.in_err-add.ensures.makes.spares clean))
           (λ o k it may kept at_b clean free.
           let ids = each (λ (x : Unit). x.id) k.forest in
           let only = (c.in_ok-insert_unit.ensures.puts at_b).only in
@@ -81,7 +85,11 @@ returns-in_err-describe g c =
     let went = goes_then a b d c.in_ok-insert_unit.ensures.leaves.goes c.in_ok-add.ensures.makes.goes in
     record {
       makes = makes_cut g.S.Store (RepresentsNumbered g.P.Places.represents g.P.Places.version) (λ k. IsKept k × IsNew (unit_of c.args.unit.now) k) (HasPlaceFor c.args.parent) c.args.conn.now c.add.new.conn c.describe.new.conn c.from_residual-in_err-describe.result (with_numbered c.args.parent (unit_of c.args.unit.now)) catalogue_trees e
-          (same_fault c.from_residual-in_err-describe.result e handed.0 handed.1) went.on c.in_err-describe.ensures.cut
+          (same_fault c.from_residual-in_err-describe.result e handed.0 handed.1) went.on
+          (λ at_d. touched_wider (tables.unit.tree ∷ tables.link.tree ∷ []) catalogue_trees a.now d.now refl
+          (touched_then (tables.unit.tree ∷ []) (tables.link.tree ∷ []) a.now b.now d.now (c.in_ok-insert_unit.ensures.puts (early b d _ c.in_ok-add.ensures.makes.goes.on.crash at_d)).only (c.in_ok-add.ensures.makes.only at_d)))
+          c.in_err-describe.ensures.cut
+          (λ clean. wider_spares (tables.element.tree ∷ tables.container.tree ∷ tables.housing.tree ∷ []) catalogue_trees d (state g.S.Store c.describe.new.conn) e refl (c.in_err-describe.ensures.spares clean))
           (λ o k it may kept at_d clean free.
           let v = g.P.Places.version in
           let shown = record o { next_unit = k.next } in
@@ -173,6 +181,16 @@ returns g c =
             numbered.leaves.goes;
         goes = on_ok_then r (Goes e h) (Goes a h) (goes_then a e h went) numbered.leaves.goes;
         cut = on_err_then r (IsAborted e h) (IsAborted a h) (cut_then a e h went.on) numbered.leaves.cut;
+        spares = λ clean. last_touched catalogue_trees a e h went.on
+            (λ at_e.
+            let unit = tables.unit.tree ∷ [] in
+            let link = tables.link.tree ∷ [] in
+            let told = tables.element.tree ∷ tables.container.tree ∷ tables.housing.tree ∷ [] in
+            let at_d = early d e _ described.goes.on.crash at_e in
+            let at_b = early b d _ added.goes.on.crash at_d in
+            let two = touched_then unit link a.now b.now d.now (c.in_ok-insert_unit.ensures.puts at_b).only (added.only at_d) in
+            touched_wider (tables.unit.tree ∷ tables.link.tree ∷ told) catalogue_trees a.now e.now refl (touched_then (tables.unit.tree ∷ link) told a.now d.now e.now two (described.only at_e)))
+            r numbered.leaves.cut clean (untouched_last catalogue_trees e h r (numbered.leaves.spares clean));
         faults = λ o k it may kept. excused_then a e h went.on r numbered.leaves.cut (λ at_e.
             let before = record o { next_unit = k.next } in
             let at_d = early d e _ described.goes.on.crash at_e in

@@ -7,9 +7,10 @@ use Rattle.office_tables.specs.Numbered.{HoldsNumbered}
 use Rattle.office_tables.specs.Step.{Goes, OnlyTouches}
 use Rattle.office_tables.proofs.Calls.{early, on_ok_both, on_ok_then}
 use Rattle.office_tables.proofs.Outcomes.{on_ok_by}
-use Rattle.office_tables.proofs.CallEnds.{leaves_last}
-use Rattle.office_tables.proofs.Touching.{touched_then}
+use Rattle.office_tables.proofs.CallEnds.{leaves_last, leaves_part, left_by, same_fault}
+use Rattle.office_tables.proofs.Touching.{touched_then, touched_wider}
 use Rattle.catalogue_store.proofs.Telling.{same_elements, same_housed}
+use Rattle.office_tables.proofs.Sparing.{untouched}
 use Rattle.catalogue_store.proofs.descriptions.clear.Goals as goal
 
 pub returns-clause-leaves : goal.returns-clause-leaves
@@ -17,7 +18,19 @@ returns-clause-leaves g c =
     let a = state g.S.Store c.args.conn.now in
     let b = state g.S.Store c.clear_elements.new.conn in
     let d = state g.S.Store c.clear_housings.new.conn in
-    leaves_last a b d c.clear_housings.result c.in_ok-clear_elements.ensures.leaves.goes c.clear_housings.ensures.leaves
+    let gone = tables.element.tree ∷ tables.housing.tree ∷ [] in
+    leaves_last gone a b d c.clear_housings.result c.in_ok-clear_elements.ensures.leaves.goes
+    (λ before. touched_wider (tables.element.tree ∷ []) gone a.now b.now refl (c.in_ok-clear_elements.ensures.only before)) (leaves_part gone b d c.clear_housings.result c.clear_housings.ensures.leaves)
+
+pub returns-in_err-clear_elements-clause-leaves : goal.returns-in_err-clear_elements-clause-leaves
+returns-in_err-clear_elements-clause-leaves g c =
+    let a = state g.S.Store c.args.conn.now in
+    let b = state g.S.Store c.clear_elements.new.conn in
+    let e = c.in_err-clear_elements.field-0.0 in
+    let handed = c.from_residual.ensures in
+    let left = c.in_err-clear_elements.ensures.leaves in
+    let gone = tables.element.tree ∷ tables.housing.tree ∷ [] in
+    left_by gone a b c.from_residual.result e (same_fault c.from_residual.result e handed.0 handed.1) left.cut (λ clean. untouched gone a b e (left.spares clean))
 
 pub returns-clause-only : goal.returns-clause-only
 returns-clause-only g c clean =

@@ -5,13 +5,15 @@ use Rattle.catalogue_statements.specs.Adding.{AreHoused, IsDescribed, WithHousin
 use Rattle.catalogue_core.specs.Describing.{with_boxes}
 use Rattle.catalogue_statements.specs.Rows.{HousingRow}
 use Rattle.catalogue_statements.specs.Represents.{housing_cells}
-use Rattle.office_tables.specs.Step.{Goes, OnlyTouches}
+use Rattle.office_tables.specs.Step.{Goes, OnlyTouches, Spares}
 use Rattle.office_tables.proofs.Calls.{early, on_ok_both}
 use Rattle.office_tables.proofs.Outcomes.{on_ok_by}
 use Rattle.office_tables.proofs.Causes.{still_unlimited}
 use Rattle.office_tables.proofs.LaterCauses.{last_cause}
 use Rattle.catalogue_statements.proofs.Untold.{unit_still}
 use Rattle.catalogue_store.proofs.Telling.{same_elements, same_housed}
+use Rattle.office_tables.proofs.Sparing.{wider_spares, wider_last, last_touched}
+use Rattle.office_tables.proofs.Touching.{touched_wider}
 use Rattle.catalogue_store.proofs.descriptions.describe.Goals as goal
 
 pub returns-clause-tells : goal.returns-clause-tells
@@ -56,3 +58,20 @@ returns-clause-faults g c known whole boxes xs hs texts housed small none other 
     let unit_there = unit_still a.now.trees b.now.trees c.args.unit (kept tables.unit.tree refl refl) known in
     let here = same_housed a.now.trees b.now.trees boxes hs (kept tables.container.tree refl refl) (kept tables.housing.tree refl refl) housed in
     c.insert_housings.ensures.faults unit_there boxes hs here small whole.once other clean (still_unlimited a b went.on free))
+
+pub returns-in_err-insert_texts-clause-spares : goal.returns-in_err-insert_texts-clause-spares
+returns-in_err-insert_texts-clause-spares g c clean =
+    let a = state g.S.Store c.args.conn.now in
+    let b = state g.S.Store c.insert_texts.new.conn in
+    let told = tables.element.tree ∷ tables.container.tree ∷ tables.housing.tree ∷ [] in
+    let all : Spares (OnlyTouches told) a b c.in_err-insert_texts.field-0.0 = wider_spares (tables.element.tree ∷ []) told a b _ refl (c.in_err-insert_texts.ensures.spares clean) in
+    search (rules, all)
+
+pub returns-clause-spares : goal.returns-clause-spares
+returns-clause-spares g c clean =
+    let a = state g.S.Store c.args.conn.now in
+    let b = state g.S.Store c.insert_texts.new.conn in
+    let d = state g.S.Store c.insert_housings.new.conn in
+    let told = tables.element.tree ∷ tables.container.tree ∷ tables.housing.tree ∷ [] in
+    last_touched told a b d c.in_ok-insert_texts.ensures.goes.on (λ before. touched_wider (tables.element.tree ∷ []) told a.now b.now refl (c.in_ok-insert_texts.ensures.only before))
+    c.insert_housings.result c.insert_housings.ensures.cut clean (wider_last (tables.container.tree ∷ tables.housing.tree ∷ []) told b d c.insert_housings.result refl (c.insert_housings.ensures.spares clean))

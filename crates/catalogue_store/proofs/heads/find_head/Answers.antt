@@ -14,7 +14,8 @@ use Rattle.catalogue_statements.specs.Rows.{element_row}
 use Rattle.catalogue_statements.specs.Represents.{Represents, element_cells, elements_of}
 use Rattle.catalogue_statements.specs.Standings.{standing_of}
 use Rattle.catalogue_store.specs.Heads.{head_of}
-use Rattle.office_tables.proofs.CallEnds.{same_fault, tells_not, tells_cut}
+use Rattle.office_tables.proofs.CallEnds.{same_fault}
+use Rattle.office_tables.proofs.StoreCalls.{tells_not, tells_cut}
 use Rattle.office_tables.proofs.Calls.{early, goes_then, looks_then, office_of, still_office}
 use Rattle.office_tables.proofs.numbered.OwnNumbers.{still_numbered}
 use Rattle.catalogue_statements.proofs.FoundUnits.{none_found, one_told}
@@ -33,7 +34,7 @@ returns-in_err-found g c =
     let e = c.in_err-found.field-0.0 in
     record {
       tells = tells_not g.S.Store (Represents g.P.Places.represents g.P.Places.version) IsKept (λ _. ⊤) c.args.conn.now c.standings_of.new.conn c.from_residual.result (λ _ k head. head ≡ option_map head_of (find (has_id c.args.unit) (nodes k.forest))) e
-          (same_fault c.from_residual.result e handed.0 handed.1) c.in_err-found.ensures.reads.cut
+          (same_fault c.from_residual.result e handed.0 handed.1) c.in_err-found.ensures.reads.cut c.in_err-found.ensures.reads.spares
           (λ o k it may kept clean free. let at = it.catalogue.units in c.in_err-found.ensures.faults at.units at.rows (legible_units a.now.trees k at kept) clean free);
     }
 
@@ -50,6 +51,7 @@ returns-in_default g c =
             sym (ap (option_map head_of) (none_found a.now.trees k.forest at c.args.unit rows (IsPermutation-refl rows) few));
         looks = c.in_ok-found.ensures.reads.looks;
         cut = tt;
+        spares = λ clean. tt;
         faults = λ o k it may kept clean free. tt;
       };
     }
@@ -68,7 +70,7 @@ returns-in_err-identifier g c =
     let looked = c.in_ok-found.ensures.reads.looks in
     record {
       tells = tells_cut g.S.Store (Represents g.P.Places.represents g.P.Places.version) IsKept (λ _. ⊤) c.args.conn.now c.standings_of.new.conn c.text_of.new.conn c.from_residual-in_err-identifier.result (λ _ k head. head ≡ option_map head_of (find (has_id c.args.unit) (nodes k.forest))) e
-          (same_fault c.from_residual-in_err-identifier.result e handed.0 handed.1) looked c.in_err-identifier.ensures.reads.cut
+          (same_fault c.from_residual-in_err-identifier.result e handed.0 handed.1) looked c.in_err-identifier.ensures.reads.cut c.in_err-identifier.ensures.reads.spares
           (λ o k it may kept at_b clean free.
           let at = it.catalogue.elements in
           c.in_err-identifier.ensures.faults at.elements (still_numbered element_row _ _ at.elements (ap (λ (db : Database). db.trees tables.element.tree) (looked.same at_b)) at.rows) (legible_elements a.now.trees k.forest at kept.units) clean free);
@@ -91,7 +93,7 @@ returns-in_err-title g c =
     let looked = looks_then a b d c.in_ok-found.ensures.reads.looks c.in_ok-identifier.ensures.reads.looks in
     record {
       tells = tells_cut g.S.Store (Represents g.P.Places.represents g.P.Places.version) IsKept (λ _. ⊤) c.args.conn.now c.text_of.new.conn c.text_of-2.new.conn c.from_residual-in_err-title.result (λ _ k head. head ≡ option_map head_of (find (has_id c.args.unit) (nodes k.forest))) e
-          (same_fault c.from_residual-in_err-title.result e handed.0 handed.1) looked c.in_err-title.ensures.reads.cut
+          (same_fault c.from_residual-in_err-title.result e handed.0 handed.1) looked c.in_err-title.ensures.reads.cut c.in_err-title.ensures.reads.spares
           (λ o k it may kept at_d clean free.
           let at = it.catalogue.elements in
           c.in_err-title.ensures.faults at.elements (still_numbered element_row _ _ at.elements (ap (λ (db : Database). db.trees tables.element.tree) (looked.same at_d)) at.rows) (legible_elements a.now.trees k.forest at kept.units) clean free);
@@ -123,6 +125,7 @@ returns g c =
             head_told k.forest c.args.unit u c.in-Some.standing c.in_ok-identifier.identifier c.in_ok-title.title found.2 found.3 found.4 identifier title;
         looks = looks_then a d e looked_d c.in_ok-title.ensures.reads.looks;
         cut = tt;
+        spares = λ clean. tt;
         faults = λ o k it may kept clean free. tt;
       };
     }

@@ -10,10 +10,12 @@ use Rattle.catalogue_core.specs.Finding.{has_unit}
 use Rattle.office_tables.specs.declared.fault.StoreFault.TheVariants as fault
 use Rattle.catalogue_statements.specs.Represents.{Represents}
 use Rattle.catalogue_store.specs.Heads.{head_at}
-use Rattle.office_tables.proofs.CallEnds.{same_fault, tells_not, tells_cut}
+use Rattle.office_tables.proofs.CallEnds.{same_fault}
+use Rattle.office_tables.proofs.StoreCalls.{tells_not, tells_cut}
 use Rattle.office_tables.proofs.Calls.{cut_after, early, looks_nowhere, looks_then, office_of}
 use Rattle.catalogue_store.proofs.UnitsThere.{no_unit}
 use Rattle.catalogue_store.proofs.HeadForests.{some_head}
+use Rattle.office_tables.proofs.Sparing.{spares_full, spares_known}
 use Rattle.catalogue_store.proofs.heads.heads_of.Goals as goal
 
 pub loop-unit-init : goal.loop-unit-init
@@ -45,7 +47,7 @@ returns-then-unit-ge-NO_NUMBER g c =
     let a = state g.S.Store c.args.conn.now in
     let b = state g.S.Store c.loop-unit.conn in
     record {
-      tells = tells_not g.S.Store (Represents g.P.Places.represents g.P.Places.version) IsKept (λ k. AllByRecursion (λ unit. has_unit k.forest unit ≡ true) c.args.units.now) c.args.conn.now c.loop-unit.conn _ (λ _ k heads. map Some heads.items ≡ map (head_at k.forest) c.args.units.now) fault.Schema refl (cut_after a b c.loop-unit.invariant.looks.goes.on)
+      tells = tells_not g.S.Store (Represents g.P.Places.represents g.P.Places.version) IsKept (λ k. AllByRecursion (λ unit. has_unit k.forest unit ≡ true) c.args.units.now) c.args.conn.now c.loop-unit.conn _ (λ _ k heads. map Some heads.items ≡ map (head_at k.forest) c.args.units.now) fault.Schema refl (cut_after a b c.loop-unit.invariant.looks.goes.on) (spares_known a b c.loop-unit.invariant.looks)
           (λ o k it there kept clean free.
           let here = all-get_or (λ unit. has_unit k.forest unit ≡ true) c.args.units.now c.loop-unit.unit-index 0 there c.loop-unit-test.true in
           absurd (false≢true (no_unit k (get_or c.args.units.now c.loop-unit.unit-index 0) c.if-unit-ge-NO_NUMBER.true kept ∙ here)));
@@ -58,7 +60,7 @@ returns-in_err-found g c =
     let looked = c.loop-unit.invariant.looks in
     record {
       tells = tells_cut g.S.Store (Represents g.P.Places.represents g.P.Places.version) IsKept (λ k. AllByRecursion (λ unit. has_unit k.forest unit ≡ true) c.args.units.now) c.args.conn.now c.loop-unit.conn c.find_head.new.conn c.from_residual.result (λ _ k heads. map Some heads.items ≡ map (head_at k.forest) c.args.units.now) e
-          (same_fault c.from_residual.result e handed.0 handed.1) looked c.in_err-found.ensures.tells.cut
+          (same_fault c.from_residual.result e handed.0 handed.1) looked c.in_err-found.ensures.tells.cut c.in_err-found.ensures.tells.spares
           (λ o k it there kept at_b clean free. c.in_err-found.ensures.tells.faults o k (subst (λ (db : Database). Represents g.P.Places.represents g.P.Places.version db o k) (sym (looked.same at_b)) it) tt kept clean free);
     }
 
@@ -69,7 +71,7 @@ returns-in_default g c =
     let d = state g.S.Store c.find_head.new.conn in
     let looked = looks_then a b d c.loop-unit.invariant.looks c.in_ok-found.ensures.tells.looks in
     record {
-      tells = tells_not g.S.Store (Represents g.P.Places.represents g.P.Places.version) IsKept (λ k. AllByRecursion (λ unit. has_unit k.forest unit ≡ true) c.args.units.now) c.args.conn.now c.find_head.new.conn _ (λ _ k heads. map Some heads.items ≡ map (head_at k.forest) c.args.units.now) fault.Schema refl (cut_after a d looked.goes.on)
+      tells = tells_not g.S.Store (Represents g.P.Places.represents g.P.Places.version) IsKept (λ k. AllByRecursion (λ unit. has_unit k.forest unit ≡ true) c.args.units.now) c.args.conn.now c.find_head.new.conn _ (λ _ k heads. map Some heads.items ≡ map (head_at k.forest) c.args.units.now) fault.Schema refl (cut_after a d looked.goes.on) (spares_known a d looked)
           (λ o k it there kept clean free.
           let here = all-get_or (λ unit. has_unit k.forest unit ≡ true) c.args.units.now c.loop-unit.unit-index 0 there c.loop-unit-test.true in
           let at_b = early b d _ c.in_ok-found.ensures.tells.looks.goes.on.crash clean in
@@ -86,7 +88,7 @@ returns-in_err-push g c =
     let looked = looks_then a b d c.loop-unit.invariant.looks c.in_ok-found.ensures.tells.looks in
     record {
       tells = tells_not g.S.Store (Represents g.P.Places.represents g.P.Places.version) IsKept (λ k. AllByRecursion (λ unit. has_unit k.forest unit ≡ true) c.args.units.now) c.args.conn.now c.find_head.new.conn c.from_residual-in_err-push.result (λ _ k heads. map Some heads.items ≡ map (head_at k.forest) c.args.units.now) fault.Memory
-          (same_fault c.from_residual-in_err-push.result fault.Memory handed.0 handed.1) (cut_after a d looked.goes.on) (λ o k it there kept clean free. tt);
+          (same_fault c.from_residual-in_err-push.result fault.Memory handed.0 handed.1) (cut_after a d looked.goes.on) (spares_full a d looked) (λ o k it there kept clean free. tt);
     }
 
 pub returns : goal.returns
@@ -96,6 +98,7 @@ returns g c =
         answers = λ clean o k it. c.loop-unit.invariant.so_far clean o k it ∙ ap (map (head_at k.forest)) (take_all c.loop-unit.unit-index c.args.units.now (omega (arith, c.loop-unit-test.false)));
         looks = c.loop-unit.invariant.looks;
         cut = tt;
+        spares = λ clean. tt;
         faults = λ o k it there kept clean free. tt;
       };
     }

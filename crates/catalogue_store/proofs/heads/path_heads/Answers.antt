@@ -8,7 +8,8 @@ use Rattle.catalogue_core.specs.Bounds.{IsKept}
 use Rattle.catalogue_core.specs.Finding.{has_unit}
 use Rattle.catalogue_core.specs.Units.{Unit, has_id}
 use Rattle.office_tables.specs.Step.{IsAborted, LeavesUnchanged}
-use Rattle.office_tables.proofs.CallEnds.{excused_then, same_fault, tells_not}
+use Rattle.office_tables.proofs.CallEnds.{excused_then, same_fault}
+use Rattle.office_tables.proofs.StoreCalls.{tells_not}
 use Rattle.office_tables.proofs.Calls.{early, cut_then, looks_then, on_err_then, on_ok_then}
 use Rattle.office_tables.proofs.Outcomes.{if_ok_by}
 use Rattle.std.proofs.lemmas.Result.{IfOk-weaker}
@@ -16,6 +17,7 @@ use Rattle.catalogue_statements.specs.Represents.{Represents}
 use Rattle.catalogue_store.specs.Heads.{head_of}
 use Rattle.catalogue_store.proofs.HeadForests.{all_there, heads_are}
 use Rattle.catalogue_store.proofs.MarkForests.{path_in, path_ids}
+use Rattle.office_tables.proofs.Sparing.{last_spares}
 use Rattle.catalogue_store.proofs.heads.path_heads.Goals as goal
 
 pub returns-in_err-units : goal.returns-in_err-units
@@ -24,7 +26,7 @@ returns-in_err-units g c =
     let why = c.in_err-units.ensures.tells in
     record {
       tells = tells_not g.S.Store (Represents g.P.Places.represents g.P.Places.version) IsKept (λ _. ⊤) c.args.conn.now c.path.new.conn c.from_residual.result (λ _ k heads. heads.items ≡ map head_of (path (has_id c.args.unit) k.forest)) c.in_err-units.field-0.0
-          (same_fault c.from_residual.result c.in_err-units.field-0.0 e.0 e.1) why.cut (λ o k it may kept. why.faults tt (each (λ (u : Unit). u.id) k.forest) it.shown tt kept.places);
+          (same_fault c.from_residual.result c.in_err-units.field-0.0 e.0 e.1) why.cut why.spares (λ o k it may kept. why.faults tt (each (λ (u : Unit). u.id) k.forest) it.shown tt kept.places);
     }
 
 pub returns : goal.returns
@@ -50,6 +52,7 @@ returns g c =
             last.looks;
         looks = on_ok_then c.heads_of.result (LeavesUnchanged b d) (LeavesUnchanged a d) (looks_then a b d looked) last.looks;
         cut = on_err_then c.heads_of.result (IsAborted b d) (IsAborted a d) (cut_then a b d looked.goes.on) last.cut;
+        spares = λ clean. last_spares a b d looked c.heads_of.result last.cut clean (last.spares clean);
         faults = λ o k it may kept. excused_then a b d looked.goes.on c.heads_of.result last.cut
             (λ before.
             let shown = subst (λ (db : Database). Represents g.P.Places.represents g.P.Places.version db o k) (sym (looked.same before)) it in

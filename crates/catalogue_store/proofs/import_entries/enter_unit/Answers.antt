@@ -11,7 +11,8 @@ use Rattle.catalogue_statements.specs.Added.{unit_of}
 use Rattle.catalogue_statements.specs.Adding.{IsDescribed}
 use Rattle.catalogue_statements.specs.Rows.{ElementRow, HousingRow}
 use Rattle.catalogue_statements.specs.Represents.{RepresentsCatalogue, described_trees}
-use Rattle.office_tables.proofs.CallEnds.{excused_then, makes_not, same_fault}
+use Rattle.office_tables.proofs.CallEnds.{excused_then, same_fault}
+use Rattle.office_tables.proofs.StoreCalls.{makes_not}
 use Rattle.office_tables.proofs.Calls.{cut_then, early, goes_then, on_err_then, on_ok_both, on_ok_then, still_office}
 use Rattle.office_tables.proofs.Outcomes.{on_ok_by}
 use Rattle.office_tables.proofs.Touching.{touched_then, touched_wider}
@@ -19,6 +20,7 @@ use Rattle.catalogue_statements.proofs.Untold.{none_yet, unit_added}
 use Rattle.catalogue_store.specs.Entering.{with_entered}
 use Rattle.catalogue_store.proofs.Entered.{shows_entered}
 use Rattle.catalogue_store.proofs.Telling.{elements_shown, housed_shown, same_elements, same_housed}
+use Rattle.office_tables.proofs.Sparing.{last_touched, wider_last}
 use Rattle.catalogue_store.proofs.import_entries.enter_unit.Goals as goal
 
 pub describe-requires-clause-inside : goal.describe-requires-clause-inside
@@ -31,7 +33,7 @@ returns-in_err-insert_unit g c =
     let e = c.in_err-insert_unit.field-0.0 in
     record {
       makes = λ v parent. makes_not g.S.Store (RepresentsCatalogue v) (λ k. IsKept k × IsNew u k) (HasPlaceFor parent) c.args.conn.now c.insert_unit.new.conn c.from_residual.result (with_entered parent u) described_trees e
-          (same_fault c.from_residual.result e handed.0 handed.1) c.in_err-insert_unit.ensures.leaves.cut
+          (same_fault c.from_residual.result e handed.0 handed.1) c.in_err-insert_unit.ensures.leaves.cut c.in_err-insert_unit.ensures.leaves.spares
           (λ o k it may kept clean free.
           let at = it.units in
           c.in_err-insert_unit.ensures.faults at.units at.rows (sym (list_any-IsPermutation (has_id u.id) (nodes k.forest) at.units at.are) ∙ kept.1.number)
@@ -81,6 +83,8 @@ returns g c =
             c.describe.ensures.goes;
         goes = on_ok_then r (Goes b d) (Goes a d) (goes_then a b d first) c.describe.ensures.goes;
         cut = on_err_then r (IsAborted b d) (IsAborted a d) (cut_then a b d first.on) c.describe.ensures.cut;
+        spares = λ clean. last_touched described_trees a b d first.on (λ at_b. touched_wider (tables.unit.tree ∷ []) described_trees a.now b.now refl (c.in_ok-insert_unit.ensures.puts at_b).only) r c.describe.ensures.cut clean
+            (wider_last told described_trees b d r refl (c.describe.ensures.spares clean));
         faults = λ o k it may kept. excused_then a b d first.on r c.describe.ensures.cut (λ at_b.
             let xs = it.elements.elements in
             let hs = it.housings.housings in

@@ -11,13 +11,15 @@ use Rattle.office_tables.specs.Step.{Goes, IsAborted, OnlyTouches}
 use Rattle.catalogue_statements.specs.Adding.{IsDescribed}
 use Rattle.catalogue_statements.specs.Rows.{ElementRow, HousingRow}
 use Rattle.catalogue_statements.specs.Represents.{RepresentsCatalogue, described_trees}
-use Rattle.office_tables.proofs.CallEnds.{excused_then, makes_not, same_fault, makes_cut}
+use Rattle.office_tables.proofs.CallEnds.{excused_then, same_fault}
+use Rattle.office_tables.proofs.StoreCalls.{makes_not, makes_cut}
 use Rattle.office_tables.proofs.Calls.{cut_then, early, goes_then, on_err_then, on_ok_both, on_ok_then, still_office}
 use Rattle.office_tables.proofs.Outcomes.{on_ok_by}
 use Rattle.office_tables.proofs.Touching.{touched_then, touched_wider}
 use Rattle.catalogue_statements.proofs.Untold.{none_left, unit_valued}
 use Rattle.catalogue_store.proofs.Telling.{elements_shown, housed_shown, same_elements, same_housed}
 use Rattle.catalogue_store.proofs.Valued.{shows_valued}
+use Rattle.office_tables.proofs.Sparing.{last_touched, wider_last, wider_spares}
 use Rattle.catalogue_store.proofs.import_entries.enter_values.Goals as goal
 
 pub set_level-requires-clause-inside : goal.set_level-requires-clause-inside
@@ -42,7 +44,7 @@ returns-in_err-set_level g c =
     let e = c.in_err-set_level.field-0.0 in
     record {
       makes = λ v. makes_not g.S.Store (RepresentsCatalogue v) (λ k. IsKept k × AreWhole c.args.values.now) (MayDescribe c.args.unit) c.args.conn.now c.set_level.new.conn c.from_residual.result (with_values c.args.unit c.args.values.now) described_trees e
-          (same_fault c.from_residual.result e handed.0 handed.1) c.in_err-set_level.ensures.leaves.cut
+          (same_fault c.from_residual.result e handed.0 handed.1) c.in_err-set_level.ensures.leaves.cut c.in_err-set_level.ensures.leaves.spares
           (λ o k it may kept clean free. let at = it.units in c.in_err-set_level.ensures.faults at.units at.rows at.rise clean free);
     }
 
@@ -54,7 +56,9 @@ returns-in_err-clear g c =
     let e = c.in_err-clear.field-0.0 in
     record {
       makes = λ v. makes_cut g.S.Store (RepresentsCatalogue v) (λ k. IsKept k × AreWhole c.args.values.now) (MayDescribe c.args.unit) c.args.conn.now c.set_level.new.conn c.clear.new.conn c.from_residual-in_err-clear.result (with_values c.args.unit c.args.values.now) described_trees e
-          (same_fault c.from_residual-in_err-clear.result e handed.0 handed.1) c.in_ok-set_level.ensures.leaves.goes.on c.in_err-clear.ensures.leaves.cut
+          (same_fault c.from_residual-in_err-clear.result e handed.0 handed.1) c.in_ok-set_level.ensures.leaves.goes.on
+          (λ at_b. touched_wider (tables.unit.tree ∷ []) described_trees a.now b.now refl (c.in_ok-set_level.ensures.only at_b)) c.in_err-clear.ensures.leaves.cut
+          (λ clean. wider_spares (tables.element.tree ∷ tables.housing.tree ∷ []) described_trees b (state g.S.Store c.clear.new.conn) e refl (c.in_err-clear.ensures.leaves.spares clean))
           (λ o k it may kept at_b clean free.
           let at = it in
           let xs = at.elements.elements in
@@ -122,6 +126,10 @@ returns g c =
             c.describe.ensures.goes;
         goes = on_ok_then r (Goes d e) (Goes a e) (goes_then a d e went) c.describe.ensures.goes;
         cut = on_err_then r (IsAborted d e) (IsAborted a e) (cut_then a d e went.on) c.describe.ensures.cut;
+        spares = λ clean. last_touched described_trees a d e went.on
+            (λ at_d. touched_wider (tables.unit.tree ∷ tables.element.tree ∷ tables.housing.tree ∷ []) described_trees a.now d.now refl
+            (touched_then (tables.unit.tree ∷ []) (tables.element.tree ∷ tables.housing.tree ∷ []) a.now b.now d.now (leveled.only (early b d _ cleared.leaves.goes.on.crash at_d)) (cleared.only at_d)))
+            r c.describe.ensures.cut clean (wider_last (tables.element.tree ∷ tables.container.tree ∷ tables.housing.tree ∷ []) described_trees d e r refl (c.describe.ensures.spares clean));
         faults = λ o k it may kept. excused_then a d e went.on r c.describe.ensures.cut (λ before_d.
             let at = it in
             let xs = at.elements.elements in

@@ -12,9 +12,11 @@ use Rattle.catalogue_statements.specs.Rows.{counted_from}
 use Rattle.catalogue_statements.specs.Settings.{AreLegibleSettings}
 use Rattle.catalogue_statements.specs.Represents.{RepresentsSettings}
 use Rattle.catalogue_store.specs.Offices.{told_office}
-use Rattle.office_tables.proofs.CallEnds.{same_fault, tells_not, tells_cut}
+use Rattle.office_tables.proofs.CallEnds.{same_fault}
+use Rattle.office_tables.proofs.StoreCalls.{tells_not, tells_cut}
 use Rattle.office_tables.proofs.Calls.{cut_after, early, office_of, still_office, goes_then, looks_then}
 use Rattle.catalogue_statements.proofs.Offices.{last_of, length-counted, same_number, not_refused}
+use Rattle.office_tables.proofs.Sparing.{spares_known, spares_own}
 use Rattle.catalogue_store.proofs.office.office_row.Goals as goal
 
 pub office_rows-requires : goal.office_rows-requires
@@ -43,7 +45,7 @@ returns-in_err-containers g c =
     let looked = looks_then a b d c.in_ok-rows.ensures.reads.looks c.in_ok-units.ensures.reads.looks in
     record {
       tells = tells_cut g.S.Store (RepresentsSettings g.P.Places.represents g.P.Places.version) AreLegibleSettings (λ _. ⊤) c.args.conn.now c.count_units.new.conn c.count_containers.new.conn c.from_residual-in_err-containers.result (λ k o office. office ≡ told_office k o) e
-          (same_fault c.from_residual-in_err-containers.result e handed.0 handed.1) looked c.in_err-containers.ensures.reads.cut
+          (same_fault c.from_residual-in_err-containers.result e handed.0 handed.1) looked c.in_err-containers.ensures.reads.cut c.in_err-containers.ensures.reads.spares
           (λ k o it may legible at_d clean free.
           c.in_err-containers.ensures.faults (counted_from 1 k.containers) (ap (λ (db : Database). db.trees tables.container.tree) (looked.same at_d) ∙ it.catalogue.containers) clean free);
     }
@@ -57,7 +59,7 @@ returns-in_default g c =
     let looked = looks_then a d e (looks_then a b d c.in_ok-rows.ensures.reads.looks c.in_ok-units.ensures.reads.looks) c.in_ok-containers.ensures.reads.looks in
     record {
       tells = tells_not g.S.Store (RepresentsSettings g.P.Places.represents g.P.Places.version) AreLegibleSettings (λ _. ⊤) c.args.conn.now c.count_containers.new.conn _ (λ k o office. office ≡ told_office k o) fault.Schema
-          refl (cut_after a e looked.goes.on)
+          refl (cut_after a e looked.goes.on) (spares_known a e looked)
           (λ k o it may legible clean free.
           let at_d = early d e _ c.in_ok-containers.ensures.reads.looks.goes.on.crash clean in
           let at_b = early b d _ c.in_ok-units.ensures.reads.looks.goes.on.crash at_d in
@@ -75,13 +77,13 @@ returns-in_err-only_number g c =
     let looked = looks_then a d e (looks_then a b d c.in_ok-rows.ensures.reads.looks c.in_ok-units.ensures.reads.looks) c.in_ok-containers.ensures.reads.looks in
     record {
       tells = tells_not g.S.Store (RepresentsSettings g.P.Places.represents g.P.Places.version) AreLegibleSettings (λ _. ⊤) c.args.conn.now c.count_containers.new.conn c.from_residual-in_err-only_number.result (λ k o office. office ≡ told_office k o) fault
-          (same_fault c.from_residual-in_err-only_number.result fault handed.0 handed.1) (cut_after a e looked.goes.on)
+          (same_fault c.from_residual-in_err-only_number.result fault handed.0 handed.1) (cut_after a e looked.goes.on) (λ clean. spares_own a e looked clean fault c.in_err-only_number.ensures.fair)
           (λ k o it may legible clean free.
           let at_d = early d e _ c.in_ok-containers.ensures.reads.looks.goes.on.crash clean in
           let at_b = early b d _ c.in_ok-units.ensures.reads.looks.goes.on.crash at_d in
           let at = it.catalogue.units in
           let counted = c.in_ok-units.ensures.rows at_d at.units (ap (λ (db : Database). db.trees tables.unit.tree) (c.in_ok-rows.ensures.reads.looks.same at_b) ∙ at.rows) in
-          absurd (not_refused (c.in_err-only_number.ensures (capped (length at.units)) (c.deref.ensures.value ∙ counted))));
+          absurd (not_refused (c.in_err-only_number.ensures.value (capped (length at.units)) (c.deref.ensures.value ∙ counted))));
     }
 
 pub returns-in_err-only_number-2 : goal.returns-in_err-only_number-2
@@ -96,11 +98,11 @@ returns-in_err-only_number-2 g c =
     let looked = looks_then a d e looked_d c.in_ok-containers.ensures.reads.looks in
     record {
       tells = tells_not g.S.Store (RepresentsSettings g.P.Places.represents g.P.Places.version) AreLegibleSettings (λ _. ⊤) c.args.conn.now c.count_containers.new.conn c.from_residual-in_err-only_number-2.result (λ k o office. office ≡ told_office k o) fault
-          (same_fault c.from_residual-in_err-only_number-2.result fault handed.0 handed.1) (cut_after a e looked.goes.on)
+          (same_fault c.from_residual-in_err-only_number-2.result fault handed.0 handed.1) (cut_after a e looked.goes.on) (λ clean. spares_own a e looked clean fault c.in_err-only_number-2.ensures.fair)
           (λ k o it may legible clean free.
           let at_d = early d e _ c.in_ok-containers.ensures.reads.looks.goes.on.crash clean in
           let boxes = c.in_ok-containers.ensures.rows clean (counted_from 1 k.containers) (ap (λ (db : Database). db.trees tables.container.tree) (looked_d.same at_d) ∙ it.catalogue.containers) in
-          absurd (not_refused (c.in_err-only_number-2.ensures (capped (length (counted_from 1 k.containers))) (c.deref-2.ensures.value ∙ boxes))));
+          absurd (not_refused (c.in_err-only_number-2.ensures.value (capped (length (counted_from 1 k.containers))) (c.deref-2.ensures.value ∙ boxes))));
     }
 
 pub returns : goal.returns
@@ -119,13 +121,14 @@ returns g c =
             let at_b = early b d _ c.in_ok-units.ensures.reads.looks.goes.on.crash at_d in
             let row = last_of c.pop.new.self.items c.in-Some.row o (sym (c.in_ok-rows.ensures.rows at_b g.P.Places.version o at.office) ∙ c.in-Some.ensures.items) in
             let counted = c.in_ok-units.ensures.rows at_d at.units.units (ap (λ (db : Database). db.trees tables.unit.tree) (looked_b.same at_b) ∙ at.units.rows) in
-            let units = same_number (c.in_ok-only_number.ensures (capped (length at.units.units)) (c.deref.ensures.value ∙ counted))
+            let units = same_number (c.in_ok-only_number.ensures.value (capped (length at.units.units)) (c.deref.ensures.value ∙ counted))
             ∙ ap capped (length_permutation (nodes k.forest) at.units.units at.units.are ∙ length-nodes k.forest) in
             let boxes = c.in_ok-containers.ensures.rows clean (counted_from 1 k.containers) (ap (λ (db : Database). db.trees tables.container.tree) (looked_d.same at_d) ∙ at.containers) in
-            let containers = same_number (c.in_ok-only_number-2.ensures (capped (length (counted_from 1 k.containers))) (c.deref-2.ensures.value ∙ boxes)) ∙ ap capped (length-counted 1 k.containers) in
+            let containers = same_number (c.in_ok-only_number-2.ensures.value (capped (length (counted_from 1 k.containers))) (c.deref-2.ensures.value ∙ boxes)) ∙ ap capped (length-counted 1 k.containers) in
             rw (row, units, containers) refl;
         looks = looks_then a d e looked_d c.in_ok-containers.ensures.reads.looks;
         cut = tt;
+        spares = λ clean. tt;
         faults = λ k o it may legible clean free. tt;
       };
     }

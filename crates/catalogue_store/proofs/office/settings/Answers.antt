@@ -4,9 +4,11 @@ use Rattle.sqlite.specs.Held.{state}
 use Rattle.office_tables.specs.declared.fault.StoreFault.TheVariants as fault
 use Rattle.catalogue_statements.specs.Settings.{AreLegibleSettings}
 use Rattle.catalogue_statements.specs.Represents.{RepresentsSettings}
-use Rattle.office_tables.proofs.CallEnds.{same_fault, tells_not}
+use Rattle.office_tables.proofs.CallEnds.{same_fault}
+use Rattle.office_tables.proofs.StoreCalls.{tells_not}
 use Rattle.office_tables.proofs.Calls.{cut_after, office_of}
 use Rattle.catalogue_statements.proofs.Offices.{last_of}
+use Rattle.office_tables.proofs.Sparing.{spares_known}
 use Rattle.catalogue_store.proofs.office.settings.Goals as goal
 
 pub office_rows-requires : goal.office_rows-requires
@@ -18,7 +20,7 @@ returns-in_err-rows g c =
     let e = c.in_err-rows.field-0.0 in
     record {
       tells = tells_not g.S.Store (RepresentsSettings g.P.Places.represents g.P.Places.version) AreLegibleSettings (λ _. ⊤) c.args.conn.now c.office_rows.new.conn c.from_residual.result (λ _ o row. row ≡ o) e
-          (same_fault c.from_residual.result e handed.0 handed.1) c.in_err-rows.ensures.reads.cut
+          (same_fault c.from_residual.result e handed.0 handed.1) c.in_err-rows.ensures.reads.cut c.in_err-rows.ensures.reads.spares
           (λ k o it may legible clean free. c.in_err-rows.ensures.faults g.P.Places.version o it.catalogue.office legible clean free);
     }
 
@@ -28,7 +30,7 @@ returns-in_default g c =
     let b = state g.S.Store c.office_rows.new.conn in
     record {
       tells = tells_not g.S.Store (RepresentsSettings g.P.Places.represents g.P.Places.version) AreLegibleSettings (λ _. ⊤) c.args.conn.now c.office_rows.new.conn _ (λ _ o row. row ≡ o) fault.Schema
-          refl (cut_after a b c.in_ok-rows.ensures.reads.looks.goes.on)
+          refl (cut_after a b c.in_ok-rows.ensures.reads.looks.goes.on) (spares_known a b c.in_ok-rows.ensures.reads.looks)
           (λ k o it may legible clean free. omega (arith, ap length (c.in_ok-rows.ensures.rows clean g.P.Places.version o it.catalogue.office), c.in_default.ensures.cases.0));
     }
 
@@ -39,6 +41,7 @@ returns g c =
         answers = λ clean k o it. last_of c.pop.new.self.items c.in-Some.row o (sym (c.in_ok-rows.ensures.rows clean g.P.Places.version o it.catalogue.office) ∙ c.in-Some.ensures.items);
         looks = c.in_ok-rows.ensures.reads.looks;
         cut = tt;
+        spares = λ clean. tt;
         faults = λ k o it may legible clean free. tt;
       };
     }

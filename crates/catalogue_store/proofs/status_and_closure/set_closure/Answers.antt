@@ -1,4 +1,4 @@
-use Rattle.std.proofs.Common.{refl, map, if◌then◌else◌}
+use Rattle.std.proofs.Common.{refl, map, if◌then◌else◌, ◌∷◌, []}
 use Rattle.sqlite.specs.Held.{state}
 use Rattle.catalogue_core.specs.Statuses.{with_closure}
 use Rattle.catalogue_core.specs.Units.{Unit, has_id}
@@ -8,6 +8,7 @@ use Rattle.office_tables.proofs.Calls.{on_ok_both, office_of}
 use Rattle.catalogue_statements.specs.Rows.{unit_row}
 use Rattle.catalogue_statements.specs.Represents.{Represents}
 use Rattle.catalogue_statements.proofs.Statuses.{shows_changed, kept_by}
+use Rattle.office_tables.proofs.Sparing.{untouched_last}
 use Rattle.catalogue_store.proofs.status_and_closure.set_closure.Goals as goal
 
 pub set_until-requires-clause-inside : goal.set_until-requires-clause-inside
@@ -30,5 +31,6 @@ returns-clause-makes g c =
       only = c.set_until.ensures.only;
       goes = left.goes;
       cut = left.cut;
+      spares = λ clean. untouched_last (tables.unit.tree ∷ []) a b c.set_until.result (left.spares clean);
       faults = λ o k it may kept. let at = it.catalogue.units in c.set_until.ensures.faults at.units at.rows at.rise;
     }

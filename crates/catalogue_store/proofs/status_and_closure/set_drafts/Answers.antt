@@ -10,6 +10,7 @@ use Rattle.office_tables.proofs.Causes.{cause_then, still_unlimited}
 use Rattle.office_tables.proofs.Touching.{nothing_touched, touched_again}
 use Rattle.catalogue_statements.specs.Represents.{Represents}
 use Rattle.catalogue_statements.proofs.Statuses.{draft_step, status_of_none}
+use Rattle.office_tables.proofs.Sparing.{untouched}
 use Rattle.catalogue_store.proofs.status_and_closure.set_drafts.Goals as goal
 
 pub loop-unit-init : goal.loop-unit-init
@@ -43,7 +44,7 @@ loop-unit-preserved g c =
     }
 
 pub returns-then-unit-ge-NO_NUMBER-clause-leaves : goal.returns-then-unit-ge-NO_NUMBER-clause-leaves
-returns-then-unit-ge-NO_NUMBER-clause-leaves g c = left_known (state g.S.Store c.args.conn.now) (state g.S.Store c.loop-unit.conn) c.loop-unit.invariant.goes
+returns-then-unit-ge-NO_NUMBER-clause-leaves g c = left_known (tables.unit.tree ∷ []) (state g.S.Store c.args.conn.now) (state g.S.Store c.loop-unit.conn) c.loop-unit.invariant.goes c.loop-unit.invariant.only
 
 pub returns-in_err-set_draft-clause-leaves : goal.returns-in_err-set_draft-clause-leaves
 returns-in_err-set_draft-clause-leaves g c =
@@ -51,10 +52,11 @@ returns-in_err-set_draft-clause-leaves g c =
     let b = state g.S.Store c.loop-unit.conn in
     let d = state g.S.Store c.set_draft.new.conn in
     let e = c.from_residual.ensures in
-    left_fault a b d c.loop-unit.invariant.goes c.from_residual.result c.in_err-set_draft.field-0.0 (same_fault c.from_residual.result c.in_err-set_draft.field-0.0 e.0 e.1) c.in_err-set_draft.ensures.leaves
+    left_fault (tables.unit.tree ∷ []) a b d c.loop-unit.invariant.goes c.loop-unit.invariant.only c.from_residual.result c.in_err-set_draft.field-0.0 (same_fault c.from_residual.result c.in_err-set_draft.field-0.0 e.0 e.1) c.in_err-set_draft.ensures.leaves.cut
+    (λ clean. untouched (tables.unit.tree ∷ []) b d c.in_err-set_draft.field-0.0 (c.in_err-set_draft.ensures.leaves.spares clean))
 
 pub returns-clause-leaves : goal.returns-clause-leaves
-returns-clause-leaves g c = left_well (state g.S.Store c.args.conn.now) (state g.S.Store c.loop-unit.conn) c.loop-unit.invariant.goes
+returns-clause-leaves g c = left_well (tables.unit.tree ∷ []) (state g.S.Store c.args.conn.now) (state g.S.Store c.loop-unit.conn) c.loop-unit.invariant.goes
 
 pub returns-clause-represents : goal.returns-clause-represents
 returns-clause-represents g c clean o k it =

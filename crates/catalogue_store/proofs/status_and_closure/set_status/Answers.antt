@@ -11,11 +11,13 @@ use Rattle.catalogue_core.specs.Units.{Unit}
 use Rattle.office_tables.specs.Schema as tables
 use Rattle.office_tables.specs.Step.{OnlyTouches}
 use Rattle.office_tables.proofs.Calls.{early, cut_then, goes_then}
-use Rattle.office_tables.proofs.CallEnds.{makes_not, same_fault}
+use Rattle.office_tables.proofs.CallEnds.{same_fault}
+use Rattle.office_tables.proofs.StoreCalls.{makes_not, makes_part}
 use Rattle.office_tables.proofs.Causes.{still_unlimited}
 use Rattle.office_tables.proofs.LaterCauses.{next_cause}
 use Rattle.catalogue_statements.specs.Represents.{Represents}
 use Rattle.catalogue_statements.proofs.Statuses.{low_chosen}
+use Rattle.office_tables.proofs.Sparing.{looked_spares}
 use Rattle.catalogue_store.proofs.status_and_closure.set_status.Goals as goal
 
 pub returns-in_err-units-clause-makes : goal.returns-in_err-units-clause-makes
@@ -23,7 +25,7 @@ returns-in_err-units-clause-makes g c =
     let e = c.from_residual.ensures in
     let why = c.in_err-units.ensures.tells in
     makes_not g.S.Store (Represents g.P.Places.represents g.P.Places.version) IsKept (λ _. ⊤) c.args.conn.now c.units_under.new.conn c.from_residual.result (λ k. with_status (chosen c.args.whole c.args.unit k) c.args.draft k) (tables.unit.tree ∷ []) c.in_err-units.field-0.0
-    (same_fault c.from_residual.result c.in_err-units.field-0.0 e.0 e.1) why.cut (λ o k it may kept. why.faults tt (each (λ (u : Unit). u.id) k.forest) it.shown tt kept.places)
+    (same_fault c.from_residual.result c.in_err-units.field-0.0 e.0 e.1) why.cut why.spares (λ o k it may kept. why.faults tt (each (λ (u : Unit). u.id) k.forest) it.shown tt kept.places)
 
 pub returns-in_err-set_drafts-clause-makes : goal.returns-in_err-set_drafts-clause-makes
 returns-in_err-set_drafts-clause-makes g c =
@@ -32,10 +34,11 @@ returns-in_err-set_drafts-clause-makes g c =
     let d = state g.S.Store c.set_drafts.new.conn in
     let told = c.in_ok-units.ensures.tells in
     let cut = c.in_err-set_drafts.ensures.leaves.cut in
+    let spares = c.in_err-set_drafts.ensures.leaves.spares in
     let last = c.from_residual-in_err-set_drafts.ensures in
     let e = c.in_err-set_drafts.field-0.0 in
-    makes_not g.S.Store (Represents g.P.Places.represents g.P.Places.version) IsKept (λ _. ⊤) c.args.conn.now c.set_drafts.new.conn c.from_residual-in_err-set_drafts.result (λ k. with_status (chosen c.args.whole c.args.unit k) c.args.draft k) (tables.unit.tree ∷ []) e
-    (same_fault c.from_residual-in_err-set_drafts.result e last.0 last.1) (cut_then a b d told.looks.goes.on cut)
+    makes_part g.S.Store (Represents g.P.Places.represents g.P.Places.version) IsKept (λ _. ⊤) c.args.conn.now c.set_drafts.new.conn c.from_residual-in_err-set_drafts.result (λ k. with_status (chosen c.args.whole c.args.unit k) c.args.draft k) (tables.unit.tree ∷ []) e
+    (same_fault c.from_residual-in_err-set_drafts.result e last.0 last.1) (cut_then a b d told.looks.goes.on cut) (λ clean. looked_spares a b d told.looks (early b d _ cut.crash clean) e (spares clean))
     (λ o k it may kept clean free. next_cause a b d told.looks.goes.on cut clean e
     (λ before.
     let f = each (λ (u : Unit). u.id) k.forest in
@@ -61,6 +64,7 @@ returns-clause-makes g c =
       only = λ clean. subst (λ (db : Database). OnlyTouches (tables.unit.tree ∷ []) db d.now) (told.looks.same (early b d _ went.on.crash clean)) (c.in_ok-set_drafts.ensures.only clean);
       goes = goes_then a b d told.looks.goes went;
       cut = tt;
+      spares = λ clean. tt;
       faults = λ o k it may kept clean free. tt;
     }
 

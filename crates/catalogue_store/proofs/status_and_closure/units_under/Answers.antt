@@ -5,8 +5,10 @@ use Rattle.catalogue_core.specs.Bounds.{IsBounded}
 use Rattle.catalogue_core.specs.Statuses.{chosen_units}
 use Rattle.office_tables.specs.Calls.{RepresentsAlone}
 use Rattle.office_tables.specs.declared.fault.StoreFault.TheVariants as fault
-use Rattle.office_tables.proofs.CallEnds.{same_fault, tells_not}
+use Rattle.office_tables.proofs.CallEnds.{same_fault}
+use Rattle.office_tables.proofs.StoreCalls.{tells_not}
 use Rattle.office_tables.proofs.Calls.{cut_after, looks_nowhere, office_of}
+use Rattle.office_tables.proofs.Sparing.{spares_full}
 use Rattle.catalogue_store.proofs.status_and_closure.units_under.Goals as goal
 
 pub returns-then-whole : goal.returns-then-whole
@@ -17,6 +19,7 @@ returns-then-whole g c =
         answers = λ clean beside f it. subst (λ (whole : Bool). IfOk c.branch-alloc.result (λ ids. ids.items ≡ chosen_units whole c.args.unit f)) (sym c.if-whole.true) (told.answers clean tt f it);
         looks = told.looks;
         cut = told.cut;
+        spares = told.spares;
         faults = told.faults;
       };
     }
@@ -27,7 +30,7 @@ returns-in_err-push g c =
     let e = c.from_residual.ensures in
     record {
       tells = tells_not g.S.Store (RepresentsAlone g.P.Places.represents) IsBounded (λ _. ⊤) c.args.conn.now c.args.conn.now c.from_residual.result (λ _ f ids. ids.items ≡ chosen_units c.args.whole c.args.unit f) fault.Memory
-          (same_fault c.from_residual.result fault.Memory e.0 e.1) (cut_after a a (looks_nowhere a (office_of g.P.Places.version a c.requires.inside)).goes.on) (λ beside f it may kept clean free. tt);
+          (same_fault c.from_residual.result fault.Memory e.0 e.1) (cut_after a a (looks_nowhere a (office_of g.P.Places.version a c.requires.inside)).goes.on) (spares_full a a (looks_nowhere a (office_of g.P.Places.version a c.requires.inside))) (λ beside f it may kept clean free. tt);
     }
 
 pub returns : goal.returns
@@ -38,6 +41,7 @@ returns g c =
         answers = λ clean beside f it. subst (λ (whole : Bool). c.push.new.self.items ≡ chosen_units whole c.args.unit f) (sym c.if-whole.false) (c.in_ok-push.ensures.items ∙ ap (λ l. l ++ c.args.unit ∷ []) c.new-one.ensures.items);
         looks = looks_nowhere a (office_of g.P.Places.version a c.requires.inside);
         cut = tt;
+        spares = λ clean. tt;
         faults = λ beside f it may kept clean free. tt;
       };
     }

@@ -6,11 +6,13 @@ use Rattle.isad_core.specs.declared.values.BoxKey.{BoxKey}
 use Rattle.catalogue_core.specs.Merging.{box_number}
 use Rattle.catalogue_statements.specs.Represents.{RepresentsContainers}
 use Rattle.office_tables.specs.Schema as tables
-use Rattle.office_tables.proofs.CallEnds.{same_fault, read_not, read_only}
-use Rattle.office_tables.proofs.Calls.{early, cut_then, looks_then}
+use Rattle.office_tables.proofs.CallEnds.{same_fault, read_not, read_cut}
+use Rattle.office_tables.proofs.Calls.{early, looks_then, cut_after}
 use Rattle.office_tables.specs.Faults.{IsUnlimited}
 use Rattle.office_tables.proofs.Causes.{cause_then, still_unlimited}
 use Rattle.catalogue_store.proofs.ValueCauses.{box_at}
+use Rattle.office_tables.proofs.Sparing.{spares_full}
+use Rattle.office_tables.specs.declared.fault.StoreFault.TheVariants as fault
 use Rattle.catalogue_store.proofs.unit_values.boxes_of.Goals as goal
 
 pub loop-number-preserved : goal.loop-number-preserved
@@ -41,8 +43,8 @@ returns-in_err-container_of-clause-reads g c =
     let b = state g.S.Store c.loop-number.conn in
     let d = state g.S.Store c.container_of.new.conn in
     let handed = c.from_residual.ensures in
-    read_not a d c.from_residual.result c.in_err-container_of.field-0.0 (same_fault c.from_residual.result c.in_err-container_of.field-0.0 handed.0 handed.1)
-    (cut_then a b d c.loop-number.invariant.1.0.goes.on c.in_err-container_of.ensures.reads.cut)
+    read_cut a b d c.from_residual.result c.in_err-container_of.field-0.0 (same_fault c.from_residual.result c.in_err-container_of.field-0.0 handed.0 handed.1)
+    c.loop-number.invariant.1.0 c.in_err-container_of.ensures.reads.cut c.in_err-container_of.ensures.reads.spares
 
 pub returns-in_err-push-clause-reads : goal.returns-in_err-push-clause-reads
 returns-in_err-push-clause-reads g c =
@@ -50,7 +52,8 @@ returns-in_err-push-clause-reads g c =
     let b = state g.S.Store c.loop-number.conn in
     let d = state g.S.Store c.container_of.new.conn in
     let looked = looks_then a b d c.loop-number.invariant.1.0 c.in_ok-container_of.ensures.reads.looks in
-    read_only a d c.from_residual-in_err-push.result looked
+    let handed = c.from_residual-in_err-push.ensures in
+    read_not a d c.from_residual-in_err-push.result fault.Memory (same_fault c.from_residual-in_err-push.result fault.Memory handed.0 handed.1) (cut_after a d looked.goes.on) (spares_full a d looked)
 
 pub returns-in_err-container_of-clause-faults : goal.returns-in_err-container_of-clause-faults
 returns-in_err-container_of-clause-faults g c boxes at legible few bs known is clean free =

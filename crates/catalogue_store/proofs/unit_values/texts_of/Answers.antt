@@ -1,4 +1,4 @@
-use Rattle.std.proofs.Common.{◌≡◌, List, map, ap, ◌∙◌}
+use Rattle.std.proofs.Common.{◌≡◌, List, map, ap, ◌∙◌, sym, subst}
 use Rattle.std.specs.Prelude.{⊤, IsUtf8}
 use Rattle.std.specs.List.{AllByRecursion}
 use Rattle.sqlite.specs.Held.{state}
@@ -11,11 +11,14 @@ use Rattle.catalogue_statements.specs.Rows.{ElementRow}
 use Rattle.catalogue_statements.specs.Represents.{element_cells}
 use Rattle.catalogue_statements.specs.Values.{TellsTexts}
 use Rattle.catalogue_statements.specs.declared.row_types.Element.{Element}
-use Rattle.office_tables.proofs.CallEnds.{same_fault, tells_not}
+use Rattle.office_tables.proofs.CallEnds.{same_fault}
+use Rattle.office_tables.proofs.StoreCalls.{tells_not}
 use Rattle.office_tables.proofs.Calls.{cut_looks, on_ok_from}
 use Rattle.catalogue_statements.proofs.CellReads.{cells_read, elements_in_order}
 use Rattle.catalogue_statements.proofs.TextReads.{cell_of as told_of}
 use Rattle.catalogue_store.proofs.ValueCauses.{never_fails}
+use Rattle.office_tables.proofs.Sparing.{if_err_then, spares_known}
+use Rattle.office_tables.specs.Step.{Spares, IsSame}
 use Rattle.catalogue_store.proofs.unit_values.texts_of.Goals as goal
 
 pub returns-in_err-found : goal.returns-in_err-found
@@ -23,7 +26,7 @@ returns-in_err-found g c =
     let handed = c.from_residual.ensures in
     record {
       tells = tells_not g.S.Store (TellsTexts c.args.unit) (AllByRecursion (λ (e : ElementRow). IsUtf8 e.value)) (λ _. ⊤) c.args.conn.now c.elements_of.new.conn c.from_residual.result _ c.in_err-found.field-0.0
-          (same_fault c.from_residual.result c.in_err-found.field-0.0 handed.0 handed.1) c.in_err-found.ensures.reads.cut
+          (same_fault c.from_residual.result c.in_err-found.field-0.0 handed.0 handed.1) c.in_err-found.ensures.reads.cut c.in_err-found.ensures.reads.spares
           (λ values xs it may legible clean free. c.in_err-found.ensures.faults xs it.rows legible clean free);
     }
 
@@ -44,6 +47,7 @@ returns g c =
         answers = λ clean values xs it. c.placed.ensures.value values it.places (are clean values xs it);
         looks = on_ok_from c.placed.result _ looked;
         cut = cut_looks c.placed.result old new looked;
+        spares = λ clean. if_err_then c.placed.result _ (Spares IsSame old new) (λ e is. subst (Spares IsSame old new) (sym is) (spares_known old new looked clean)) c.placed.ensures.fair;
         faults = λ values xs it may legible clean free. never_fails c.placed.result (HasCause old new) (c.placed.ensures.places values it.places (are clean values xs it));
       };
     }

@@ -12,7 +12,8 @@ use Rattle.catalogue_statements.specs.Represents.{RepresentsContainers}
 use Rattle.catalogue_statements.specs.Values.{RepresentsValues, TellsTexts}
 use Rattle.catalogue_store.specs.Valuing.{values_of}
 use Rattle.catalogue_store.specs.declared.unit_values.UnitValues.{UnitValues}
-use Rattle.office_tables.proofs.CallEnds.{same_fault, tells_not, tells_cut}
+use Rattle.office_tables.proofs.CallEnds.{same_fault}
+use Rattle.office_tables.proofs.StoreCalls.{tells_not, tells_cut}
 use Rattle.office_tables.proofs.Calls.{early, looks_then}
 use Rattle.catalogue_statements.proofs.FoundUnits.{none_found, one_found}
 use Rattle.catalogue_store.proofs.MarkCauses.{legible_units}
@@ -29,7 +30,7 @@ returns-in_err-levels g c =
     let e = c.in_err-levels.field-0.0 in
     record {
       tells = tells_not g.S.Store RepresentsValues IsKept KnowsItsContainers c.args.conn.now c.levels_of.new.conn c.from_residual.result (λ _ k found. found ≡ values_of c.args.unit k) e
-          (same_fault c.from_residual.result e handed.0 handed.1) c.in_err-levels.ensures.reads.cut
+          (same_fault c.from_residual.result e handed.0 handed.1) c.in_err-levels.ensures.reads.cut c.in_err-levels.ensures.reads.spares
           (λ o k it knows kept clean free. let at = it.catalogue.units in c.in_err-levels.ensures.faults at.units at.rows (legible_units a.now.trees k at kept) clean free);
     }
 
@@ -46,6 +47,7 @@ returns-in_default g c =
             sym (ap (option_map told) (none_found a.now.trees k.forest at c.args.unit got.0 got.1.0 few));
         looks = c.in_ok-levels.ensures.reads.looks;
         cut = tt;
+        spares = λ clean. tt;
         faults = λ o k it knows kept clean free. tt;
       };
     }
@@ -58,7 +60,7 @@ returns-in_err-texts g c =
     let looked = c.in_ok-levels.ensures.reads.looks in
     record {
       tells = tells_cut g.S.Store RepresentsValues IsKept KnowsItsContainers c.args.conn.now c.levels_of.new.conn c.texts_of.new.conn c.from_residual-in_err-texts.result (λ _ k found. found ≡ values_of c.args.unit k) e
-          (same_fault c.from_residual-in_err-texts.result e handed.0 handed.1) looked c.in_err-texts.ensures.tells.cut
+          (same_fault c.from_residual-in_err-texts.result e handed.0 handed.1) looked c.in_err-texts.ensures.tells.cut c.in_err-texts.ensures.tells.spares
           (λ o k it knows kept at_b clean free.
           let at = it.catalogue in
           let got = c.in_ok-levels.ensures.rows at_b at.units.units at.units.rows in
@@ -77,7 +79,7 @@ returns-in_err-containers g c =
     let looked = looks_then a b d c.in_ok-levels.ensures.reads.looks c.in_ok-texts.ensures.tells.looks in
     record {
       tells = tells_cut g.S.Store RepresentsValues IsKept KnowsItsContainers c.args.conn.now c.texts_of.new.conn c.containers_of.new.conn c.from_residual-in_err-containers.result (λ _ k found. found ≡ values_of c.args.unit k) e
-          (same_fault c.from_residual-in_err-containers.result e handed.0 handed.1) looked c.in_err-containers.ensures.reads.cut
+          (same_fault c.from_residual-in_err-containers.result e handed.0 handed.1) looked c.in_err-containers.ensures.reads.cut c.in_err-containers.ensures.reads.spares
           (λ o k it knows kept at_d clean free.
           let at = it.catalogue.housings in
           c.in_err-containers.ensures.faults at.housings (still_numbered housing_row _ _ at.housings (ap (λ (db : Database). db.trees tables.housing.tree) (looked.same at_d)) at.rows) clean free);
@@ -95,7 +97,7 @@ returns-in_err-boxes g c =
     let looked = looks_then a d e looked_d c.in_ok-containers.ensures.reads.looks in
     record {
       tells = tells_cut g.S.Store RepresentsValues IsKept KnowsItsContainers c.args.conn.now c.containers_of.new.conn c.boxes_of.new.conn c.from_residual-in_err-boxes.result (λ _ k found. found ≡ values_of c.args.unit k) fault
-          (same_fault c.from_residual-in_err-boxes.result fault handed.0 handed.1) looked c.in_err-boxes.ensures.reads.cut
+          (same_fault c.from_residual-in_err-boxes.result fault handed.0 handed.1) looked c.in_err-boxes.ensures.reads.cut c.in_err-boxes.ensures.reads.spares
           (λ o k it knows kept at_e clean free.
           let at = it.catalogue in
           let at_d = early d e _ c.in_ok-containers.ensures.reads.looks.goes.on.crash at_e in
@@ -138,6 +140,7 @@ returns g c =
             rw (found.4, texts, boxes, numbers, found.3) refl;
         looks = looks_then a e h looked_e c.in_ok-boxes.ensures.reads.looks;
         cut = tt;
+        spares = λ clean. tt;
         faults = λ o k it knows kept clean free. tt;
       };
     }

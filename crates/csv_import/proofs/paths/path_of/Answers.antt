@@ -16,6 +16,7 @@ use Rattle.office_tables.proofs.CallEnds.{same_fault, tells_not}
 use Rattle.office_tables.proofs.Calls.{cut_after, office_of}
 use Rattle.csv_import.proofs.FoundPaths.{found_path, found_there, none_path}
 use Rattle.csv_import.proofs.Tellings.{told_last}
+use Rattle.office_tables.proofs.StoreCalls.{as_answers}
 use Rattle.csv_import.proofs.paths.path_of.Goals as goal
 
 pub known-requires : goal.known-requires
@@ -75,5 +76,5 @@ returns g c =
             allowed = λ clean o k it may kept. (tt, kept.places);
           })
           (λ clean o k it ids is_path good. is_path ∙ found_path k c.args.source.now c.args.legacy.now c.in-Some.unit good (subst (Finds is k.forest) c.in-Some.is (told.answers clean tt k.forest it.catalogue.units)))
-          c.path.ensures.tells;
+          (as_answers _ _ _ _ _ _ _ _ c.path.ensures.tells);
     }

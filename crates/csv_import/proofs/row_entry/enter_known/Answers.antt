@@ -18,6 +18,7 @@ use Rattle.csv_import.proofs.Afterwards.{makes_nothing, makes_same, makes_same_f
 use Rattle.csv_import.proofs.Frames.{at_next, describes_at, kept_at, knows_at, makes_entering}
 use Rattle.csv_import.proofs.OneRow.{is_valued, not_untold, told_of_it}
 use Rattle.csv_import.proofs.SameValues.{nothing_changes}
+use Rattle.office_tables.proofs.StoreCalls.{as_updates}
 use Rattle.csv_import.proofs.row_entry.enter_known.Goals as goal
 
 pub values-requires-clause-inside : goal.values-requires-clause-inside
@@ -74,7 +75,7 @@ returns-in_err-enter_values-clause-makes g c =
     makes_same_fault g.S.Store represents (λ _. ⊤) may made described_trees c.args.conn.now c.enter_values.new.conn e c.from_residual-in_err-enter_values.result
     (same_fault c.from_residual-in_err-enter_values.result e handed.0 handed.1)
     (makes_then g.S.Store represents (λ _. ⊤) may made described_trees c.args.conn.now c.values.new.conn c.in_ok-found.ensures.tells.looks c.enter_values.new.conn (λ _. ⊤) may made described_trees refl _
-    (makes_entering g.S.Store g.P.Places.version (λ _. ⊤) may within there made made described_trees c.values.new.conn c.enter_values.new.conn _ (λ n k allowed. ((kept_at n k allowed.kept, allowed.whole), describes_at n c.args.unit k allowed.there)) (λ n k allowed. refl) (c.in_err-enter_values.ensures.makes g.P.Places.version))
+    (makes_entering g.S.Store g.P.Places.version (λ _. ⊤) may within there made made described_trees c.values.new.conn c.enter_values.new.conn _ (λ n k allowed. ((kept_at n k allowed.kept, allowed.whole), describes_at n c.args.unit k allowed.there)) (λ n k allowed. refl) (as_updates _ _ _ _ _ _ _ _ _ (c.in_err-enter_values.ensures.makes g.P.Places.version)))
     (λ o k it allowed clean. record { within = tt; allowed = allowed; same = refl }))
 
 pub returns-clause-makes : goal.returns-clause-makes
@@ -86,7 +87,7 @@ returns-clause-makes g c =
     let there = MayDescribe c.args.unit in
     makes_same g.S.Store represents (λ _. ⊤) may made described_trees c.args.conn.now c.enter_values.new.conn _ entry.Changed
     (makes_then g.S.Store represents (λ _. ⊤) may made described_trees c.args.conn.now c.values.new.conn c.in_ok-found.ensures.tells.looks c.enter_values.new.conn (λ _. ⊤) may made described_trees refl _
-    (makes_entering g.S.Store g.P.Places.version (λ _. ⊤) may within there made made described_trees c.values.new.conn c.enter_values.new.conn _ (λ n k allowed. ((kept_at n k allowed.kept, allowed.whole), describes_at n c.args.unit k allowed.there)) (λ n k allowed. refl) (c.in_ok-enter_values.ensures.makes g.P.Places.version))
+    (makes_entering g.S.Store g.P.Places.version (λ _. ⊤) may within there made made described_trees c.values.new.conn c.enter_values.new.conn _ (λ n k allowed. ((kept_at n k allowed.kept, allowed.whole), describes_at n c.args.unit k allowed.there)) (λ n k allowed. refl) (as_updates _ _ _ _ _ _ _ _ _ (c.in_ok-enter_values.ensures.makes g.P.Places.version)))
     (λ o k it allowed clean. record { within = tt; allowed = allowed; same = refl }))
 
 pub returns-clause-told : goal.returns-clause-told

@@ -9,6 +9,7 @@ use Rattle.office_tables.specs.Schema as tables
 use Rattle.office_tables.proofs.CallEnds.{makes_not, same_fault}
 use Rattle.office_tables.proofs.Calls.{still_office}
 use Rattle.desk_commands.specs.Moving.{handed_over}
+use Rattle.office_tables.proofs.StoreCalls.{as_updates}
 use Rattle.desk_commands.proofs.container_moves.hand_over.Goals as goal
 
 pub set_place-requires : goal.set_place-requires
@@ -33,5 +34,5 @@ returns g c =
     record {
       makes = makes_then g.S.Store c.args.conn.now c.end_order.new.conn c.set_place.new.conn _ c.set_place.result (λ _. ⊤) (λ _. ⊤)
           (with_order_state c.args.order c.args.next) (with_place c.args.container c.args.place) (tables.orders.tree ∷ []) (tables.holding.tree ∷ []) (tables.orders.tree ∷ tables.holding.tree ∷ [])
-          c.in_ok-end_order.ensures.makes c.set_place.ensures.makes (λ d may. tt) (λ d kept. legible_state c.args.order c.args.next d kept) refl refl;
+          (as_updates _ _ _ _ _ _ _ _ _ c.in_ok-end_order.ensures.makes) (as_updates _ _ _ _ _ _ _ _ _ c.set_place.ensures.makes) (λ d may. tt) (λ d kept. legible_state c.args.order c.args.next d kept) refl refl;
     }

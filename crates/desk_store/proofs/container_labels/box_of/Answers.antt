@@ -5,7 +5,7 @@ use Rattle.office_tables.proofs.Calls.{looks_nowhere}
 use Rattle.desk_store.specs.Stacks.{RepresentsQueues, IsLegibleStacks}
 use Rattle.desk_store.proofs.BoxRows.{Numbered, box_told, first_out}
 use Rattle.desk_store.proofs.CardCalls.{unknown}
-use Rattle.desk_store.proofs.ToldCalls.{ends_well}
+use Rattle.desk_store.proofs.TellingCalls.{ends_well}
 use Rattle.desk_store.proofs.container_labels.box_of.Goals as goal
 
 pub returns-then-container-gt-MOST_CONTAINERS-clause-tells : goal.returns-then-container-gt-MOST_CONTAINERS-clause-tells

@@ -8,7 +8,8 @@ use Rattle.office_tables.proofs.CallEnds.{same_fault}
 use Rattle.desk_store.specs.Represents.{RepresentsDesk, RepresentsDeskAlone, IsLegible}
 use Rattle.desk_store.proofs.ReshelvingCalls.{told_more, told_whole, number_at}
 use Rattle.desk_store.proofs.desk_containers.at_desk.Goals as goal
-use Rattle.desk_store.proofs.ToldCalls.{ends_full, ends_not, ends_well, shown_on}
+use Rattle.desk_store.proofs.ToldCalls.{shown_on}
+use Rattle.desk_store.proofs.TellingCalls.{ends_full, ends_not, ends_well}
 
 pub returns-in_err-awaited : goal.returns-in_err-awaited
 returns-in_err-awaited g c =
@@ -17,7 +18,7 @@ returns-in_err-awaited g c =
     let e = c.from_residual-in_err-awaited.ensures in
     record {
       tells = ends_not RepresentsDeskAlone IsLegible (λ _. ⊤) g.S.Store c.args.conn.now c.loop-container.conn c.is_awaited.new.conn _ c.loop-container.invariant.looks
-          c.in_err-awaited.field-0.0 c.in_err-awaited.ensures.tells.cut (λ d shown may kept clean.
+          c.in_err-awaited.field-0.0 c.in_err-awaited.ensures.tells.cut c.in_err-awaited.ensures.tells.spares (λ d shown may kept clean.
           let before = early b z _ c.in_err-awaited.ensures.tells.cut.crash clean in
           let are = c.loop-container.invariant.containers before d (subst (λ (db : Database). RepresentsDesk db.trees d) (c.loop-container.invariant.looks.same before) shown) in
           c.in_err-awaited.ensures.tells.faults tt d shown (number_at d c.deref-container-items.result.now c.loop-container.container-index are kept.holdings c.loop-container-test.true) kept clean)

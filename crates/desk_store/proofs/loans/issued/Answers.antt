@@ -10,14 +10,15 @@ use Rattle.desk_store.specs.Represents.{RepresentsDeskAlone, IsLegible}
 use Rattle.desk_store.proofs.LoanCalls.{loans_more, loans_whole}
 use Rattle.desk_store.proofs.loans.issued.Goals.{in-Some+in_ok-push, in_default}
 use Rattle.desk_store.proofs.loans.issued.Goals as goal
-use Rattle.desk_store.proofs.ToldCalls.{ends_full, ends_not, ends_well, shown_on}
+use Rattle.desk_store.proofs.ToldCalls.{shown_on}
+use Rattle.desk_store.proofs.TellingCalls.{ends_full, ends_not, ends_well}
 
 pub returns-in_err-loan : goal.returns-in_err-loan
 returns-in_err-loan g c =
     let e = c.from_residual-in_err-loan.ensures in
     record {
       tells = ends_not RepresentsDeskAlone IsLegible (λ _. ⊤) g.S.Store c.args.conn.now c.loop-line.conn c.loan_of.new.conn _ c.loop-line.invariant.looks
-          c.in_err-loan.field-0.0 c.in_err-loan.ensures.tells.cut (λ d shown may kept. c.in_err-loan.ensures.tells.faults tt d shown tt kept)
+          c.in_err-loan.field-0.0 c.in_err-loan.ensures.tells.cut c.in_err-loan.ensures.tells.spares (λ d shown may kept. c.in_err-loan.ensures.tells.faults tt d shown tt kept)
           c.from_residual-in_err-loan.result (same_fault c.from_residual-in_err-loan.result c.in_err-loan.field-0.0 e.0 e.1);
     }
 

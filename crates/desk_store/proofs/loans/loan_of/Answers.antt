@@ -7,14 +7,14 @@ use Rattle.desk_store.specs.Holdings.{loan_by}
 use Rattle.desk_store.specs.declared.holdings.Loan.{Loan}
 use Rattle.desk_store.specs.Represents.{RepresentsDeskAlone, IsLegible}
 use Rattle.desk_store.proofs.loans.loan_of.Goals as goal
-use Rattle.desk_store.proofs.ToldCalls.{ends_not, ends_well}
+use Rattle.desk_store.proofs.TellingCalls.{ends_not, ends_well}
 
 pub returns-in_err-ticket : goal.returns-in_err-ticket
 returns-in_err-ticket g c =
     let e = c.from_residual.ensures in
     record {
       tells = ends_not RepresentsDeskAlone IsLegible (λ _. ⊤) g.S.Store c.args.conn.now c.args.conn.now c.holder_of.new.conn _ (looks_nowhere (state g.S.Store c.args.conn.now) c.requires.inside)
-          c.in_err-ticket.field-0.0 c.in_err-ticket.ensures.tells.cut (λ d shown may kept. c.in_err-ticket.ensures.tells.faults tt d shown tt kept)
+          c.in_err-ticket.field-0.0 c.in_err-ticket.ensures.tells.cut c.in_err-ticket.ensures.tells.spares (λ d shown may kept. c.in_err-ticket.ensures.tells.faults tt d shown tt kept)
           c.from_residual.result (same_fault c.from_residual.result c.in_err-ticket.field-0.0 e.0 e.1);
     }
 

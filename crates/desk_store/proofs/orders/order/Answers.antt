@@ -9,8 +9,9 @@ use Rattle.desk_store.specs.Orders.{order_with, IsThere}
 use Rattle.desk_store.specs.Represents.{RepresentsDesk, RepresentsDeskAlone, IsLegible}
 use Rattle.desk_store.proofs.CardCalls.{unknown}
 use Rattle.desk_store.proofs.OrderReads.{entry_found, told_none, told_there, legible_there}
+use Rattle.office_tables.proofs.Sparing.{spares_own}
 use Rattle.desk_store.proofs.orders.order.Goals as goal
-use Rattle.desk_store.proofs.ToldCalls.{ends_not, ends_well}
+use Rattle.desk_store.proofs.TellingCalls.{ends_not, ends_well}
 
 pub returns-then-order-gt-MOST_ORDERS-clause-tells : goal.returns-then-order-gt-MOST_ORDERS-clause-tells
 returns-then-order-gt-MOST_ORDERS-clause-tells g c =
@@ -34,6 +35,7 @@ returns-in_err-placed-clause-tells g c =
     let e = c.from_residual-in_err-placed.ensures in
     ends_not RepresentsDeskAlone IsLegible (λ _. ⊤) g.S.Store c.args.conn.now c.orders_with.new.conn c.orders_with.new.conn _ looked
     c.in_err-placed.field-0.0 (cut_after b b (looks_nowhere b (still_office a b c.requires.inside looked.goes)).goes.on)
+    (λ clean. spares_own b b (looks_nowhere b (still_office a b c.requires.inside looked.goes)) clean c.in_err-placed.field-0.0 c.in_err-placed.ensures.fair)
     (λ d shown may kept clean free.
     let before = subst (λ (db : Database). RepresentsDesk db.trees d) (looked.same clean) shown in
     let first = c.copied.ensures ∙ c.first.ensures.value ∙ ap (λ l. slice_get l 0) c.deref.ensures.value in

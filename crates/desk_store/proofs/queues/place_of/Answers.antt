@@ -8,7 +8,9 @@ use Rattle.office_tables.proofs.Calls.{cut_looks, on_ok_from}
 use Rattle.desk_store.specs.Orders.{holding_of}
 use Rattle.desk_store.specs.Represents.{RepresentsDeskAlone, IsLegible}
 use Rattle.desk_store.proofs.PlaceRows.{at_entry, at_shelf, entry_told, legible_place}
-use Rattle.desk_store.proofs.ToldCalls.{never_fails, ends_well}
+use Rattle.desk_store.proofs.ToldCalls.{never_fails}
+use Rattle.desk_store.proofs.TellingCalls.{ends_well}
+use Rattle.office_tables.proofs.Sparing.{own_last}
 use Rattle.desk_store.proofs.queues.place_of.Goals as goal
 
 pub returns-in-Some : goal.returns-in-Some
@@ -25,6 +27,7 @@ returns-in-Some g c =
             IfOk-weaker c.place.result _ _ (λ place at. at_entry (holding_of c.args.container d) entry place (sym there ∙ sym first) at) c.place.ensures.place;
         looks = on_ok_from c.place.result _ looked;
         cut = cut_looks c.place.result a b looked;
+        spares = own_last a b looked c.place.result c.place.ensures.fair;
         faults = λ beside d shown may kept clean free.
             let there = entry_told c.args.container d.holdings c.in_ok-found.found.items (c.in_ok-found.ensures.rows clean d.holdings shown.holdings shown.holdings_rise) in
             never_fails c.place.result _ (c.place.ensures.known (legible_place (λ (h : HoldingRow). nat_eq c.args.container h.container) d.holdings kept.holdings entry (sym there ∙ sym first)));

@@ -5,14 +5,15 @@ use Rattle.office_tables.proofs.Calls.{early, looks_then, looks_nowhere}
 use Rattle.office_tables.proofs.CallEnds.{same_fault}
 use Rattle.desk_store.specs.Stacks.{RepresentsQueues, IsLegibleStacks, box_with}
 use Rattle.desk_store.proofs.QueueCalls.{unknown_queue, known_queue}
-use Rattle.desk_store.proofs.ToldCalls.{ends_not, ends_well, shown_on}
+use Rattle.desk_store.proofs.ToldCalls.{shown_on}
+use Rattle.desk_store.proofs.TellingCalls.{ends_not, ends_well}
 use Rattle.desk_store.proofs.queues.queue.Goals as goal
 
 pub returns-in_err-known-clause-tells : goal.returns-in_err-known-clause-tells
 returns-in_err-known-clause-tells g c =
     let e = c.from_residual.ensures in
     ends_not RepresentsQueues IsLegibleStacks (λ _. ⊤) g.S.Store c.args.conn.now c.args.conn.now c.box_of.new.conn _ (looks_nowhere (state g.S.Store c.args.conn.now) c.requires.inside)
-    c.in_err-known.field-0.0 c.in_err-known.ensures.tells.cut (λ s shown may kept. c.in_err-known.ensures.tells.faults tt s shown tt kept)
+    c.in_err-known.field-0.0 c.in_err-known.ensures.tells.cut c.in_err-known.ensures.tells.spares (λ s shown may kept. c.in_err-known.ensures.tells.faults tt s shown tt kept)
     c.from_residual.result (same_fault c.from_residual.result c.in_err-known.field-0.0 e.0 e.1)
 
 pub returns-in_default-clause-tells : goal.returns-in_default-clause-tells
@@ -24,7 +25,7 @@ pub returns-in_err-place-clause-tells : goal.returns-in_err-place-clause-tells
 returns-in_err-place-clause-tells g c =
     let e = c.from_residual-in_err-place.ensures in
     ends_not RepresentsQueues IsLegibleStacks (λ _. ⊤) g.S.Store c.args.conn.now c.box_of.new.conn c.place_of.new.conn _ c.in_ok-known.ensures.tells.looks
-    c.in_err-place.field-0.0 c.in_err-place.ensures.tells.cut (λ s shown may kept. c.in_err-place.ensures.tells.faults tt s.desk shown.desk tt kept.desk)
+    c.in_err-place.field-0.0 c.in_err-place.ensures.tells.cut c.in_err-place.ensures.tells.spares (λ s shown may kept. c.in_err-place.ensures.tells.faults tt s.desk shown.desk tt kept.desk)
     c.from_residual-in_err-place.result (same_fault c.from_residual-in_err-place.result c.in_err-place.field-0.0 e.0 e.1)
 
 pub returns-in_err-waiting-clause-tells : goal.returns-in_err-waiting-clause-tells
@@ -34,7 +35,7 @@ returns-in_err-waiting-clause-tells g c =
     let p = state g.S.Store c.place_of.new.conn in
     let e = c.from_residual-in_err-waiting.ensures in
     ends_not RepresentsQueues IsLegibleStacks (λ _. ⊤) g.S.Store c.args.conn.now c.place_of.new.conn c.waiting_for.new.conn _ (looks_then a b p c.in_ok-known.ensures.tells.looks c.in_ok-place.ensures.tells.looks)
-    c.in_err-waiting.field-0.0 c.in_err-waiting.ensures.reads.cut (λ s shown may kept. c.in_err-waiting.ensures.faults s.desk.orders shown.desk.orders)
+    c.in_err-waiting.field-0.0 c.in_err-waiting.ensures.reads.cut c.in_err-waiting.ensures.reads.spares (λ s shown may kept. c.in_err-waiting.ensures.faults s.desk.orders shown.desk.orders)
     c.from_residual-in_err-waiting.result (same_fault c.from_residual-in_err-waiting.result c.in_err-waiting.field-0.0 e.0 e.1)
 
 pub returns-clause-tells : goal.returns-clause-tells

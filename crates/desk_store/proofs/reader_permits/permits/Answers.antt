@@ -7,7 +7,7 @@ use Rattle.desk_store.specs.Permits.{permits_of, by_unit}
 use Rattle.desk_store.specs.Represents.{RepresentsDeskAlone, IsLegible}
 use Rattle.desk_store.proofs.PermitCalls.{none_given}
 use Rattle.desk_store.proofs.reader_permits.permits.Goals as goal
-use Rattle.desk_store.proofs.ToldCalls.{ends_well}
+use Rattle.desk_store.proofs.TellingCalls.{ends_well}
 
 pub returns-then-ticket-from : goal.returns-then-ticket-from
 returns-then-ticket-from g c =

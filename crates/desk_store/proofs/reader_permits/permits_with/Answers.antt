@@ -25,6 +25,7 @@ returns g c =
             (permits_finds old new c.args.ticket at.0 at.1 d.permits shown.permits (λ found. found.items) c.find.result (rw c.number.ensures at (c.find.ensures.found clean)));
         looks = c.find.ensures.reads.looks;
         cut = c.find.ensures.reads.cut;
+        spares = c.find.ensures.reads.spares;
         faults = λ beside d shown may kept clean free.
             let at = c.requires.inside (early old new _ c.find.ensures.reads.crash clean) in
             permits_faults old new c.args.ticket at.0 at.1 d.permits shown.permits (λ found. found.items) c.find.result kept.permits free (rw c.number.ensures at (c.find.ensures.missed clean));

@@ -11,7 +11,8 @@ use Rattle.desk_store.specs.declared.reader_summary.OrderLine.{OrderLine}
 use Rattle.desk_store.specs.Represents.{RepresentsDeskAlone, IsLegible}
 use Rattle.desk_store.proofs.CardRows.{line_of}
 use Rattle.desk_store.proofs.reader_summary.orders_of.Goals as goal
-use Rattle.desk_store.proofs.ToldCalls.{ends_not, ends_well, shown_on}
+use Rattle.desk_store.proofs.ToldCalls.{shown_on}
+use Rattle.desk_store.proofs.TellingCalls.{ends_not, ends_well}
 
 pub returns-in_err-orders : goal.returns-in_err-orders
 returns-in_err-orders g c =
@@ -21,7 +22,7 @@ returns-in_err-orders g c =
     let e = c.from_residual-in_err-orders.ensures in
     record {
       tells = ends_not RepresentsDeskAlone IsLegible (λ _. ⊤) g.S.Store c.args.conn.now c.placed_on.new.conn c.last_order.new.conn _ (looks_then a b p c.in_ok-lines.ensures.reads.looks c.in_ok-placed.ensures.reads.looks)
-          c.in_err-orders.field-0.0 c.in_err-orders.ensures.reads.cut (λ d shown may kept. c.in_err-orders.ensures.faults d.orders shown.orders shown.few_orders shown.order_numbers)
+          c.in_err-orders.field-0.0 c.in_err-orders.ensures.reads.cut c.in_err-orders.ensures.reads.spares (λ d shown may kept. c.in_err-orders.ensures.faults d.orders shown.orders shown.few_orders shown.order_numbers)
           c.from_residual-in_err-orders.result (same_fault c.from_residual-in_err-orders.result c.in_err-orders.field-0.0 e.0 e.1);
     }
 

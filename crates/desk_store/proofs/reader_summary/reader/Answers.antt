@@ -12,7 +12,8 @@ use Rattle.desk_store.specs.Represents.{RepresentsDeskAlone, IsLegible}
 use Rattle.desk_store.proofs.CardCalls.{unknown, out_of_live, few_live, seat_told, first_none, card_with, card_told}
 use Rattle.desk_store.proofs.ReaderRows.{named}
 use Rattle.desk_store.proofs.reader_summary.reader.Goals as goal
-use Rattle.desk_store.proofs.ToldCalls.{ends_not, ends_well, shown_on}
+use Rattle.desk_store.proofs.ToldCalls.{shown_on}
+use Rattle.desk_store.proofs.TellingCalls.{ends_not, ends_well}
 
 pub returns-then-ticket-from-clause-tells : goal.returns-then-ticket-from-clause-tells
 returns-then-ticket-from-clause-tells g c =
@@ -33,7 +34,7 @@ pub returns-in_err-seats-clause-tells : goal.returns-in_err-seats-clause-tells
 returns-in_err-seats-clause-tells g c =
     let e = c.from_residual-in_err-seats.ensures in
     ends_not RepresentsDeskAlone IsLegible (λ _. ⊤) g.S.Store c.args.conn.now c.readers_with.new.conn c.seats_with.new.conn _ c.in_ok-named.ensures.reads.looks
-    c.in_err-seats.field-0.0 c.in_err-seats.ensures.reads.cut (λ d shown may kept. c.in_err-seats.ensures.faults d.seats shown.seats kept.seats)
+    c.in_err-seats.field-0.0 c.in_err-seats.ensures.reads.cut c.in_err-seats.ensures.reads.spares (λ d shown may kept. c.in_err-seats.ensures.faults d.seats shown.seats kept.seats)
     c.from_residual-in_err-seats.result (same_fault c.from_residual-in_err-seats.result c.in_err-seats.field-0.0 e.0 e.1)
 
 pub returns-in_err-told-clause-tells : goal.returns-in_err-told-clause-tells
@@ -43,7 +44,7 @@ returns-in_err-told-clause-tells g c =
     let s = state g.S.Store c.seats_with.new.conn in
     let e = c.from_residual-in_err-told.ensures in
     ends_not RepresentsDeskAlone IsLegible (λ _. ⊤) g.S.Store c.args.conn.now c.seats_with.new.conn c.orders_of.new.conn _ (looks_then a b s c.in_ok-named.ensures.reads.looks c.in_ok-seats.ensures.reads.looks)
-    c.in_err-told.field-0.0 c.in_err-told.ensures.tells.cut (λ d shown may kept. c.in_err-told.ensures.tells.faults tt d shown tt kept)
+    c.in_err-told.field-0.0 c.in_err-told.ensures.tells.cut c.in_err-told.ensures.tells.spares (λ d shown may kept. c.in_err-told.ensures.tells.faults tt d shown tt kept)
     c.from_residual-in_err-told.result (same_fault c.from_residual-in_err-told.result c.in_err-told.field-0.0 e.0 e.1)
 
 pub returns-clause-tells : goal.returns-clause-tells

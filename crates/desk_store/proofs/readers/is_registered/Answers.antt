@@ -8,7 +8,7 @@ use Rattle.desk_store.specs.Represents.{RepresentsDeskAlone, IsLegible}
 use Rattle.desk_store.proofs.CardCalls.{first_told, unknown}
 use Rattle.desk_store.proofs.ReaderRows.{named}
 use Rattle.desk_store.proofs.readers.is_registered.Goals as goal
-use Rattle.desk_store.proofs.ToldCalls.{ends_well}
+use Rattle.desk_store.proofs.TellingCalls.{ends_well}
 
 some_mapped : {X Y : Type 0} (f : X → Y) (o : Option X) → is_some (option_map f o) ≡ is_some o
 some_mapped f None = refl

@@ -1,4 +1,4 @@
-use Rattle.std.proofs.Common.{sym, subst, ◌≤◌, length}
+use Rattle.std.proofs.Common.{sym, subst, ◌≤◌, length, ◌∷◌, []}
 use Rattle.std.proofs.Math.Nat.{le_refl}
 use Rattle.std.proofs.lemmas.List.{length-map}
 use Rattle.sqlite.specs.Held.{state}
@@ -8,6 +8,8 @@ use Rattle.office_tables.proofs.Calls.{on_ok_then}
 use Rattle.office_tables.proofs.numbered.Counted.{counted_again}
 use Rattle.desk_store.proofs.Frames.{with_readers}
 use Rattle.desk_store.proofs.ReaderRows.{same_tickets}
+use Rattle.office_tables.proofs.Sparing.{untouched_last}
+use Rattle.office_tables.specs.Schema as tables
 use Rattle.desk_store.proofs.readers.renew.Goals as goal
 
 pub returns : goal.returns
@@ -23,6 +25,7 @@ returns g c =
         only = c.set_last_day.ensures.only;
         goes = c.set_last_day.ensures.leaves.goes;
         cut = c.set_last_day.ensures.leaves.cut;
+        spares = λ clean. untouched_last (tables.reader.tree ∷ []) (state g.S.Store c.args.conn.now) (state g.S.Store c.set_last_day.new.conn) c.set_last_day.result (c.set_last_day.ensures.leaves.spares clean);
         faults = λ beside d shown may kept. c.set_last_day.ensures.faults d.readers shown.readers shown.tickets;
       };
     }

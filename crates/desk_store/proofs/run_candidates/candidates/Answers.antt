@@ -7,7 +7,8 @@ use Rattle.desk_store.specs.declared.holdings.FirstOrder.{FirstOrder}
 use Rattle.desk_store.specs.Represents.{RepresentsDeskAlone, IsLegible}
 use Rattle.desk_store.proofs.PickingCalls.{rising, picked_are}
 use Rattle.desk_store.proofs.run_candidates.candidates.Goals as goal
-use Rattle.desk_store.proofs.ToldCalls.{ends_well, shown_on}
+use Rattle.desk_store.proofs.ToldCalls.{shown_on}
+use Rattle.desk_store.proofs.TellingCalls.{ends_well}
 
 pub returns : goal.returns
 returns g c =

@@ -6,7 +6,8 @@ use Rattle.office_tables.proofs.CallEnds.{same_fault}
 use Rattle.desk_store.specs.Stacks.{RepresentsQueues, IsLegibleStacks, IsKnownLine, box_with}
 use Rattle.desk_store.proofs.BoxRows.{Numbered}
 use Rattle.desk_store.proofs.BroughtRows.{line_told}
-use Rattle.desk_store.proofs.ToldCalls.{ends_not, ends_well}
+use Rattle.desk_store.proofs.TellingCalls.{ends_not, ends_well}
+use Rattle.office_tables.proofs.Sparing.{spares_known}
 use Rattle.desk_store.proofs.run_lines.candidate.Goals as goal
 
 pub returns-in_err-written : goal.returns-in_err-written
@@ -14,7 +15,7 @@ returns-in_err-written g c =
     let e = c.from_residual.ensures in
     record {
       tells = ends_not RepresentsQueues IsLegibleStacks (IsKnownLine c.args.line.now) g.S.Store c.args.conn.now c.args.conn.now c.box_of.new.conn _ (looks_nowhere (state g.S.Store c.args.conn.now) c.requires.inside)
-          c.in_err-written.field-0.0 c.in_err-written.ensures.tells.cut (λ s shown may kept. c.in_err-written.ensures.tells.faults tt s shown tt kept)
+          c.in_err-written.field-0.0 c.in_err-written.ensures.tells.cut c.in_err-written.ensures.tells.spares (λ s shown may kept. c.in_err-written.ensures.tells.faults tt s shown tt kept)
           c.from_residual.result (same_fault c.from_residual.result c.in_err-written.field-0.0 e.0 e.1);
     }
 
@@ -27,6 +28,7 @@ returns-in_default g c =
         answers = λ clean beside s shown. tt;
         looks = tt;
         cut = cut_after a b c.in_ok-written.ensures.tells.looks.goes.on;
+        spares = spares_known a b c.in_ok-written.ensures.tells.looks;
         faults = λ beside s shown may kept clean free.
             absurd (let none : option_map (λ (b : Numbered). b.1) (Some may.0) ≡ None = ap (option_map (λ (b : Numbered). b.1)) (sym may.1) ∙ sym (c.in_ok-written.ensures.tells.answers clean tt s shown) ∙ c.in_default.is in cc);
       };

@@ -12,7 +12,8 @@ use Rattle.office_tables.specs.declared.fault.StoreFault.TheVariants.{Memory}
 use Rattle.desk_store.specs.Stacks.{Stacks, RepresentsQueues, IsLegibleStacks, IsKnownLine, IsToldLine}
 use Rattle.desk_store.specs.declared.runs.TakenLine.{TakenLine}
 use Rattle.desk_store.proofs.BroughtRows.{zip_more}
-use Rattle.desk_store.proofs.ToldCalls.{ends_not, ends_full, shown_on}
+use Rattle.desk_store.proofs.ToldCalls.{shown_on}
+use Rattle.desk_store.proofs.TellingCalls.{ends_not, ends_full}
 use Rattle.desk_store.proofs.run_lines.candidates_of.Goals as goal
 
 pub returns-in_err-candidate : goal.returns-in_err-candidate
@@ -23,7 +24,7 @@ returns-in_err-candidate g c =
     let none : TakenLine = record { container = 0; order = 0; ticket = 0 } in
     record {
       tells = ends_not RepresentsQueues IsLegibleStacks (λ (s : Stacks). AllByRecursion (λ l. IsKnownLine l s) lines) g.S.Store c.args.conn.now c.loop-line.conn c.candidate.new.conn _ c.loop-line.invariant.looks
-          c.in_err-candidate.field-0.0 c.in_err-candidate.ensures.tells.cut
+          c.in_err-candidate.field-0.0 c.in_err-candidate.ensures.tells.cut c.in_err-candidate.ensures.tells.spares
           (λ s shown may kept. c.in_err-candidate.ensures.tells.faults tt s shown (all_has (λ l. IsKnownLine l s) lines (get_or lines i none) may (has_at lines i none c.loop-line-test.true)) kept)
           c.from_residual.result (same_fault c.from_residual.result c.in_err-candidate.field-0.0 e.0 e.1);
     }

@@ -9,7 +9,8 @@ use Rattle.desk_store.specs.Stacks.{RepresentsQueues, IsLegibleStacks, AreKnown,
 use Rattle.desk_store.proofs.BroughtCalls.{none_told, run_told, known_lines}
 use Rattle.desk_store.proofs.BroughtRows.{day_told}
 use Rattle.desk_store.proofs.CardCalls.{unknown}
-use Rattle.desk_store.proofs.ToldCalls.{ends_not, ends_well, shown_on, shown_back}
+use Rattle.desk_store.proofs.ToldCalls.{shown_on, shown_back}
+use Rattle.desk_store.proofs.TellingCalls.{ends_not, ends_well}
 use Rattle.desk_store.proofs.run_lines.run.Goals as goal
 
 pub returns-then-run-from : goal.returns-then-run-from
@@ -36,7 +37,7 @@ returns-in_err-lines g c =
     let e = c.from_residual-in_err-lines.ensures in
     record {
       tells = ends_not RepresentsQueues IsLegibleStacks (AreKnown c.args.run) g.S.Store c.args.conn.now c.days_with.new.conn c.lines_with.new.conn _ c.in_ok-days.ensures.reads.looks
-          c.in_err-lines.field-0.0 c.in_err-lines.ensures.reads.cut (λ s shown may kept. c.in_err-lines.ensures.faults s.desk.run_lines shown.desk.run_lines)
+          c.in_err-lines.field-0.0 c.in_err-lines.ensures.reads.cut c.in_err-lines.ensures.reads.spares (λ s shown may kept. c.in_err-lines.ensures.faults s.desk.run_lines shown.desk.run_lines)
           c.from_residual-in_err-lines.result (same_fault c.from_residual-in_err-lines.result c.in_err-lines.field-0.0 e.0 e.1);
     }
 
@@ -49,7 +50,7 @@ returns-in_err-told g c =
     let e = c.from_residual-in_err-told.ensures in
     record {
       tells = ends_not RepresentsQueues IsLegibleStacks (AreKnown c.args.run) g.S.Store c.args.conn.now c.lines_with.new.conn c.candidates_of.new.conn _ (looks_then a b l c.in_ok-days.ensures.reads.looks c.in_ok-lines.ensures.reads.looks)
-          c.in_err-told.field-0.0 c.in_err-told.ensures.tells.cut (λ s shown may kept clean.
+          c.in_err-told.field-0.0 c.in_err-told.ensures.tells.cut c.in_err-told.ensures.tells.spares (λ s shown may kept clean.
           let before = early l z _ c.in_err-told.ensures.tells.cut.crash clean in
           let shown_b = shown_back RepresentsQueues b l c.in_ok-lines.ensures.reads.looks before s shown in
           let are = c.in_ok-lines.ensures.rows before s.desk.run_lines shown_b.desk.run_lines in

@@ -10,6 +10,8 @@ use Rattle.desk_store.specs.Rows.{run_line_cells}
 use Rattle.office_tables.specs.Numbered.{HasNumbered}
 use Rattle.office_tables.specs.Schema as tables
 use Rattle.desk_store.proofs.RunCalls.{free_line, line_more}
+use Rattle.office_tables.proofs.Sparing.{touched_spares, untouched}
+use Rattle.office_tables.specs.Step.{OnlyTouches, Spares}
 use Rattle.desk_store.proofs.runs.insert_lines.Goals as goal
 
 pub loop-line-preserved : goal.loop-line-preserved
@@ -50,3 +52,17 @@ returns-in_err-insert_line-clause-faults g c ls at none apart clean free =
     let whole = cause_then a b d so_far.on before _ why in
     let e = c.from_residual.ensures in
     subst (λ (r : Result Unit StoreFault). IfErr r (HasCause a d)) (sym (same_fault c.from_residual.result c.in_err-insert_line.field-0.0 e.0 e.1)) whole
+
+pub returns-in_err-insert_line-clause-spares : goal.returns-in_err-insert_line-clause-spares
+returns-in_err-insert_line-clause-spares g c clean =
+    let a = state g.S.Store c.args.conn.now in
+    let b = state g.S.Store c.loop-line.conn in
+    let d = state g.S.Store c.insert_line.new.conn in
+    let so_far = c.loop-line.invariant.1 in
+    let lines = tables.run_line.tree ∷ [] in
+    let e = c.in_err-insert_line.field-0.0 in
+    let last = c.in_err-insert_line.ensures.leaves in
+    let before = early b d _ last.crash clean in
+    let all = touched_spares lines a b d so_far.0.on before (so_far.1.0 before) e (untouched lines b d e (last.spares clean)) in
+    let handed = c.from_residual.ensures in
+    subst (λ (r : Result Unit StoreFault). IfErr r (Spares (OnlyTouches lines) a d)) (sym (same_fault c.from_residual.result e handed.0 handed.1)) all

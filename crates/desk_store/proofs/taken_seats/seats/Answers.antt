@@ -24,6 +24,7 @@ returns g c =
             (seats_finds old new at.0 at.1 d.seats shown.seats (λ found. found.items) c.find.result (c.find.ensures.found clean));
         looks = c.find.ensures.reads.looks;
         cut = c.find.ensures.reads.cut;
+        spares = c.find.ensures.reads.spares;
         faults = λ beside d shown may kept clean free.
             let at = c.requires.inside (early old new _ c.find.ensures.reads.crash clean) in
             seats_faults old new at.0 at.1 d.seats shown.seats (λ found. found.items) c.find.result kept.seats free (c.find.ensures.missed clean);

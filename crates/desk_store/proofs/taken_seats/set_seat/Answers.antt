@@ -1,5 +1,5 @@
 use Rattle.std.proofs.Common.{ℕ, Option, [], ◌∷◌, sym, subst}
-use Rattle.office_tables.specs.Calls.{Updates}
+use Rattle.office_tables.specs.Calls.{Makes}
 use Rattle.office_tables.specs.Schema as tables
 use Rattle.desk_store.specs.Seats.{MayTake, with_seat}
 use Rattle.desk_store.specs.Represents.{RepresentsDeskAlone, IsLegible}
@@ -9,13 +9,13 @@ use Rattle.desk_store.proofs.taken_seats.set_seat.Goals as goal
 pub returns-in-Some : goal.returns-in-Some
 returns-in-Some g c =
     record {
-      makes = subst (λ (who : Option ℕ). Updates g.S.Store RepresentsDeskAlone IsLegible c.args.conn.now c.insert_seat.new.conn c.insert_seat.result (MayTake c.args.seat who) (with_seat c.args.seat who) (tables.seat.tree ∷ [])) (sym c.in-Some.is)
+      makes = subst (λ (who : Option ℕ). Makes g.S.Store RepresentsDeskAlone IsLegible c.args.conn.now c.insert_seat.new.conn c.insert_seat.result (MayTake c.args.seat who) (with_seat c.args.seat who) (tables.seat.tree ∷ [])) (sym c.in-Some.is)
           (takes g.S.Store c.args.conn.now c.insert_seat.new.conn c.insert_seat.result c.args.seat c.in-Some.ticket c.insert_seat.ensures.leaves (rw c.from.ensures at c.insert_seat.ensures.puts) (rw c.from.ensures at c.insert_seat.ensures.faults));
     }
 
 pub returns-in-None : goal.returns-in-None
 returns-in-None g c =
     record {
-      makes = subst (λ (who : Option ℕ). Updates g.S.Store RepresentsDeskAlone IsLegible c.args.conn.now c.clear_seat.new.conn c.clear_seat.result (MayTake c.args.seat who) (with_seat c.args.seat who) (tables.seat.tree ∷ [])) (sym c.in-None.is)
+      makes = subst (λ (who : Option ℕ). Makes g.S.Store RepresentsDeskAlone IsLegible c.args.conn.now c.clear_seat.new.conn c.clear_seat.result (MayTake c.args.seat who) (with_seat c.args.seat who) (tables.seat.tree ∷ [])) (sym c.in-None.is)
           (frees g.S.Store c.args.conn.now c.clear_seat.new.conn c.clear_seat.result c.args.seat c.clear_seat.ensures.leaves (rw c.from-in-None.ensures at c.clear_seat.ensures.rows) c.clear_seat.ensures.faults c.clear_seat.ensures.only);
     }

@@ -11,6 +11,7 @@ returns g c =
         answers = λ clean beside d shown. ap (nat_lt 0) (c.in_ok-waiting.ensures.number clean d.orders shown.orders shown.few_orders) ∙ any_counted (waits_for c.args.container) d.orders;
         looks = c.in_ok-waiting.ensures.reads.looks;
         cut = tt;
+        spares = λ clean. tt;
         faults = λ beside d shown may kept clean free. tt;
       };
     }

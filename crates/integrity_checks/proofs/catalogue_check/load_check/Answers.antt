@@ -15,6 +15,8 @@ use Rattle.row_decoding.proofs.ReadCalls.{same_trees, before, reads_then}
 use Rattle.integrity_checks.specs.CatalogueChecks.{units_are_doubtful}
 use Rattle.integrity_checks.specs.CatalogueJudging.{doubt_of_contents}
 use Rattle.integrity_checks.proofs.CatalogueDoubts.{bad_places, bad_units, good_units, units_are_read}
+use Rattle.office_tables.proofs.Sparing.{looked_spares}
+use Rattle.sqlite.specs.State.{HasCleanDisk}
 use Rattle.integrity_checks.proofs.catalogue_check.load_check.Goals as goal
 
 pub returns-in_default-clause-tells : goal.returns-in_default-clause-tells
@@ -25,7 +27,8 @@ returns-in_default-clause-tells g c clean =
 pub returns-in_err-units_are_good-clause-reads : goal.returns-in_err-units_are_good-clause-reads
 returns-in_err-units_are_good-clause-reads g c =
     let cut = cut_then (state g.S.Store c.args.conn.now) (state g.S.Store c.check.new.conn) (state g.S.Store c.units_are_good.new.conn) c.in_ok-placed.ensures.reads.looks.goes.on c.in_err-units_are_good.ensures.reads.cut in
-    record { crash = cut.crash; looks = search rules; cut = search (rules, cut) }
+    let spared = λ (clean : HasCleanDisk (state g.S.Store c.units_are_good.new.conn)). looked_spares (state g.S.Store c.args.conn.now) (state g.S.Store c.check.new.conn) (state g.S.Store c.units_are_good.new.conn) c.in_ok-placed.ensures.reads.looks (early (state g.S.Store c.check.new.conn) (state g.S.Store c.units_are_good.new.conn) _ c.in_err-units_are_good.ensures.reads.cut.crash clean) _ (c.in_err-units_are_good.ensures.reads.spares clean) in
+    record { crash = cut.crash; looks = search rules; cut = search (rules, cut); spares = λ clean. let it = spared clean in search (rules, it) }
 
 pub returns-then-not-branch-clause-tells : goal.returns-then-not-branch-clause-tells
 returns-then-not-branch-clause-tells g c clean =

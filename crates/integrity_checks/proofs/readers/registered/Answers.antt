@@ -13,7 +13,8 @@ gather-requires-clause-ours g c = asks all_readers_text 0 all_readers_command (s
 pub returns-in_err-all-clause-reads : goal.returns-in_err-all-clause-reads
 returns-in_err-all-clause-reads g c =
     let cut = c.in_err-all.ensures.reads.cut in
-    record { crash = c.in_err-all.ensures.reads.crash; looks = search rules; cut = search (rules, cut) }
+    let spares = c.in_err-all.ensures.reads.spares in
+    record { crash = c.in_err-all.ensures.reads.crash; looks = search rules; cut = search (rules, cut); spares = λ clean. let it = spares clean in search (rules, it) }
 
 pub returns-in_err-all-clause-faults : goal.returns-in_err-all-clause-faults
 returns-in_err-all-clause-faults g c clean free =

@@ -9,10 +9,11 @@ use Rattle.office_tables.specs.Numbered.{HasNumbered}
 use Rattle.office_tables.specs.Schema as tables
 use Rattle.office_tables.specs.declared.fault.StoreFault.{StoreFault}
 use Rattle.office_tables.specs.declared.fault.StoreFault.TheVariants as fault
-use Rattle.office_tables.proofs.CallEnds.{excused_then, read_not, same_fault}
-use Rattle.office_tables.proofs.Calls.{cut_after, cut_then, early, looks_then}
+use Rattle.office_tables.proofs.CallEnds.{excused_then, read_cut, read_not, same_fault}
+use Rattle.office_tables.proofs.Calls.{cut_after, early, looks_then}
 use Rattle.refinement.specs.Gate.{is_one_of, says_so}
 use Rattle.refinement.proofs.NearRows.{one_more}
+use Rattle.office_tables.proofs.Sparing.{spares_full}
 use Rattle.refinement.proofs.branch_gate.containers_of_each.Goals as goal
 
 pub returns-in_err-named-clause-reads : goal.returns-in_err-named-clause-reads
@@ -21,8 +22,8 @@ returns-in_err-named-clause-reads g c =
     let b = state g.S.Store c.loop-unit.conn in
     let d = state g.S.Store c.containers_of.new.conn in
     let e = c.from_residual.ensures in
-    read_not a d c.from_residual.result c.in_err-named.field-0.0 (same_fault c.from_residual.result c.in_err-named.field-0.0 e.0 e.1)
-    (cut_then a b d c.loop-unit.invariant.looks.goes.on c.in_err-named.ensures.reads.cut)
+    read_cut a b d c.from_residual.result c.in_err-named.field-0.0 (same_fault c.from_residual.result c.in_err-named.field-0.0 e.0 e.1)
+    c.loop-unit.invariant.looks c.in_err-named.ensures.reads.cut c.in_err-named.ensures.reads.spares
 
 pub returns-in_err-named-clause-faults : goal.returns-in_err-named-clause-faults
 returns-in_err-named-clause-faults g c xs stored small clean free =
@@ -43,7 +44,7 @@ returns-in_err-extend_from_slice-clause-reads g c =
     let d = state g.S.Store c.containers_of.new.conn in
     let e = c.from_residual-in_err-extend_from_slice.ensures in
     read_not a d c.from_residual-in_err-extend_from_slice.result fault.Memory (same_fault c.from_residual-in_err-extend_from_slice.result fault.Memory e.0 e.1)
-    (cut_after a d (looks_then a b d c.loop-unit.invariant.looks c.in_ok-named.ensures.reads.looks).goes.on)
+    (cut_after a d (looks_then a b d c.loop-unit.invariant.looks c.in_ok-named.ensures.reads.looks).goes.on) (spares_full a d (looks_then a b d c.loop-unit.invariant.looks c.in_ok-named.ensures.reads.looks))
 
 pub loop-unit-preserved : goal.loop-unit-preserved
 loop-unit-preserved g c =
