@@ -167,16 +167,18 @@ impl Write for Page {
 /// Clients that stand in a queue, each with what it sends. What each is sent goes to one line, with a bar after it.
 #[derive(Drop)]
 pub struct Queue<'a> {
-    waiting: &'a [&'a str],
+    clients: &'a [&'a str],
+    came: usize,
     line: PipeWriter,
     pub is_shut: bool,
 }
 
 impl<'a> Queue<'a> {
     /// Nobody was talked to yet.
-    pub fn of(waiting: &'a [&'a str], line: PipeWriter) -> Queue<'a> {
+    pub fn of(clients: &'a [&'a str], line: PipeWriter) -> Queue<'a> {
         Queue {
-            waiting,
+            clients,
+            came: 0,
             line,
             is_shut: false,
         }
@@ -189,9 +191,10 @@ impl<'a> Port for Queue<'a> {
     type Writer = PipeWriter;
 
     fn take(&mut self) -> Option<(Pieces<'a>, PipeWriter)> {
-        let (client, others) = self.waiting.split_first()?;
+        let clients = self.clients;
+        let client = clients.get(self.came)?;
         let writer = self.line.try_clone().ok()?;
-        self.waiting = others;
+        self.came = self.came.saturating_add(1);
         Some((Pieces::of(client.as_bytes()), writer))
     }
 
