@@ -9,7 +9,9 @@ one is left that the table EXPLAINED has no reason for.
   1  An item of specs/ or proofs/ is named if a contract, a body, an answer to a goal or another named item
      names it. Answers and Invariants stand for their goals, so their public items are always named, and so are
      the worked rows of proofs/Worked*.antt, each a theorem for itself. Private functions and constants of src/ are named if any other line of the repository has their name.
-  2  Two items are copies if they say the same but for their own name, and their names lead to the same items.
+  2  Two items are copies if they say the same but for their own name, and their names lead to the same items. An
+     abbreviation of one line counts for none: it is a short name, as for the columns of one statement, and two
+     statements may have the same columns.
   3  An import is used if an item that stays has its name; of an operator, each of its parts.
 
 --fix deletes the items of list 1 from specs/ and proofs/ with the comment above each, the imports of list 3, and
@@ -21,8 +23,20 @@ import sys
 
 import unused_read as reader
 
-# What stays though nothing names it: a path, or a path and a name, each with its reason.
+# What stays though nothing names it, or though it stands elsewhere: a path, or a path and a name, each with its reason.
 EXPLAINED = {
+    ('crates/catalogue_core/proofs/DistinctLists.antt', 'all_so'):
+        'atom_csv has it for itself: no crate below it has lemmas on lists',
+    ('crates/store_tests/proofs/Going.antt', 'went_on'):
+        'hierarchy_tests has it, too: the two crates of tests stand beside each other',
+    # Short lemmas that a crate far below has for its own proofs. To share one, it would have to become public there.
+    ('crates/refinement/proofs/BranchesApart.antt', 'housed_more'): 'of catalogue_core, by recursion on the units above',
+    ('crates/refinement/proofs/HoldingRows.antt', 'greater'): 'of office_tables, on numbers in cells',
+    ('crates/nested_sets/proofs/SpanTests.antt', 'not_before'): 'of catalogue_statements, on numbers in cells',
+    ('crates/nested_sets/proofs/SpanQueries.antt', 'all_first'): 'of catalogue_statements, on the first of some records',
+    ('crates/nested_sets/proofs/SpanRepresentation.antt', 'none_repeated'): 'of catalogue_statements: no units',
+    ('crates/tree_core/proofs/TopsLemmas.antt', 'last_two'): 'nested_sets has it, too, for places',
+    ('crates/tree_core/proofs/Whole.antt', 'behind_all'): 'nested_sets has it, too, for spans',
 }
 
 # Names of Rust that a file may import for their methods: a trait is used where no line has its name.
@@ -224,6 +238,11 @@ def unnamed_code(repository):
     return found
 
 
+def is_short_name(item):
+    lines = [line for line in item.code.split('\n') if line.strip()]
+    return len(lines) <= 2 and re.match(r'\s*(pub )?abbrev ', lines[0]) is not None
+
+
 def copies(repository, gone):
     """Groups of items that say the same but for their own name."""
     groups = {}
@@ -238,7 +257,7 @@ def copies(repository, gone):
             if not it.has_names:
                 led[it.here()] = '.'.join(it.path)
         for item in file.items:
-            if item in gone or len(item.names) != 1:
+            if item in gone or len(item.names) != 1 or is_short_name(item):
                 continue
             name = re.escape(item.names[0])
             code = re.sub(rf'(?<![^{reader.DELIMITERS}]){name}(?![^{reader.DELIMITERS}])', '_', item.code)

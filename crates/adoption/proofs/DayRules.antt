@@ -1,5 +1,5 @@
 -- Tables against which there is none of the causes 1 to 9: what is told of the state that they show is told of their rows.
-use Rattle.std.proofs.Common.{◌≡◌, ℕ, Bool, Some, Result, Ok, Err, IsTrue, sym, ap, subst}
+use Rattle.std.proofs.Common.{◌≡◌, ℕ, Bool, Some, Result, IsTrue, sym, ap, subst}
 use Rattle.std.specs.Prelude.{⊤, IfOk}
 use Rattle.sqlite.specs.Held.{Held, state}
 use Rattle.sqlite.specs.State.{State, HasCleanDisk, IsLive}
@@ -26,10 +26,7 @@ use Rattle.adoption.specs.OwnRows.{own_row_of}
 use Rattle.adoption.specs.OrderedTables.{StandInOrder}
 use Rattle.adoption.specs.declared.own_row.OwnRow.{OwnRow}
 use Rattle.adoption.proofs.CauseLemmas.{own_row_is}
-
-if_ok_then : {X E : Type 0} (r : Result X E) (P Q : X → Type 0) → ((x : X) → P x → Q x) → IfOk r P → IfOk r Q
-if_ok_then (Ok x) P Q f h = f x h
-if_ok_then (Err e) P Q f h = tt
+use Rattle.std.proofs.lemmas.Result.{IfOk-weaker}
 
 -- what was open still is
 pub opened_then : (a b : State) → LeavesUnchanged a b → HasCleanDisk b → IsTrue a.is_open → IsTrue b.is_open
@@ -64,7 +61,7 @@ module _ (places : Trees → Forest ℕ → Type 0) (v : Version) {S : Type 0} (
         let it = law good in
         let is = own_row_is v old.now.trees own (sym mine) in
         let s = said v old.now in
-        if_ok_then r (λ broken. CanBeJudged s → own.today ≡ s.day → own.limits.hands ≡ s.settings.hands → broken ≡ breaks_day_rules s) (λ broken. broken ≡ day_is_broken (rows_in v old.now.trees))
+        IfOk-weaker r (λ broken. CanBeJudged s → own.today ≡ s.day → own.limits.hands ≡ s.settings.hands → broken ≡ breaks_day_rules s) (λ broken. broken ≡ day_is_broken (rows_in v old.now.trees))
         (λ broken tells. tells it.judged (ap (λ (o : OwnRow). o.today) is) (ap (λ (o : OwnRow). o.limits.hands) is))
         (told.answers clean tt s it.represents)
 

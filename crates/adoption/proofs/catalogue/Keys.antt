@@ -25,7 +25,7 @@ use Rattle.office_tables.specs.CatalogueCells.{read_unit, read_link, read_span, 
 use Rattle.office_tables.specs.Order.{Rises}
 use Rattle.office_tables.specs.Schema as tables
 use Rattle.office_tables.specs.Schema.{schema}
-use Rattle.office_tables.proofs.Tests.{both, either_first, same_number, same_bytes}
+use Rattle.office_tables.proofs.Tests.{both, same_number, same_bytes}
 use Rattle.row_decoding.specs.TableRows.{by, then_by, places_in}
 use Rattle.state_encoding.specs.CellCauses.{rows_in}
 use Rattle.state_encoding.proofs.shown_cells.OtherOrders.{flips}
@@ -38,6 +38,7 @@ use Rattle.row_completeness.proofs.UniqueRows.{KeysDiffer, keys_differ, read_pai
 use Rattle.adoption.specs.Found.{AreGoodTables}
 use Rattle.adoption.proofs.catalogue.Rules.{IsKeyed, live, rows_keyed, place_whole, unit_whole, element_whole, container_whole, housing_whole, unit_keyed, container_keyed}
 use Rattle.adoption.proofs.catalogue.Readings.{unit_parts, element_parts, container_parts, housing_parts}
+use Rattle.std.proofs.Math.Bool.{and_comm}
 
 -- ---- what a key is of rows that are read
 
@@ -97,7 +98,7 @@ once_key a b x y is said =
     let l = p.container in
     let m = q.container in
     rw (s, t, l, m) (both (same_number x.container y.container ∙ eqb_comm y.container x.container) (same_number x.unit y.unit ∙ eqb_comm y.unit x.unit)
-    ∙ either_first (nat_eq x.container y.container) (nat_eq x.unit y.unit))
+    ∙ and_comm (nat_eq x.container y.container) (nat_eq x.unit y.unit))
 
 -- no two rows that are read have one key
 apart : {X : Type 0} (read : Row → Option X) (alike : X → X → Bool) (places : List ℕ) → ((a b : Row) (x y : X) → read a ≡ Some x → read b ≡ Some y → agree plain places a places b ≡ alike x y)
