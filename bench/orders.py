@@ -1,0 +1,168 @@
+#!/usr/bin/env python3
+"""Measures an office with many past orders, and what large bodies of JSON take:
+
+    bench/orders.py [--program PROGRAM] [--room DIRECTORY] [ORDERS ..]
+
+First `reader` of a ticket that has placed 1, 10, 100 and 1,000 orders before, all cancelled, beside one that waits: the mean of 9,000
+questions in one session, and beside it that of 9,000 questions for what is out, which find nothing here: the difference is the
+answer's own.
+
+Then one request each with a body of 8 MiB, to a program that holds an empty office: how much memory its body takes, as a multiple.
+
+Then, for each of ORDERS (100000 and 1000000 without a word, 10000000 takes some minutes), `check` of an office of that many orders of
+100,000 tickets for 10,000 boxes, each brought by a line of a run of a hundred. Its rows are written by Python's own SQLite. Processor
+seconds and memory, the greatest of the process, stand beside those of the same office without orders.
+"""
+import argparse
+import datetime
+import glob
+import os
+import sqlite3
+import sys
+import tempfile
+
+sys.path.insert(0, os.path.dirname(os.path.abspath(__file__)))
+import measure
+from measure import BUILT, Program, Session, fail, get, post, say
+
+UNITS, TICKETS, IN_A_RUN = 20000, 100000, 100
+TODAY = 19783  # the first of March 2024
+QUESTIONS = 9000  # of the 10,000 messages of a session
+A_DAY = 50
+MIB_8 = 8 * 1024 * 1024
+
+
+def write_orders(store, orders):
+    """Orders that are done, with the runs that brought them."""
+    at = sqlite3.connect(store, isolation_level=None)
+    at.execute("PRAGMA journal_mode = OFF")
+    at.execute("PRAGMA synchronous = OFF")
+    at.execute("PRAGMA cache_size = -1000000")
+    boxes = at.execute("SELECT count(*) FROM container").fetchone()[0]
+    numbers = "WITH RECURSIVE n(i) AS (SELECT 0 UNION ALL SELECT i + 1 FROM n WHERE i + 1 < ?)"
+    at.execute("BEGIN")
+    at.execute(f"{numbers} INSERT INTO reader (ticket, name, until) SELECT i + 1, 'Reader ' || i, ? FROM n", (TICKETS, TODAY + 300))
+    if orders:
+        # a ticket's n-th order is of its n-th day: no more than one a day
+        at.execute(
+            f"{numbers} INSERT INTO orders (id, ticket, container, day, state)"
+            " SELECT i + 1, i % ? + 1, i % ? + 1, ? - i / ?, 3 FROM n",
+            (orders, TICKETS, boxes, TODAY, TICKETS),
+        )
+        runs = -(-orders // IN_A_RUN)
+        at.execute(f"{numbers} INSERT INTO run (id, day) SELECT i + 1, ? FROM n", (runs, TODAY))
+        at.execute(
+            f"{numbers} INSERT INTO run_line (run, container, order_no, ticket)"
+            " SELECT i / ? + 1, i % ? + 1, i + 1, i % ? + 1 FROM n",
+            (orders, IN_A_RUN, boxes, TICKETS),
+        )
+    at.execute("COMMIT")
+    at.close()
+
+
+def begin(program, settings):
+    for file in glob.glob(program.store + "*"):
+        os.remove(file)
+    program.spent(["init", "--store", program.store, *settings])
+
+
+SETTINGS = "--country GB --repo 0999 --seats 200 --daily 50 --hands 10 --run 100 --day 2024-03-01".split()
+
+
+def check_orders(program, archive, counts):
+    say("Orders", "Store", "`check`, processor", "Wall", "Memory")
+    say(*["---"] * 5)
+    for orders in [0, *counts]:
+        begin(program, SETTINGS)
+        program.import_file(archive, 0, "new")
+        write_orders(program.store, orders)
+        spent = program.check()
+        size = os.path.getsize(program.store) / 1e6
+        say(f"{orders:,}", f"{size:.0f} MB", f"{spent.processor:.2f} s", f"{spent.wall:.2f} s", f"{spent.memory / 1e6:.0f} MB")
+
+
+def placed(ticket, before, order, day):
+    """The requests of a ticket's orders, of which all but the last are cancelled, and the number and the day of the last."""
+    asked = []
+    for nth in range(before + 1):
+        if nth % A_DAY == 0:
+            day += datetime.timedelta(days=1)
+            asked.append(post("/desk/day", day=str(day)))
+        order += 1
+        asked.append(post("/public/orders", ticket=ticket, container=7))
+        if nth < before:
+            asked.append(post("/desk/cancel", order=order))
+    return asked, order, day
+
+
+def each(program, path):
+    """Milliseconds of the processor that a question takes, the least of three sessions."""
+    return min(program.ask([get(path)] * QUESTIONS).processor for _ in range(3)) / QUESTIONS * 1000
+
+
+def readers(program, archive):
+    say("Orders before", "`reader`", "What is out", "Difference")
+    say(*["---"] * 4)
+    begin(program, SETTINGS)
+    program.import_file(archive, 0, "new")
+    order, day = 0, datetime.date(2024, 3, 1)
+    for ticket, before in enumerate([1, 10, 100, 1000], 1):
+        asked, order, day = placed(ticket, before, order, day)
+        program.ask([post("/desk/register", name=f"Reader {ticket}", until="2024-12-31"), *asked])
+        took = [each(program, path) for path in (f"/desk/readers/{ticket}", "/desk/issued")]
+        say(f"{before:,}", *(f"{milliseconds:.4f} ms" for milliseconds in (*took, took[0] - took[1])))
+
+
+def filled(first, each, last):
+    """A body of 8 MiB."""
+    return first + each * ((MIB_8 - len(first) - len(last)) // len(each)) + last
+
+
+BODIES = {
+    "`[0,0,..]`": filled(b"[0", b",0", b"]"),
+    '`{"x":[0,0,..]}`': filled(b'{"x":[0', b",0", b"]}"),
+    "`[[],[],..]`": filled(b"[[]", b",[]", b"]"),
+    "`[{},{},..]`": filled(b"[{}", b",{}", b"]"),
+    '`["","",..]`': filled(b'[""', b',""', b"]"),
+    '`["a","a",..]`': filled(b'["a"', b',"a"', b"]"),
+    '`{"0":0,"1":0,..}`': b"{" + b",".join(b'"%x":0' % n for n in range(800000)) + b"}",
+    "one text": filled(b'{"name":"', b"a", b'"}'),
+    "spaces": b" " * (MIB_8 - 2) + b"{}",
+}
+
+
+def bodies(program):
+    say("Body", "Bytes", "Memory", "Without", "Times the body")
+    say(*["---"] * 5)
+    begin(program, SETTINGS)
+    for name, body in BODIES.items():
+        session = Session(program.program, program.store)
+        before = session.memory()
+        session.send(b"POST /desk/cancel HTTP/1.1\r\nHost: x\r\nContent-Length: %d\r\n\r\n" % len(body) + body)
+        status = session.running.stdout.readline()
+        if status not in (b"HTTP/1.1 400 Bad Request\r\n", b"HTTP/1.1 503 Service Unavailable\r\n"):
+            fail(f"{name}: {status!r}")
+        memory = session.memory()
+        session.running.kill()
+        session.running.wait()
+        say(name, f"{len(body):,}", f"{memory / 1e6:.0f} MB", f"{before / 1e6:.0f} MB", f"{(memory - before) / len(body):.1f}")
+
+
+def main():
+    words = argparse.ArgumentParser(description=__doc__, formatter_class=argparse.RawDescriptionHelpFormatter)
+    words.add_argument("--program", default=BUILT)
+    words.add_argument("--room", default=None)
+    words.add_argument("orders", type=int, nargs="*", metavar="ORDERS")
+    given = words.parse_args()
+    with tempfile.TemporaryDirectory(dir=given.room) as room:
+        program = Program(os.path.abspath(given.program), room)
+        archive = measure.Archive(UNITS)
+        readers(program, archive)
+        print()
+        bodies(program)
+        print()
+        check_orders(program, archive, given.orders or [100000, 1000000])
+
+
+if __name__ == "__main__":
+    main()
