@@ -60,8 +60,8 @@ ExpiredHolder =
 abbrev pub PermitsOfTheExpired : Type 0
 PermitsOfTheExpired =
     Answers
-    (import boxes ∷ Register (codes "Ann") february_1 ∷ Permit 1 2 april_1 ∷ Revoke 1 2 ∷ Revoke 1 2 ∷ [])
-    (four_new ∷ Ok (done.Register 1) ∷ Ok (done.Permit 1 2 april_1) ∷ Ok (done.Revoke 2) ∷ refused NoPermit ∷ [])
+    (import boxes ∷ Register (codes "Ann") february_1 ∷ Permit 1 2 april_1 ∷ Revoke 1 1 ∷ Revoke 1 2 ∷ Revoke 1 2 ∷ [])
+    (four_new ∷ Ok (done.Register 1) ∷ Ok (done.Permit 1 2 april_1) ∷ refused NoPermit ∷ Ok (done.Revoke 2) ∷ refused NoPermit ∷ [])
 
 -- the later day stands, though it is past
 abbrev pub PermitOfAnEarlierDay : Type 0

@@ -3,7 +3,7 @@
 use Rattle.std.specs.Prelude.{[], ◌∷◌, codes}
 use Rattle.isad_core.specs.Texts.{Bytes}
 use Rattle.desk_core.specs.declared.refusal.Refusal.TheVariants.{UnknownUnit}
-use Rattle.office_core.specs.declared.command.Command.TheVariants.{OpenDay, TakeSeat, Order, Run, Issue, Permit}
+use Rattle.office_core.specs.declared.command.Command.TheVariants.{OpenDay, Remove, Renew, TakeSeat, Order, Run, Issue, Permit, Revoke}
 use Rattle.office_core.specs.declared.query.Query.TheVariants.{Fonds, Aid, Page, ReaderOrders, Queue, RunSlip, IssuedNow, ReaderPermits}
 use Rattle.office_core.specs.declared.query.Answer.TheVariants.{Text, Json, Unknown}
 use Rattle.office_core.specs.WorkedAnswers.{Says}
@@ -56,3 +56,27 @@ abbrev pub LinesInOrder : Type 0
 LinesInOrder =
     Says (import harbour ∷ []) (Page 1)
     (Text (codes "GB 0999 HUL [Series] Docks\n  3.3.1 Scope and content: Ships\n  3.4.1 Conditions governing access: Open\n  Unit 2: GB 0999 HUL/1 [Series] Minutes\n"))
+
+-- ---- what is easily told of another
+
+-- two containers with one name and location
+abbrev pub two_kinds : Bytes
+two_kinds =
+    codes "legacyId,title,publicationStatus,physicalObjectName,physicalObjectLocation,physicalObjectType\n1,Plans,Published,Box 1,East,Map case\n2,Minutes,Published,Box 1,East,Folder\n"
+
+abbrev pub two_series : Bytes
+two_series =
+    codes "legacyId,parentId,identifier,title,levelOfDescription,publicationStatus\n1,,HUL,Hull Dock Company,Fonds,Published\n2,1,1,Minutes,Series,Published\n3,1,2,Maps,Series,Published\n"
+
+-- each reader has an own name, day, orders and permits; a slip goes by kind where name and location are the same; the number
+-- of what was removed is not given again; and a page lists what is below it in its order
+pub record ToldApart : Type 0 where
+  pub orders : Says (import boxes ∷ ann ∷ bob ∷ Order 1 2 ∷ Order 2 1 ∷ []) (ReaderOrders 2)
+      (Json (codes "{\"name\":\"Bob\",\"orders\":[{\"container\":1,\"order\":2,\"state\":\"waiting\"}],\"seat\":null,\"ticket\":2,\"until\":\"2024-12-31\"}"))
+  pub renewed : Says (ann ∷ Renew 1 march_31 ∷ []) (ReaderOrders 1) (Json (codes "{\"name\":\"Ann\",\"orders\":[],\"seat\":null,\"ticket\":1,\"until\":\"2024-03-31\"}"))
+  pub permits : Says (import lock_gates ∷ ann ∷ bob ∷ Permit 2 1 march_31 ∷ []) (ReaderPermits 1) (Json (codes "[]"))
+  pub revoked : Says (import lock_gates ∷ ann ∷ bob ∷ Permit 1 1 march_31 ∷ Permit 2 1 march_31 ∷ Revoke 2 1 ∷ []) (ReaderPermits 1) (Json (codes "[{\"unit\":1,\"until\":\"2024-03-31\"}]"))
+  pub kinds : Says (import two_kinds ∷ ann ∷ Order 1 1 ∷ Order 1 2 ∷ Run ∷ []) (RunSlip 1)
+      (Text (codes "Run 1  2024-03-01\nEast                 Box 1                 2        2       1\nEast                 Box 1                 1        1       1\n"))
+  pub numbers : Says (import docks ∷ Remove 2 ∷ import docks ∷ []) (Aid 3) (Text (codes "GB 0999 HUL/1 [Series] Minutes\n"))
+  pub children : Says (import two_series ∷ []) (Page 1) (Text (codes "GB 0999 HUL [Fonds] Hull Dock Company\n  Unit 2: GB 0999 HUL/1 [Series] Minutes\n  Unit 3: GB 0999 HUL/2 [Series] Maps\n"))

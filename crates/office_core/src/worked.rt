@@ -94,6 +94,7 @@ pub fn worked_shown_rows()
     ensures permit_kept { shown.PermitKept }
     ensures nearest_above { shown.NearestAbove }
     ensures lines_in_order { shown.LinesInOrder }
+    ensures told_apart { shown.ToldApart }
 {}
 
 /// Of several refusals that hold at once, the first of the command's list is told.

@@ -15,6 +15,7 @@ told =
       top = refl;
       span_below_0 = refl;
       lft_below_0 = refl;
+      no_lft = refl;
       no_rgt = refl;
       span = refl;
       draft_2 = refl;

@@ -52,6 +52,7 @@ pub record Told : Type 0 where
   pub top : is_unread 2 tables.link.tree (Int (pos 1) ∷ Null ∷ Null ∷ Int (pos 1) ∷ []) ≡ Some false
   pub span_below_0 : is_unread_span (minus 1 ∷ Null ∷ Int (pos 1) ∷ Int (pos 2) ∷ []) ≡ Some true
   pub lft_below_0 : is_unread_span (Int (pos 1) ∷ Null ∷ minus 1 ∷ Int (pos 2) ∷ []) ≡ Some true
+  pub no_lft : is_unread_span (Int (pos 1) ∷ Null ∷ Null ∷ Int (pos 2) ∷ []) ≡ Some true
   pub no_rgt : is_unread_span (Int (pos 1) ∷ Null ∷ Int (pos 1) ∷ Null ∷ []) ≡ Some true
   pub span : is_unread_span (Int (pos 1) ∷ Null ∷ Int (pos 1) ∷ Int (pos 2) ∷ []) ≡ Some false
   -- the units

@@ -130,6 +130,7 @@ pub record Told : Type 0 where
   pub ticket_for_ever : tests_with (record desk { readers = ann ∷ record bob { until = year_10000 } ∷ [] }) ≡ just_6
   -- seats
   pub seat_of_another_office : tests_with (record desk { seats = ann_sits ∷ record { seat = 3; ticket = 2 } ∷ [] }) ≡ just_6
+  pub a_third_seat : desk_tests (record sound { office = record sound.office { seats = 3 }; desk = record desk { seats = ann_sits ∷ record { seat = 3; ticket = 2 } ∷ [] } }) ≡ none_of_them
   pub seat_without_a_number : tests_with (record desk { seats = record { seat = 0; ticket = 2 } ∷ ann_sits ∷ [] }) ≡ just_6
   pub stranger_sits : tests_with (record desk { seats = ann_sits ∷ record { seat = 2; ticket = 3 } ∷ [] }) ≡ just_6
   -- permits
@@ -146,6 +147,8 @@ pub record Told : Type 0 where
   pub order_before_1900 : tests_with (record desk { orders = first_order ∷ record second_order { day = neg_ℤ (pos 25568) } ∷ third_order ∷ [] }) ≡ just_7
   pub order_of_tomorrow : tests_with (record desk { orders = first_order ∷ record second_order { day = march_2 } ∷ third_order ∷ [] }) ≡ just_7
   pub one_too_many_that_day : tests_with (record desk { orders = first_order ∷ second_order ∷ third_order ∷ record third_order { id = 4 } ∷ [] }) ≡ just_7
+  pub two_tickets_that_day : tests_with (record desk { orders = first_order ∷ second_order ∷ third_order ∷ record third_order { id = 4; ticket = 1 } ∷ [] }) ≡ none_of_them
+  pub a_third_that_day : desk_tests (record sound { office = record sound.office { daily = 3 }; desk = record desk { orders = first_order ∷ second_order ∷ third_order ∷ record third_order { id = 4 } ∷ [] } }) ≡ none_of_them
   pub order_twice : tests_with (record desk { orders = first_order ∷ second_order ∷ third_order ∷ record first_order { id = 4; state = 1 } ∷ [] }) ≡ just_7
   pub order_again_once_done : tests_with (record desk { orders = first_order ∷ second_order ∷ third_order ∷ record third_order { id = 4; day = february_1; state = 1 } ∷ [] }) ≡ none_of_them
   -- places

@@ -11,7 +11,7 @@ use Rattle.atom_csv.specs.Columns.{columns}
 use Rattle.atom_csv.specs.Values.{described}
 use Rattle.catalogue_core.specs.Housing.{is_open}
 use Rattle.catalogue_core.specs.Intake.{take}
-use Rattle.office_core.specs.WorkedShown.{ClosedShown, OldSlips, Lists, PermitKept, NearestAbove, LinesInOrder}
+use Rattle.office_core.specs.WorkedShown.{ClosedShown, OldSlips, Lists, PermitKept, NearestAbove, LinesInOrder, ToldApart}
 
 pub closed_shown : ClosedShown
 unfolding is_open take is_utf8 chars encode records_from strip_bom next_record columns described digits day_text
@@ -36,3 +36,7 @@ nearest_above = record { file = refl; series = refl }
 pub lines_in_order : LinesInOrder
 unfolding is_open take is_utf8 chars encode records_from strip_bom next_record columns described digits day_text
 lines_in_order = refl
+
+pub told_apart : ToldApart
+unfolding is_open take is_utf8 chars encode records_from strip_bom next_record columns described digits day_text serde_json_on_literals
+told_apart = record { orders = refl; renewed = refl; permits = refl; revoked = refl; kinds = refl; numbers = refl; children = refl }

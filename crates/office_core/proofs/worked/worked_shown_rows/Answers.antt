@@ -18,3 +18,6 @@ returns-clause-nearest_above c = row.nearest_above
 
 pub returns-clause-lines_in_order : goal.returns-clause-lines_in_order
 returns-clause-lines_in_order c = row.lines_in_order
+
+pub returns-clause-told_apart : goal.returns-clause-told_apart
+returns-clause-told_apart c = row.told_apart

@@ -1,0 +1,151 @@
+"""Many turned definitions in one check: each stands in copies of the modules that rest on it, beside the others.
+
+A case is a turned text of one module of specs/, and the proof files that are asked. All modules between the two are
+copied into a crate of the check's own, below a name of the case: those that rest on the turned module, and that the asked
+files rest on. The others are taken from the libraries that are there. So no case touches another, no library is built
+again, and the check starts once for many cases."""
+
+import os
+import re
+import shutil
+import subprocess
+
+KIT = "/opt/rattle"
+CRATE = "turned_rules"
+NAME = re.compile(r"Rattle\.(\w+)\.(?:specs|proofs)(?:\.\w+)+")
+NODE = re.compile(r"^(?:pub )?mod \w+\n", re.M)
+ERROR = re.compile(r"^(?:\./)?(specs|proofs)/(\w+)/(\w+)\.antt:(\d+:\d+): error: (.*)$", re.M)
+OF_PROOFS = ("Answers.antt", "Invariants.antt", "Proof.antt")
+
+
+class Modules:
+    """The modules of the specs and proofs of a repository's crates, by name: where each stands, and what it names."""
+
+    def __init__(self, top):
+        self.top, self.path, self.text = top, {}, {}
+        for crate in sorted(os.listdir(f"{top}/crates")):
+            for kind in ("specs", "proofs"):
+                root = f"{top}/crates/{crate}/{kind}"
+                for folder, _, files in os.walk(root):
+                    for file in files:
+                        path = f"{folder}/{file}"
+                        if file.endswith(".antt") and file not in OF_PROOFS:
+                            inner = os.path.relpath(path, root)[: -len(".antt")].replace("/", ".")
+                            self.add(f"Rattle.{crate}.{kind}.{inner}", path)
+        self.names = {name: self.named(text) for name, text in self.text.items()}
+        self.users = {name: set() for name in self.names}
+        for name, named in self.names.items():
+            for it in named:
+                self.users[it].add(name)
+
+    def add(self, name, path):
+        self.path[name] = path
+        self.text[name] = NODE.sub("", open(path, encoding="utf-8").read())
+
+    def longest(self, word):
+        """The module that a whole name begins with, or none."""
+        while word.count(".") > 2:
+            if word in self.path:
+                return word
+            word = word.rsplit(".", 1)[0]
+        return None
+
+    def named(self, text):
+        return {it for it in map(self.longest, (at[0] for at in NAME.finditer(text))) if it}
+
+    def reach(self, starts, edges):
+        seen, queue = set(), list(starts)
+        while queue:
+            name = queue.pop()
+            if name not in seen:
+                seen.add(name)
+                queue.extend(edges[name])
+        return seen
+
+    def between(self, turned, asked):
+        """The modules that rest on the turned one and that the asked ones rest on, all of these among them."""
+        above = self.reach([turned], self.users)
+        return {turned} | above & self.reach([it for it in asked if it in above], self.names)
+
+    def of_path(self, path):
+        crate, kind, inner = re.fullmatch(r"crates/(\w+)/(specs|proofs)/(.*)\.antt", path).groups()
+        return f"Rattle.{crate}.{kind}.{inner.replace('/', '.')}"
+
+
+def flat(name):
+    """The name of a copy in its folder."""
+    _, crate, _, *inner = name.split(".")
+    return "_".join([crate, *inner])
+
+
+class Bench:
+    """A crate of the check's own in a folder, over the libraries of a repository."""
+
+    def __init__(self, modules, folder, over, top_crate):
+        self.modules, self.folder, self.over, self.top_crate = modules, folder, over, top_crate
+        shutil.rmtree(folder, ignore_errors=True)
+        os.makedirs(f"{folder}/src")
+        self.write("src/lib.rt", "//! Nothing.\n#![tactic(auto)]\n")
+        self.cases = []
+
+    def write(self, path, text):
+        os.makedirs(os.path.dirname(f"{self.folder}/{path}"), exist_ok=True)
+        with open(f"{self.folder}/{path}", "w", encoding="utf-8") as out:
+            out.write(text)
+
+    def add(self, case, turned, text, asked):
+        """Writes the copies of a case; the number of them."""
+        copies = self.modules.between(turned, asked)
+        inside = {"specs": [], "proofs": []}
+        for name in sorted(copies):
+            kind = name.split(".")[2]
+            own = text if name == turned else self.modules.text[name]
+            self.write(f"{kind}/{case}/{flat(name)}.antt", self.renamed(own, case, copies))
+            inside[kind].append(flat(name))
+        for kind, names in inside.items():
+            self.write(f"{kind}/{case}.antt", "".join(f"pub mod {it}\n" for it in names))
+        self.cases.append(case)
+        return len(copies)
+
+    def renamed(self, text, case, copies):
+        def new(at):
+            module = self.modules.longest(at[0])
+            if module not in copies:
+                return at[0]
+            kind = module.split(".")[2]
+            return f"Rattle.{CRATE}.{kind}.{case}.{flat(module)}{at[0][len(module):]}"
+
+        return NAME.sub(new, text)
+
+    def words(self):
+        needs = {}
+        for line in open(f"{self.over}/crates.txt", encoding="utf-8"):
+            if re.match(r"\w+", line):
+                needs[line.split(":")[0].split()[0]] = line.split(":")[1].split()
+        folder = {it: f"{self.over}/crates/{it}/out/rlib" for it in needs}
+        words = ["--extern", f"std={KIT}/rlibs/std.rlib", "-L", f"dependency={KIT}/rlibs"]
+        below = [self.top_crate]
+        for it in [self.top_crate, *needs[self.top_crate]]:
+            words += ["--extern", f"{it}={folder[it]}/{it}.rlib" if it in needs else f"{it}={KIT}/rlibs/{it}.rlib"]
+        for it in below:
+            below += [more for more in needs[it] if more in needs and more not in below]
+        for it in below:
+            words += ["-L", f"dependency={folder[it]}"]
+        return words
+
+    def check(self):
+        """What the check says: of each case its errors, as (kind, module, place, text); or none where it did not end."""
+        for kind in ("specs", "proofs"):
+            self.write(f"{kind}/Lib.antt", "".join(f"pub mod {it}\n" for it in self.cases))
+        project = f"{KIT}/rattle/logic/antt-project.json"
+        words = [f"{KIT}/bin/rattle", "check", "--crate-name", CRATE, "src/lib.rt", *self.words()]
+        words += ["--antt-project", project, "--logic-built", f"{KIT}/logic_built", "--links", f"{CRATE}=", "--jobs", "1"]
+        ran = subprocess.run(words, cwd=self.folder, stdin=subprocess.DEVNULL, capture_output=True, text=True)
+        said = ran.stdout + ran.stderr
+        self.write("said", said)
+        if not re.search(r"^logic=", said, re.M):
+            return None
+        told = {case: [] for case in self.cases}
+        for at in ERROR.finditer(said):
+            told[at[2]].append((at[1], at[3], at[4], at[5]))
+        return told
