@@ -86,7 +86,7 @@ class Bench:
         shutil.rmtree(folder, ignore_errors=True)
         os.makedirs(f"{folder}/src")
         self.write("src/lib.rt", "//! Nothing.\n#![tactic(auto)]\n")
-        self.cases = []
+        self.cases, self.said = [], ""
 
     def write(self, path, text):
         os.makedirs(os.path.dirname(f"{self.folder}/{path}"), exist_ok=True)
@@ -141,7 +141,7 @@ class Bench:
         words = [f"{KIT}/bin/rattle", "check", "--crate-name", CRATE, "src/lib.rt", *self.words()]
         words += ["--antt-project", project, "--logic-built", f"{KIT}/logic_built", "--links", f"{CRATE}=", "--jobs", "1"]
         ran = subprocess.run(words, cwd=self.folder, stdin=subprocess.DEVNULL, capture_output=True, text=True)
-        said = ran.stdout + ran.stderr
+        self.said = said = ran.stdout + ran.stderr
         self.write("said", said)
         if not re.search(r"^logic=", said, re.M):
             return None

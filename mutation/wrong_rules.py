@@ -97,7 +97,9 @@ class Run:
             bench.add(*case)
         start = time.time()
         told = bench.check()
-        said = "no verdict" if told is None else f"{len(cases)} cases, {time.time() - start:.0f} s"
+        said = f"{len(cases)} cases, {time.time() - start:.0f} s"
+        if told is None:
+            said = f"no verdict: {bench.said.strip().splitlines()[-1:]}"
         print(f"  (check {number} over {crate}: {said})", flush=True)
         return told or {}
 
