@@ -23,11 +23,11 @@ returns-in_err-enter_unit-clause-makes g c =
     let e = c.in_err-enter_unit.field-0.0 in
     makes_same_fault g.S.Store (RepresentsEntering g.P.Places.version) (λ _. ⊤) (MayCome source row c.args.next) (with_new source row) described_trees c.args.conn.now c.enter_unit.new.conn e c.from_residual.result
     (same_fault c.from_residual.result e handed.0 handed.1)
-    (makes_new g.S.Store g.P.Places.version source row c.args.next c.args.conn.now c.enter_unit.new.conn _ (as_updates _ _ _ _ _ _ _ _ _ (c.in_err-enter_unit.ensures.makes g.P.Places.version)))
+    (makes_new g.S.Store g.P.Places.version source row c.args.next c.args.conn.now c.enter_unit.new.conn _ (λ parent. as_updates _ _ _ _ _ _ _ _ _ (c.in_err-enter_unit.ensures.makes g.P.Places.version parent)))
 
 pub returns-clause-makes : goal.returns-clause-makes
 returns-clause-makes g c =
     let source = c.args.source.now in
     let row = c.args.row.now in
     makes_same g.S.Store (RepresentsEntering g.P.Places.version) (λ _. ⊤) (MayCome source row c.args.next) (with_new source row) described_trees c.args.conn.now c.enter_unit.new.conn _ entry.New
-    (makes_new g.S.Store g.P.Places.version source row c.args.next c.args.conn.now c.enter_unit.new.conn _ (as_updates _ _ _ _ _ _ _ _ _ (c.in_ok-enter_unit.ensures.makes g.P.Places.version)))
+    (makes_new g.S.Store g.P.Places.version source row c.args.next c.args.conn.now c.enter_unit.new.conn _ (λ parent. as_updates _ _ _ _ _ _ _ _ _ (c.in_ok-enter_unit.ensures.makes g.P.Places.version parent)))

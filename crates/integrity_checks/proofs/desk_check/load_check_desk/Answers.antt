@@ -2,6 +2,7 @@ use Rattle.std.proofs.Common.{◌≡◌, Some, sym, subst, ◌∙◌}
 use Rattle.std.specs.Prelude.{IfOk}
 use Rattle.sqlite.specs.Held.{state}
 use Rattle.sqlite.specs.Tree.{Trees}
+use Rattle.office_tables.proofs.CallEnds.{read_cut, same_fault}
 use Rattle.office_tables.proofs.Calls.{early, looks_then}
 use Rattle.desk_core.specs.RowRecords.{Surrounds}
 use Rattle.row_decoding.specs.TableRows.{desk_in}
@@ -40,3 +41,13 @@ returns-clause-tells g c clean =
     let rest = subst (λ (db : Trees). Surrounds around a (desk_in db) → IfOk c.check_cards.result (λ told. told ≡ doubt_beside_readers a db))
     (same_trees old late (looks_then old mid late one two) clean_late) (c.check_cards.ensures.tells clean a) held in
     subst (λ d. IfOk c.check_cards.result (λ told. told ≡ d)) (doubt_of_cards a db readers count) rest
+
+pub returns-in_err-around-clause-reads : goal.returns-in_err-around-clause-reads
+returns-in_err-around-clause-reads g c =
+    let old = state g.S.Store c.args.conn.now in
+    let mid = state g.S.Store c.registered.new.conn in
+    let new = state g.S.Store c.surroundings.new.conn in
+    let e = c.in_err-around.field-0.0 in
+    let handed = c.from_residual-in_err-around.ensures in
+    read_cut old mid new c.from_residual-in_err-around.result e (same_fault c.from_residual-in_err-around.result e handed.0 handed.1)
+    c.in_ok-readers.ensures.reads.looks c.in_err-around.ensures.reads.cut c.in_err-around.ensures.reads.spares

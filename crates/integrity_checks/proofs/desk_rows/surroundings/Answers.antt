@@ -3,6 +3,7 @@ use Rattle.std.proofs.lemmas.Int.{to_z-of_z}
 use Rattle.sqlite.specs.Held.{state}
 use Rattle.sqlite.specs.Tree.{Trees}
 use Rattle.office_tables.specs.Schema as tables
+use Rattle.office_tables.proofs.CallEnds.{read_cut, same_fault}
 use Rattle.office_tables.proofs.Calls.{looks_then}
 use Rattle.row_decoding.specs.Readings.{AreRead, in_any_order, read_number}
 use Rattle.row_decoding.proofs.ReadCalls.{reads_well, same_trees, before}
@@ -33,3 +34,13 @@ returns-clause-tells g c clean count =
     let is = c.from-4.ensures ∙ to_z-of_z w32 c.number.result narrow ∙ c.number.ensures.number in
     let day : c.args.today ≡ to_z w64 (of_z w64 c.from-4.result) = sym is ∙ sym (to_z-of_z w64 c.from-4.result wide) in
     surrounded _ c.args.limits.now c.args.today db (search rules) (search rules) (search rules) day (λ n. units n ∙ sym (c.sorted.ensures n)) (λ n. containers n ∙ sym (c.sorted-2.ensures n)) count
+
+pub returns-in_err-containers-clause-reads : goal.returns-in_err-containers-clause-reads
+returns-in_err-containers-clause-reads g c =
+    let old = state g.S.Store c.args.conn.now in
+    let mid = state g.S.Store c.unit_numbers.new.conn in
+    let new = state g.S.Store c.container_numbers.new.conn in
+    let e = c.in_err-containers.field-0.0 in
+    let handed = c.from_residual-in_err-containers.ensures in
+    read_cut old mid new c.from_residual-in_err-containers.result e (same_fault c.from_residual-in_err-containers.result e handed.0 handed.1)
+    c.in_ok-units.ensures.reads.looks c.in_err-containers.ensures.reads.cut c.in_err-containers.ensures.reads.spares
