@@ -1,6 +1,6 @@
 -- Carrying out an import: the rows are entered, and then the outcome is judged.
-use Rattle.std.proofs.Common.{◌≡◌, ℕ, ℤ, Bool, true, false, cond, ◌≤◌, List, [], ◌∷◌, length, map, Option, Some, None, Result, Ok, Err, OnOk, refl, sym, ap, subst, ◌∙◌}
-use Rattle.std.specs.Prelude.{⊤, IfOk, IsOk, nat_lt}
+use Rattle.std.proofs.Common.{◌≡◌, ℕ, ℤ, Bool, true, false, cond, ◌≤◌, List, [], ◌∷◌, length, map, Option, Some, None, Result, Ok, Err, refl, sym, ap, subst, ◌∙◌}
+use Rattle.std.specs.Prelude.{⊤, IsOk, nat_lt}
 use Rattle.sqlite.specs.Effect.{Database}
 use Rattle.sqlite.specs.Held.{Held, state}
 use Rattle.sqlite.specs.State as store
@@ -49,6 +49,7 @@ use Rattle.csv_import.specs.Known.{TellsUnits}
 use Rattle.csv_import.specs.Remarking.{HaveUnits}
 use Rattle.csv_import.specs.declared.row_entry.Counts.{Counts}
 use Rattle.csv_import.proofs.Imports.{after_is, can_enter, entered_is, has_imported, now, refusal_is, same_desk, texts_stay, told_is}
+use Rattle.refinement.proofs.Passing.{if_ok_with}
 
 pub settings_shown : (s : State) → HasLegibleSettings s → AreLegibleSettings (office_of s)
 settings_shown s it = record { country = it.country; repo = it.repo; seats = it.seats; daily = it.daily; hands = it.hands; run_size = it.run_size; day = it.day }
@@ -88,10 +89,6 @@ judged_step places version s t asked db becomes last r is shown = at (nat_lt mos
     at false None e f =
         accept (last ∙ (ap (λ (b : Bool). first_that_holds (when b Full ∷ gate t ∷ [])) e ∙ ap (λ w. first_that_holds (w ∷ [])) f))
         (is ∙ (ap (λ (b : Bool). cond b (Err Full) (gated t (told s asked))) e ∙ ap (λ w. unless_refused w (told s asked)) f))
-
-if_ok_with : {X E : Type 0} (r : Result X E) (L : Type 0) (P Q : X → Type 0) → ((x : X) → L → P x → Q x) → OnOk r L → IfOk r P → IfOk r Q
-if_ok_with (Ok x) L P Q f l h = f x l h
-if_ok_with (Err e) L P Q f l h = tt
 
 module _ {S : Type 0} (g : kept_in.Ghosts S) (places : Trees → Forest ℕ → Type 0) (version : Version) (today : ℤ) (source bytes : Bytes) (file : File) (read : file_of bytes ≡ Ok file) (numbers : Bytes → Option ℕ) (before : store.State) (mid after_it : Held S) (r : Result Reply StoreFault) (counts : Counts) (units : List ℕ) where
   abbrev b : store.State

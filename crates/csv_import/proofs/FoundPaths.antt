@@ -2,7 +2,7 @@
 use Rattle.std.proofs.Common.{◌≡◌, ℕ, suc, ◌+◌, Bool, true, false, not, cond, ◌&&◌, ◌||◌, List, [], ◌∷◌, length, map, Option, Some, None, refl, sym, ap, ap₂, subst, ◌∙◌, inl, inr, nat_eq, arith}
 use Rattle.std.specs.Prelude.{find, is_some}
 use Rattle.std.specs.List.{AllByRecursion, list_any}
-use Rattle.std.proofs.lemmas.Bool.{and_parts, eqb-true, false≢true, ne_eqb, or_cases, or_parts}
+use Rattle.std.proofs.lemmas.Bool.{and_parts, eqb-true, false≢true, or_cases, or_parts}
 use Rattle.isad_core.specs.Texts.{Bytes}
 use Rattle.tree_core.specs.Forest.{Forest, Empty, Node, each, has, nodes, path}
 use Rattle.tree_core.proofs.EachLemmas.{path-each}
@@ -12,7 +12,7 @@ use Rattle.catalogue_core.specs.Merging.{Catalogue, depth_under}
 use Rattle.catalogue_core.specs.Units.{Unit, has_id, is_from}
 use Rattle.catalogue_core.proofs.EachOf.{all_split, none_found}
 use Rattle.catalogue_core.proofs.EachRow.{found_numbers}
-use Rattle.catalogue_core.proofs.Rooted.{has_node}
+use Rattle.refinement.proofs.Paths.{path_there}
 
 -- ---- paths
 
@@ -28,16 +28,6 @@ same_path p q (Node u c o) h =
     ap (λ (b : Bool). cond b (u ∷ []) (cond (has p c) (u ∷ path p c) (path p o))) h.0
     ∙ (ap (λ (b : Bool). cond (q u) (u ∷ []) (cond b (u ∷ path p c) (path p o))) (same_any p q (nodes c) parts.0)
     ∙ ap₂ (λ (x y : List Unit). cond (q u) (u ∷ []) (cond (has q c) (u ∷ x) y)) (same_path p q c parts.0) (same_path p q o parts.1))
-
--- there is a path where there is such a unit
-pub path_there : (is : Unit → Bool) (f : Forest Unit) → nat_eq (length (path is f)) 0 ≡ not (has is f)
-path_there is Empty = refl
-path_there is (Node a c o) = at (is a) (has is c) (path_there is o) ∙ sym (ap not (has_node is a c o))
-  where
-    at : (b d : Bool) → nat_eq (length (path is o)) 0 ≡ not (has is o) → nat_eq (length (cond b (a ∷ []) (cond d (a ∷ path is c) (path is o)))) 0 ≡ not (b || (d || has is o))
-    at true d rest = ne_eqb 1 0 (λ z. absurd (omega (arith, z)))
-    at false true rest = ne_eqb (suc (length (path is c))) 0 (λ z. absurd (omega (arith, z)))
-    at false false rest = rest
 
 no_length : {A : Type 0} (xs : List A) → nat_eq (length xs) 0 ≡ true → xs ≡ []
 no_length [] h = refl

@@ -48,9 +48,6 @@ module _ (c : Catalogue) (source : Bytes) where
   abbrev IsTold : (Bytes → Option ℕ) → Row → Type 0
   IsTold numbers row = numbers row.legacy ≡ number_there c source row.legacy
 
-  pub none_known : (numbers : Bytes → Option ℕ) → ((legacy : Bytes) → numbers legacy ≡ None) → KnowsUnits c source [] numbers
-  none_known numbers none = record { sound = λ legacy. subst (λ o. IfSome o (λ unit. number_there c source legacy ≡ Some unit)) (sym (none legacy)) tt; each = tt }
-
   pub one_known : (numbers after : Bytes → Option ℕ) (rows : List Row) (row : Row) (unit : ℕ) → KnowsUnits c source rows numbers → Some unit ≡ number_there c source row.legacy
       → ((q : Bytes) → after q ≡ cond (bytes_eq q row.legacy) (Some unit) (numbers q)) → KnowsUnits c source (rows ++ row ∷ []) after
   one_known numbers after rows row unit it is more = record {

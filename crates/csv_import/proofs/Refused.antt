@@ -2,36 +2,26 @@
 use Rattle.std.proofs.Common.{◌≡◌, ℕ, ◌+◌, Bool, true, false, ◌||◌, List, [], ◌∷◌, length, Some, Ok, Err, refl, sym, ap, ap₂, ◌∙◌, arith}
 use Rattle.std.specs.Prelude.{nat_le, nat_lt, None}
 use Rattle.std.proofs.lemmas.Bool.{and_from, false≢true, le-leb, ltb-false}
-use Rattle.sqlite.specs.Effect.{Database}
-use Rattle.sqlite.specs.Tree.{Trees}
 use Rattle.isad_core.specs.Limits.{most_containers, most_unit_numbers, most_units}
 use Rattle.isad_core.specs.Texts.{Bytes}
 use Rattle.atom_csv.specs.FileOf.{file_of}
 use Rattle.atom_csv.specs.declared.file.File.{File}
-use Rattle.tree_core.specs.Forest.{Forest, size}
-use Rattle.tree_core.specs.Versions.{Version}
+use Rattle.tree_core.specs.Forest.{size}
 use Rattle.desk_core.specs.Refusals.{first_that_holds, unless, when}
-use Rattle.desk_core.specs.declared.refusal.Refusal.{Refusal}
 use Rattle.desk_core.specs.declared.refusal.Refusal.TheVariants.{BadFile, BadName, Full}
 use Rattle.catalogue_core.specs.Intake.{Taken, is_full, take_rows, with_file}
 use Rattle.catalogue_core.specs.Merging.{Catalogue, faults_below, merged, numbered_from, or_first}
 use Rattle.catalogue_core.specs.Sources.{is_source}
 use Rattle.catalogue_core.proofs.UnitsAfter.{length-numbered}
 use Rattle.office_core.specs.ImportReply.{bad_file, too_much}
-use Rattle.office_core.specs.Rules.{Reply, gate, imported, refusal, taken}
+use Rattle.office_core.specs.Rules.{gate, imported, refusal, taken}
 use Rattle.office_core.specs.SoundOffice.{IsSoundOffice}
 use Rattle.office_core.specs.State.{State}
-use Rattle.office_core.specs.declared.command.Command.{Command}
 use Rattle.office_core.specs.declared.command.Command.TheVariants as command
-use Rattle.refinement.specs.CommandSteps.{CarriesOutStep}
-use Rattle.refinement.proofs.Doings.{refused}
 use Rattle.csv_import.specs.Importing.{CanBePlaced, has_room}
 use Rattle.csv_import.specs.Planning.{as_plan, new_of, plan_of}
 use Rattle.csv_import.specs.declared.row_plan.Planned.TheVariants as planned
 use Rattle.csv_import.proofs.Imports.{merged_size}
-
-pub refuses : (places : Trees → Forest ℕ → Type 0) (version : Version) (s : State) (asked : Command) (why : Refusal) (db : Database) → refusal s asked ≡ Some why → CarriesOutStep places version s asked (Err why) db
-refuses places version s asked why db holds = record { told = sym (ap (λ (p : State × Reply). p.1) (refused s asked why holds)); represents = λ ok. absurd (cc) }
 
 -- the file itself is at fault
 taken_bad : (s : State) (source bytes : Bytes) (row cause : ℕ) → file_of bytes ≡ Err (row, cause) → taken s source bytes ≡ Err (row, cause)

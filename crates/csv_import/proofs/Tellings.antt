@@ -1,6 +1,5 @@
 -- A call that reads, and hands on what a later call tells of what the same tables show.
 use Rattle.std.proofs.Common.{Result, Ok, Err, OnOk, OnErr}
-use Rattle.std.specs.Prelude.{IfOk}
 use Rattle.sqlite.specs.Effect.{Database}
 use Rattle.sqlite.specs.Held.{Held, state}
 use Rattle.sqlite.specs.State.{HasCleanDisk, State, Survives}
@@ -10,14 +9,11 @@ use Rattle.office_tables.specs.Step.{IsAborted, LeavesUnchanged}
 use Rattle.office_tables.specs.declared.fault.StoreFault.{StoreFault}
 use Rattle.office_tables.proofs.CallEnds.{excused_then}
 use Rattle.office_tables.proofs.Calls.{cut_then, early, looks_then, on_err_then, on_ok_then}
+use Rattle.refinement.proofs.Passing.{if_ok_then}
 
 looked_crash : {X E : Type 0} (r : Result X E) (a b : State) → OnOk r (LeavesUnchanged a b) → OnErr r (IsAborted a b) → Survives a b (λ _. ⊥)
 looked_crash (Ok x) a b looks cut = looks.goes.on.crash
 looked_crash (Err e) a b looks cut = cut.crash
-
-pub if_ok_then : {X E : Type 0} (r : Result X E) (P Q : X → Type 0) → ((x : X) → P x → Q x) → IfOk r P → IfOk r Q
-if_ok_then (Ok x) P Q f h = f x h
-if_ok_then (Err e) P Q f h = tt
 
 -- what the later call is told of is shown too, and is as it needs it
 pub record IsAlso {A B C D : Type 0} (represents : Database → A → B → Type 0) (may kept : B → Type 0) (others : Database → C → D → Type 0) (other_may other_kept : D → Type 0) (beside : A → B → C) (model : A → B → D) (a b : State) : Type 0 where

@@ -1,7 +1,6 @@
 -- What is told of a ticket's permits is what the rules tell of them.
 use Rattle.std.proofs.Common.{◌≡◌, ◌<◌, ℕ, pos, true, false, Less, List, [], ◌∷◌, map, Option, Some, None, refl, ap, subst, ◌∙◌}
 use Rattle.std.specs.Prelude.{is_some, option_map}
-use Rattle.std.specs.Cmp.{IsTotalOrder, int_cmp_total, on_total}
 use Rattle.std.specs.List.{AllByRecursion}
 use Rattle.std.specs.Ordering.{int_cmp}
 use Rattle.std.proofs.lemmas.Simd.{map-map}
@@ -26,12 +25,9 @@ use Rattle.office_tables.specs.Order.{IsOrdered, Rises}
 use Rattle.office_tables.proofs.Sorted.{only_order}
 use Rattle.office_tables.proofs.numbered.Counted.{below_less}
 use Rattle.serde_json.specs.Written.{compact_text}
-use Rattle.refinement.proofs.PermitsShown.{permits_shown, told_of}
+use Rattle.refinement.proofs.PermitsShown.{permits_shown, told_of, by_unit_total}
 use Rattle.refinement.proofs.RowsOfLists.{found_row}
 use Rattle.desk_queries.specs.Told.{permit_data}
-
-by_unit_total : IsTotalOrder by_unit
-by_unit_total = on_total (λ (p : Told). pos p.unit) int_cmp_total
 
 above : (u : ℕ) (permits : List Permit) → AllByRecursion (λ (p : Permit). u < p.unit) permits → AllByRecursion (λ (p : Told). int_cmp (pos u) (pos p.unit) ≡ Less) (map told_of permits)
 above u [] all = tt

@@ -157,7 +157,7 @@ same_course s input out out2 end fin new new2 a b h k e f =
       state = a.stops.leaves ∙ states ∙ sym b.stops.leaves;
     }
 
-true_not_false : (b : Bool) → b ≡ true → b ≡ false → ⊥
+pub true_not_false : (b : Bool) → b ≡ true → b ≡ false → ⊥
 true_not_false b e f = cc
 
 pub determined : (s : State) (input out out2 : Bytes) (end fin : Ended) (new new2 : State)

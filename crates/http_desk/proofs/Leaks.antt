@@ -9,7 +9,7 @@ use Rattle.http_desk.specs.declared.session_end.Ended.{Ended}
 use Rattle.http_desk.specs.Messages.{Message, Begins, Cuts, Last, Nothing, HeadCut, BodyCut, NoHead, Refuses, Answers, Fails, Stands}
 use Rattle.http_desk.specs.Session.{IsFront, EndsSo, Session, closes, message_text, state_after, text_after_all, state_after_all, last_text}
 use Rattle.http_desk.specs.Laws.{is_busy, was_busy, until_busy, HasEnded, IsPublicGet, AsksThePublic, AreAlike}
-use Rattle.http_desk.proofs.Courses.{Meet, same, first_fails, second_fails, meeting, whole_text, ends_unique}
+use Rattle.http_desk.proofs.Courses.{Meet, same, first_fails, second_fails, meeting, whole_text, ends_unique, true_not_false}
 use Rattle.http_desk.proofs.Public.{text_alike, all_alike}
 
 pub cuts_more : (input : Bytes) (ms : List Message) (middle : Bytes) (m : Message) (rest : Bytes) → Cuts input ms middle → Begins middle m rest → Cuts input (ms ++ m ∷ []) rest
@@ -40,9 +40,6 @@ text_append (m ∷ ms) ns s =
 
 front_equal : (x y : Bytes) → x ≡ y → IsFront x y
 front_equal x y e = ([], sym e ∙ sym (append-nil x))
-
-true_not_false : (b : Bool) → b ≡ true → b ≡ false → ⊥
-true_not_false b e f = cc
 
 -- the messages before the place where an office is busy are answered in the other one too
 front_of_other : (s t : State) (ms ns more : List Message) (out tail : Bytes) → AnswersAlike s t → AllByRecursion IsPublicGet ms

@@ -1,5 +1,6 @@
 -- Lemmas on verdicts.
-use Rattle.std.proofs.Common.{◌≡◌, ℕ, List, Bool, true, false, refl}
+use Rattle.std.proofs.Common.{◌≡◌, ℕ, List, Bool, true, false, refl, sym}
+use Rattle.std.proofs.lemmas.Bool.{not-true}
 use Rattle.std.specs.Prelude.{◌==◌, ◌&&◌, ◌||◌, not, nat_lt, codes}
 use Rattle.std.specs.List.{list_any}
 use Rattle.http_messages.specs.declared.status.Status.TheVariants.{NotImplemented}
@@ -8,14 +9,10 @@ use Rattle.http_messages.specs.Heads.{Field, weigh, weigh_length, first_length, 
 abbrev hosts_bad : ℕ → List Field → Bool
 hosts_bad minor pairs = nat_lt 1 (hosts pairs) || (minor == 1 && (hosts pairs == 0))
 
-hosts_good : (b : Bool) → true ≡ not b → b ≡ false
-hosts_good true e = cc
-hosts_good false e = refl
-
 pub weigh_coded : (m t : List ℕ) (minor : ℕ) (pairs : List Field) → true ≡ not (nat_lt 1 (hosts pairs) || (minor == 1 && (hosts pairs == 0))) → list_any (is_named (codes "transfer-encoding")) pairs ≡ true
     → weigh m t minor pairs ≡ Refused NotImplemented (is_head m)
-weigh_coded m t minor pairs h e = let g = hosts_good (hosts_bad minor pairs) h in rw (g, e) refl
+weigh_coded m t minor pairs h e = let g = not-true (hosts_bad minor pairs) (sym h) in rw (g, e) refl
 
 pub weigh_on : (m t : List ℕ) (minor : ℕ) (pairs : List Field) → true ≡ not (nat_lt 1 (hosts pairs) || (minor == 1 && (hosts pairs == 0))) → list_any (is_named (codes "transfer-encoding")) pairs ≡ false
     → weigh m t minor pairs ≡ weigh_length m t minor pairs (first_length pairs)
-weigh_on m t minor pairs h e = let g = hosts_good (hosts_bad minor pairs) h in rw (g, e) refl
+weigh_on m t minor pairs h e = let g = not-true (hosts_bad minor pairs) (sym h) in rw (g, e) refl

@@ -1,5 +1,5 @@
 -- The tables of a new office are made.
-use Rattle.std.proofs.Common.{◌≡◌, [], IsTrue, refl, ◌∙◌, arith}
+use Rattle.std.proofs.Common.{◌≡◌, [], IsTrue, ◌∙◌, arith}
 use Rattle.std.proofs.lemmas.List.Sorted.{IsPermutation-refl}
 use Rattle.sqlite.specs.Change.{KeepsRows}
 use Rattle.sqlite.specs.State.{State, HasCleanDisk}
@@ -11,12 +11,6 @@ use Rattle.office.specs.Opening.{new_desk}
 
 pub making : (a : State) → (HasCleanDisk a → (a.now.schema ≡ no_schema) × IsTrue a.in_transaction) → IsMaking [] no_schema a.now a
 making a blank clean = let it = blank clean in (record { schema_is = it.0; kept = tt; empty = tt }, it.1)
-
--- the desk's tables are there, and others are made beside them
-pub made_desk : (a b : State) → IsMaking [] desk_schema a.now b → IsMaking desk_tables desk_schema b.now b
-made_desk a b made clean =
-    let it = made clean in
-    (record { schema_is = it.0.schema_is; kept = (refl, (refl, (refl, (refl, (refl, (refl, (refl, tt))))))); empty = tt }, it.1)
 
 -- what was made empty and is kept shows a desk that has nothing
 pub shows_none : (a b : State) (new : Trees) → IsMaking [] desk_schema a.now b → HasCleanDisk b → KeepsRows desk_tables b.now.trees new → RepresentsDesk new new_desk

@@ -1,6 +1,5 @@
 -- Calls that read, and what they tell for what calls them.
 use Rattle.std.proofs.Common.{Result, Ok, Err, OnErr, OnOk, subst, sym}
-use Rattle.std.specs.Prelude.{IfOk}
 use Rattle.sqlite.specs.Effect.{Database}
 use Rattle.sqlite.specs.Held.{Held, state}
 use Rattle.sqlite.specs.State.{HasCleanDisk, State, Survives}
@@ -10,10 +9,7 @@ use Rattle.office_tables.specs.Step.{IsAborted, LeavesUnchanged}
 use Rattle.office_tables.proofs.CallEnds.{excused_then}
 use Rattle.office_tables.proofs.Calls.{cut_then, early, looks_then, on_err_then, on_ok_then}
 use Rattle.office_tables.specs.declared.fault.StoreFault.{StoreFault}
-
-if_ok_then : {X E : Type 0} (r : Result X E) (P Q : X → Type 0) → ((x : X) → P x → Q x) → IfOk r P → IfOk r Q
-if_ok_then (Ok x) P Q f h = f x h
-if_ok_then (Err e) P Q f h = tt
+use Rattle.refinement.proofs.Passing.{if_ok_then}
 
 module _ {S X Stays Model : Type 0} (g : store.Ghosts S) (represents : Database → Stays → Model → Type 0) (kept : Model → Type 0) (before after : Held S) (r : Result X StoreFault) where
   pub tells_as : (may more : Model → Type 0) (told answer : Stays → Model → X → Type 0) → ((m : Model) → more m → may m) → ((s : Stays) (m : Model) (x : X) → told s m x → answer s m x)

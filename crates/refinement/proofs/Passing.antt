@@ -42,6 +42,10 @@ gated_step places version s asked db last reply is shown = at (gate (after s ask
         let so : reply ≡ Err why = is ∙ ap (λ why. unless_refused why (told s asked)) e in
         record { told = so ∙ sym (ap (λ (p : State × Reply). p.1) one); represents = λ ok. absurd (let bad : IsOk (let r : Reply = Err why in r) = subst IsOk so ok in cc) }
 
+pub if_ok_then : {X E : Type 0} (r : Result X E) (P Q : X → Type 0) → ((x : X) → P x → Q x) → IfOk r P → IfOk r Q
+if_ok_then (Ok x) P Q f h = f x h
+if_ok_then (Err e) P Q f h = tt
+
 pub if_ok_with : {X E : Type 0} (r : Result X E) (L : Type 0) (P Q : X → Type 0) → ((x : X) → L → P x → Q x) → OnOk r L → IfOk r P → IfOk r Q
 if_ok_with (Ok x) L P Q f l h = f x l h
 if_ok_with (Err e) L P Q f l h = tt

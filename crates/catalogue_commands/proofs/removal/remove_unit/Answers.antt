@@ -6,8 +6,7 @@ use Rattle.office_core.specs.declared.command.Command.TheVariants as command
 use Rattle.office_core.proofs.KeptOffices.{office_kept}
 use Rattle.office_tables.proofs.CallEnds.{same_fault}
 use Rattle.refinement.specs.Represents.{office_of}
-use Rattle.refinement.proofs.Doings.{does_after, does_not, does_refuse}
-use Rattle.catalogue_commands.proofs.UnknownUnits.{refuses}
+use Rattle.refinement.proofs.Doings.{does_after, does_not, does_refuse, refuses}
 use Rattle.catalogue_commands.proofs.removal.remove_unit.Goals as goal
 
 pub returns-in_err-is_unit : goal.returns-in_err-is_unit

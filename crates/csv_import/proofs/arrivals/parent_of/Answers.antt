@@ -8,8 +8,8 @@ use Rattle.catalogue_core.specs.Merging.{number_of}
 use Rattle.catalogue_core.specs.RowByRow.{number_there}
 use Rattle.csv_import.specs.Arriving.{KnowsNumbers}
 use Rattle.csv_import.specs.Planning.{or_there}
-use Rattle.csv_import.proofs.Tellings.{if_ok_then}
 use Rattle.csv_import.proofs.arrivals.parent_of.Goals as goal
+use Rattle.refinement.proofs.Passing.{if_ok_then}
 
 pub returns-clause-tells : goal.returns-clause-tells
 returns-clause-tells g c =

@@ -7,8 +7,8 @@ use Rattle.desk_core.specs.declared.refusal.Refusal.TheVariants.{BadFile}
 use Rattle.catalogue_core.specs.Sources.{is_source}
 use Rattle.office_core.specs.declared.command.Command.TheVariants as command
 use Rattle.office_tables.proofs.Calls.{looks_nowhere, office_of}
-use Rattle.refinement.proofs.Doings.{does_refuse}
-use Rattle.csv_import.proofs.Refused.{bad, refuses}
+use Rattle.refinement.proofs.Doings.{does_refuse, refuses}
+use Rattle.csv_import.proofs.Refused.{bad}
 use Rattle.csv_import.proofs.catalogue_import.import.Goals as goal
 
 pub returns-in-Bad : goal.returns-in-Bad

@@ -7,11 +7,11 @@ use Rattle.office_core.specs.declared.command.Command.TheVariants as command
 use Rattle.office_core.proofs.KeptOffices.{office_settings}
 use Rattle.office_tables.proofs.CallEnds.{same_fault}
 use Rattle.refinement.specs.Represents.{office_of}
-use Rattle.refinement.proofs.Doings.{does_after, does_not, does_refuse}
+use Rattle.refinement.proofs.Doings.{does_after, does_not, does_refuse, refuses}
 use Rattle.csv_import.specs.Importing.{CanBePlaced, FitsIn, has_room}
 use Rattle.csv_import.specs.Known.{TellsUnits}
 use Rattle.csv_import.proofs.Carried.{settings_shown}
-use Rattle.csv_import.proofs.Refused.{full, refuses}
+use Rattle.csv_import.proofs.Refused.{full}
 use Rattle.csv_import.proofs.catalogue_import.import_placed.Goals as goal
 
 pub returns-in_err-has_room : goal.returns-in_err-has_room

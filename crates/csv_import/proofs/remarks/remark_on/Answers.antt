@@ -16,8 +16,8 @@ use Rattle.office_tables.proofs.Calls.{looks_nowhere, office_of}
 use Rattle.csv_import.specs.Remarking.{HasParent, IsRanked}
 use Rattle.csv_import.proofs.Remarked.{is_below, top_remark}
 use Rattle.csv_import.proofs.RightAbove.{last_number, there}
-use Rattle.csv_import.proofs.Tellings.{if_ok_then}
 use Rattle.csv_import.proofs.remarks.remark_on.Goals as goal
+use Rattle.refinement.proofs.Passing.{if_ok_then}
 
 pub returns-in-Some : goal.returns-in-Some
 returns-in-Some g c =

@@ -4,8 +4,9 @@ use Rattle.office_tables.specs.Step.{Continues, IsAborted}
 use Rattle.office_tables.proofs.CallEnds.{excused_then}
 use Rattle.office_tables.proofs.Calls.{early, continues_then, cut_then, on_ok_then, on_ok_both, on_err_then}
 use Rattle.refinement.proofs.Crashes.{continued}
-use Rattle.office.proofs.NewTables.{making, made_desk, shows_none}
+use Rattle.office.proofs.NewTables.{making, shows_none}
 use Rattle.office.proofs.new_office.make_tables.Goals as goal
+use Rattle.adoption.proofs.NewTables.{made_desk}
 
 pub returns-in_err-create_desk-clause-cut : goal.returns-in_err-create_desk-clause-cut
 returns-in_err-create_desk-clause-cut g c =

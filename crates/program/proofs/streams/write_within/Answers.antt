@@ -1,8 +1,8 @@
 use Rattle.std.proofs.Common.{◌∙◌, ◌++◌, List, ℕ, ap, sym, take}
 use Rattle.std.proofs.KnownBytes.{Appends-kept, Appends-trans}
-use Rattle.program.proofs.StreamLemmas.{moves_front}
 use Rattle.program.proofs.streams.write_within.Goals as goal
 use Rattle.program.proofs.streams.write_within.Goals.{in-Ok, in-Err+else-ne}
+use Rattle.http_desk.proofs.Sends.{moves_front}
 
 pub loop-write-preserved : goal.loop-write-preserved
 loop-write-preserved g c =
