@@ -6,4 +6,3 @@ pub mod PermitsLeft
 pub mod ReadMarks
 pub mod Removed
 pub mod Statused
-pub mod UnknownUnits

@@ -7,7 +7,6 @@ pub mod Judgments
 pub mod KeptLemmas
 pub mod Named
 pub mod PerformedLemmas
-pub mod StreamLemmas
 pub mod RefusalLines
 pub mod StoreLemmas
 pub mod Trials

@@ -1,1 +1,0 @@
--- A command about a unit that is not there is refused.

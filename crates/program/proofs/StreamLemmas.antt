@@ -1,1 +1,0 @@
--- Lemmas on what stands on a stream.
