@@ -15,7 +15,7 @@ use office_tables::{StoreFault, begin};
 use sqlite::{Alter, Connection};
 use std::alloc::Global;
 
-/// What the tables are, judged in a transaction that is taken back.
+/// What the tables are, judged in a transaction that is rolled back.
 pub(crate) fn look_over<P: CheckedPlaces, S: Alter>(
     alloc: Global,
     conn: &mut Connection<S>,

@@ -60,7 +60,7 @@ fn answer_to<P: Places, S: Alter>(
     read::<P, S>(alloc, conn, &row, query)
 }
 
-/// Answers a question in a transaction of its own, which is taken back.
+/// Answers a question in a transaction of its own, which is rolled back.
 pub(crate) fn ask_in<P: Places, S: Alter>(
     alloc: Global,
     conn: &mut Connection<S>,

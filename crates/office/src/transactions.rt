@@ -21,7 +21,7 @@ pub(crate) fn take_back<S: Alter>(conn: &mut Connection<S>)
     roll_back(conn);
 }
 
-/// Commits what was done; where that fails, it is taken back.
+/// Commits what was done; where that fails, it is rolled back.
 pub(crate) fn keep<S: Alter>(conn: &mut Connection<S>) -> Result<(), StoreFault>
     ensures committed { HasCleanDisk (state S.Store conn.new)
         → OnOk result (Committed (state S.Store conn.old) (state S.Store conn.new)) }
@@ -39,7 +39,7 @@ pub(crate) fn keep<S: Alter>(conn: &mut Connection<S>) -> Result<(), StoreFault>
     Ok(())
 }
 
-/// Ends the transaction: what was done is committed; what was refused, or failed, is taken back.
+/// Ends the transaction: what was done is committed; what was refused, or failed, is rolled back.
 pub(crate) fn settle<S: Alter>(
     conn: &mut Connection<S>,
     outcome: Result<Reply, StoreFault>,

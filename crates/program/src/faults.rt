@@ -9,7 +9,7 @@ use isad_core::Text;
 use office::{Busy, OpenFault, Refusal};
 use std::alloc::{AllocError, Global};
 
-/// How a session ended that was not closed after an answer, nor by the end of its input after one.
+/// How a session broke off: no answer closed it, and its input did not end after a whole message.
 #[derive(Clone, Copy, Debug, PartialEq, Eq, Drop)]
 pub enum Break {
     /// The input ended inside a message.
@@ -29,9 +29,9 @@ pub enum Fault {
     Refused(Text),
     /// A check has found no sound office of this version, and has said so on standard output.
     NotSound,
-    /// The words name no task. This is what to tell their writer.
+    /// The command line is not valid. This text says why.
     Words(Text),
-    /// A day is none of the calendar.
+    /// A day is not in the calendar.
     Date,
     /// A setting is not within its limits.
     Settings,
@@ -39,7 +39,7 @@ pub enum Fault {
     File,
     /// The store could not be opened, read or written.
     Store,
-    /// A port could not be had, or a connection not be taken.
+    /// A port could not be bound, or a connection could not be accepted.
     Net,
     /// A session broke off.
     Session(Break),
@@ -59,7 +59,7 @@ impl Fault {
         }
     }
 
-    /// What stands on standard error.
+    /// What is printed on standard error.
     pub fn message(&self) -> &str
         ensures { result.now ≡ message_of self.now }
     {

@@ -57,8 +57,8 @@ fn log_of(rt: &HostRuntime, path: &str) -> Result<String, AllocError> {
     format!(in rt.alloc(); "{path}-wal")
 }
 
-/// Makes a file that is not there yet, nor its log, with a store that has no tables. Nobody else makes it at the same
-/// time. Where no store is opened on it, it is taken away again.
+/// Makes a new file, where neither it nor its log exists, with a store that has no tables. Nobody else makes it at the
+/// same time. Where no store is opened on it, it is deleted again.
 pub fn make<S: Start>(
     rt: &HostRuntime,
     path: &str,

@@ -34,7 +34,7 @@ pub trait Port {
     )
         ensures { history self.new ≡ after_leaving (history self.old) reader.now writer.now ended };
 
-    /// Nobody connects any more.
+    /// Closes the port.
     fn shut(&mut self)
         ensures { history self.new ≡ history self.old };
 }

@@ -51,7 +51,7 @@ fn serve_one<P: Port, M: Machine>(
 }
 
 /// Serves so many connections, one after the other, and is false where one could not be taken. Each that is taken is
-/// talked to, and counts however it ends. The port is given up as soon as the last is taken.
+/// talked to, and counts however it ends. The port is closed as soon as the last is taken.
 pub fn serve<P: Port, M: Machine>(
     alloc: Global,
     port: &mut P,

@@ -25,7 +25,7 @@ use std::alloc::Global;
 /// An office in a file that held what `S` says.
 pub type KeptOffice<S> = Office<SpanPlaces, FileStoreFrom<S>>;
 
-/// Makes a new office in a file that is not there yet. Where that fails, the file is taken away again.
+/// Makes a new office in a file that is not there yet. Where that fails, the file is deleted again.
 pub fn make_office<S: Start>(
     rt: &HostRuntime,
     store: &Text,

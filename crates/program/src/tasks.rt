@@ -64,7 +64,7 @@ pub enum Task {
     },
 }
 
-/// Why words name no task.
+/// Why a command line is not valid.
 #[derive(Debug, Drop)]
 pub enum TaskFault {
     /// There was no memory.

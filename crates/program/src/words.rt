@@ -151,7 +151,7 @@ fn refused(alloc: Global, error: &Error) -> TaskFault
     }
 }
 
-/// The task that the words after the program's name say. A call for help names none.
+/// The task that the words after the program's name say. A request for help is not valid.
 pub fn task(alloc: Global, words: &[String]) -> Result<Task, TaskFault>
     // The task is the subcommand of the matches that `clap` has for these words, with their values.
     ensures named { IfOk result (IsTaskOf (subcommand_of program (map string_bytes words.now))) }
