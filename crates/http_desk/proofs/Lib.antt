@@ -8,6 +8,7 @@ pub mod Fills
 pub mod Sends
 pub mod Printed
 pub mod Turns
+pub mod Openings
 pub mod Sessions
 pub mod Wholes
 pub mod WorkedHeads

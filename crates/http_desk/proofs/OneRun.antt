@@ -1,5 +1,6 @@
 -- Sessions and calls make one run of the machine.
 use Rattle.std.proofs.Common.{◌≡◌, List, [], ◌∷◌, ◌++◌, refl, sym, ap, ◌∙◌, subst, None, Some}
+use Rattle.std.specs.Prelude.{IsOk}
 use Rattle.std.specs.List.{AllByRecursion}
 use Rattle.catalogue_core.proofs.EachOf.{all_append, all_split}
 use Rattle.office_core.specs.declared.command.Command.{Command}
@@ -14,8 +15,9 @@ use Rattle.office_core.proofs.SoundDesk.{open_to_holders}
 use Rattle.office_core.proofs.StaysSound.{always_sound}
 use Rattle.office_core.proofs.Texts.{always_sound_office}
 use Rattle.http_desk.specs.Headline.{KeepsTheRules, IsOneRun, MakeVisits}
-use Rattle.http_desk.specs.Runs.{Visit, ByHttp, Directly, Replied, Answered, Happens, AllHappen, CallsNameDays, CallsNameTexts, AreVisits, Brings, AllBring}
+use Rattle.http_desk.specs.Runs.{Visit, ByHttp, Directly, Replied, Answered, Happens, AllHappen, CallsNameDays, CallsNameTexts, AreVisits, Brings, AllBring, VisitLeavesOpen, VisitsLeaveOpen}
 use Rattle.http_desk.proofs.Meanings.{runs_the_machine}
+use Rattle.http_desk.proofs.Openings.{not_known, visits_open}
 
 keeps_the_rules : (s : State) → IsSound s → KeepsTheRules s
 keeps_the_rules s h = record {
@@ -79,36 +81,39 @@ one_run s new visits happen named sound =
           always_sound_office s before days.0 texts.0 good;
     }
 
-module _ {M : Type 0} (represents : M → State → Type 0) (is_intact : M → Type 0) where
-  intact_before : (visits : List Visit) (old new : M) → AreVisits represents is_intact old new visits → is_intact new → is_intact old
+module _ {M : Type 0} (represents : M → State → Type 0) (is_intact is_open : M → Type 0) where
+  intact_before : (visits : List Visit) (old new : M) → AreVisits represents is_intact is_open old new visits → is_intact new → is_intact old
   intact_before [] old new same intact = subst (λ (m : M). is_intact m) (sym same) intact
   intact_before (visit ∷ later) old new it intact = it.1.intact (intact_before later it.0 new it.2 intact)
 
-  all_happen : (visits : List Visit) (old new : M) → AreVisits represents is_intact old new visits → is_intact new
-      → (s : State) → represents old s → (t : State) × represents new t × AllHappen s visits t
-  all_happen [] old new same intact s is = (s, subst (λ (m : M). represents m s) same is, refl)
+  all_happen : (visits : List Visit) (old new : M) → AreVisits represents is_intact is_open old new visits → is_intact new
+      → (s : State) → represents old s → (t : State) × represents new t × ((all : AllHappen s visits t) × (VisitsLeaveOpen (is_open old) s visits t all → is_open new))
+  all_happen [] old new same intact s is = (s, subst (λ (m : M). represents m s) same is, (refl, λ stays. subst (λ (m : M). is_open m) same stays))
   all_happen (visit ∷ later) old new it intact s is =
-      let (mid, shown, happens) = it.1.happens (intact_before later it.0 new it.2 intact) s is in
+      let (mid, shown, one) = it.1.happens (intact_before later it.0 new it.2 intact) s is in
       let (t, shown_too, more) = all_happen later it.0 new it.2 intact mid shown in
-      (t, shown_too, (mid, happens, more))
+      (t, shown_too, ((mid, one.0, more.0), λ h. more.1 (visits_open (VisitLeavesOpen (is_open old) s visit mid one.0) (is_open it.0) one.1 mid t later more.0 h)))
 
-  pub the_headline : (visits : List Visit) (old new : M) → AreVisits represents is_intact old new visits → AllByRecursion CallsNameDays visits → is_intact new
-      → (s : State) → represents old s → IsSound s → (t : State) × represents new t × IsOneRun s visits t
+  pub the_headline : (visits : List Visit) (old new : M) → AreVisits represents is_intact is_open old new visits → AllByRecursion CallsNameDays visits → is_intact new
+      → (s : State) → represents old s → IsSound s
+      → (t : State) × represents new t × IsOneRun s visits t × ((all : AllHappen s visits t) × (VisitsLeaveOpen (is_open old) s visits t all → is_open new))
   the_headline visits old new are named intact s is sound =
-      let (t, shown, happen) = all_happen visits old new are intact s is in
-      (t, shown, one_run s t visits happen named sound)
+      let (t, shown, all) = all_happen visits old new are intact s is in
+      (t, shown, one_run s t visits all.0 named sound, all)
 
-  pub make_visits : MakeVisits represents is_intact
+  pub make_visits : MakeVisits represents is_intact is_open
   make_visits = record {
-    talk = λ left left_after held held_after old new end (read, written, consumed, appended, through) intact.
-        (read, written, consumed, appended, record { intact = intact; happens = through });
-    apply = λ old new command reply intact step. record {
+    talk = λ left left_after held held_after old new end (read, written, consumed, appended, through) intact open_.
+        (read, written, consumed, appended, record { intact = intact; was_open = open_; happens = through });
+    apply = λ old new command reply intact open_ kept step. record {
       intact = intact;
-      happens = λ i s is. let (shown, done, json) = step i s is in (_, shown, (λ j. Replied (done j) (json j), refl));
+      was_open = open_;
+      happens = λ i s is. let (shown, done, json) = step i s is in (_, shown, ((λ j. Replied (done j) (json j), refl), λ accepted. kept i (subst IsOk (sym done) accepted)));
     };
-    ask = λ old new query told intact answers. record {
+    ask = λ old new query told intact open_ answers. record {
       intact = intact;
-      happens = λ i s is. let (shown, same) = answers i s is in (s, shown, (ap Answered same, refl));
+      was_open = open_;
+      happens = λ i s is. let (shown, same) = answers i s is in (s, shown, ((ap Answered same, refl), λ never. absurd never));
     };
-    busy = λ old new asked intact stays. record { intact = intact; happens = λ i s is. (s, stays i s is, refl) };
+    busy = λ old new asked intact open_ stays. record { intact = intact; was_open = open_; happens = λ i s is. (s, stays i s is, (refl, not_known (is_open old) (is_open new) s s asked refl)) };
   }

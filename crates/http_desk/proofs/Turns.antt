@@ -1,5 +1,5 @@
 -- Lemmas on one message's place.
-use Rattle.std.proofs.Common.{◌≡◌, ◌<◌, ◌≤◌, ◌+◌, ◌-◌, ◌⊎◌, inl, inr, ℕ, [], ◌++◌, length, take, drop, refl, sym, ap, ◌∙◌, subst, arith, true, false, Bool, append_assoc, Option, length-take, length-drop, length-append, take-append-drop, drop-drop}
+use Rattle.std.proofs.Common.{◌≡◌, ◌<◌, ◌≤◌, ◌+◌, ◌-◌, ◌⊎◌, inl, inr, ℕ, [], ◌++◌, length, take, drop, refl, sym, ap, ◌∙◌, subst, arith, true, false, Bool, codes, append_assoc, Option, length-take, length-drop, length-append, take-append-drop, drop-drop}
 use Rattle.std.specs.Prelude.{◌||◌, nat_eq}
 use Rattle.std.specs.Io.KnownBytes.{Appends}
 use Rattle.std.proofs.KnownBytes.{Consumes-nil}
@@ -14,11 +14,12 @@ use Rattle.http_messages.specs.declared.head_scan.Scan.TheVariants.{Whole}
 use Rattle.http_desk.specs.declared.output.Sent.{Sent}
 use Rattle.http_desk.specs.declared.output.Sent.TheVariants.{All, Failed, Bound as OutOfTurns}
 use Rattle.http_messages.specs.declared.status.Status.{Status}
-use Rattle.http_messages.specs.declared.status.Status.TheVariants.{Busy}
+use Rattle.http_messages.specs.declared.status.Status.TheVariants.{Busy, Fine}
 use Rattle.http_messages.specs.Ending.{scan}
 use Rattle.http_messages.specs.Heads.{Request, Verdict, Accepted, Judges, is_head, body_length}
 use Rattle.http_messages.specs.Answers.{Answer, error, answer_text, answered}
 use Rattle.http_desk.specs.Messages.{longest_head, HasHead, Message, Begins, Last, Nothing, HeadCut, BodyCut, Answers, Fails, Stands, MayFail, IsBlank, IsHeadCut}
+use Rattle.http_desk.specs.Keeping.{IsAccepted, LastLeavesOpen}
 use Rattle.http_desk.specs.Session.{IsFront, Stops, IsClosing, closes, leave_if, refusal, message_text, state_after, last_text, state_after_last}
 use Rattle.http_desk.specs.Sending.{Sends}
 use Rattle.http_desk.specs.Talking.{Turn, Through, Exchange, AtEndIf, Refused, Replies, after_sending}
@@ -64,30 +65,30 @@ front_after : (before front full : Bytes) → IsFront front full → IsFront (be
 front_after before front full (rest, e) = (rest, ap (λ l. before ++ l) e ∙ sym (append_assoc before front rest))
 
 -- the answer that closes was sent, or broken off
-pub closed_turn : (number : ℕ) (s : State) (input before full written rest : Bytes) (new : State) (last : Last) (sent : Sent)
-    → Stands input last → IsClosing number last → before ++ full ≡ last_text number s last → new ≡ state_after_last s last → IsWritten sent full written
-    → Turn number s input (after_sending sent (Ends Closed)) (before ++ written) new rest
+pub closed_turn : (was now : Type 0) (number : ℕ) (s : State) (input before full written rest : Bytes) (new : State) (last : Last) (sent : Sent)
+    → Stands input last → IsClosing number last → before ++ full ≡ last_text number s last → new ≡ state_after_last s last → IsWritten sent full written → (LastLeavesOpen was s last → now)
+    → Turn was now number s input (after_sending sent (Ends Closed)) (before ++ written) new rest
 unfolding IsWritten
-closed_turn number s input before full written rest new last All x c e n w =
-    record { last = last; stands = x; ends = c; written = ap (λ l. before ++ l) w ∙ e; leaves = n }
-closed_turn number s input before full written rest new last Failed x c e n w =
-    record { last = last; stands = x; ends = tt; written = subst (IsFront (before ++ written)) e (front_after before written full w); leaves = n }
-closed_turn number s input before full written rest new last OutOfTurns x c e n w =
-    record { last = last; stands = x; ends = tt; written = subst (IsFront (before ++ written)) e (front_after before written full w); leaves = n }
+closed_turn was now number s input before full written rest new last All x c e n w k =
+    (record { last = last; stands = x; ends = c; written = ap (λ l. before ++ l) w ∙ e; leaves = n }, k)
+closed_turn was now number s input before full written rest new last Failed x c e n w k =
+    (record { last = last; stands = x; ends = tt; written = subst (IsFront (before ++ written)) e (front_after before written full w); leaves = n }, k)
+closed_turn was now number s input before full written rest new last OutOfTurns x c e n w k =
+    (record { last = last; stands = x; ends = tt; written = subst (IsFront (before ++ written)) e (front_after before written full w); leaves = n }, k)
 
 -- the answer that leaves the connection open was sent, or broken off
-pub open_turn : (number : ℕ) (s : State) (input before full written rest : Bytes) (new : State) (m : Message) (sent : Sent)
-    → Begins input m rest → closes number m ≡ false → before ++ full ≡ message_text false s m → new ≡ state_after s m → IsWritten sent full written
-    → Turn number s input (after_sending sent Goes) (before ++ written) new rest
+pub open_turn : (was now : Type 0) (number : ℕ) (s : State) (input before full written rest : Bytes) (new : State) (m : Message) (sent : Sent)
+    → Begins input m rest → closes number m ≡ false → before ++ full ≡ message_text false s m → new ≡ state_after s m → IsWritten sent full written → (IsAccepted s m → now)
+    → Turn was now number s input (after_sending sent Goes) (before ++ written) new rest
 unfolding IsWritten
-open_turn number s input before full written rest new m All x c e n w =
-    record { message = m; begins = x; stays = c; says = ap (λ l. before ++ l) w ∙ e; leaves = n }
-open_turn number s input before full written rest new m Failed x c e n w =
+open_turn was now number s input before full written rest new m All x c e n w k =
+    (record { message = m; begins = x; stays = c; says = ap (λ l. before ++ l) w ∙ e; leaves = n }, k)
+open_turn was now number s input before full written rest new m Failed x c e n w k =
     let all : before ++ full ≡ last_text number s (Answers m) = e ∙ ap (λ b. message_text b s m) (sym c) in
-    record { last = Answers m; stands = (rest, x); ends = tt; written = subst (IsFront (before ++ written)) all (front_after before written full w); leaves = n }
-open_turn number s input before full written rest new m OutOfTurns x c e n w =
+    (record { last = Answers m; stands = (rest, x); ends = tt; written = subst (IsFront (before ++ written)) all (front_after before written full w); leaves = n }, k)
+open_turn was now number s input before full written rest new m OutOfTurns x c e n w k =
     let all : before ++ full ≡ last_text number s (Answers m) = e ∙ ap (λ b. message_text b s m) (sym c) in
-    record { last = Answers m; stands = (rest, x); ends = tt; written = subst (IsFront (before ++ written)) all (front_after before written full w); leaves = n }
+    (record { last = Answers m; stands = (rest, x); ends = tt; written = subst (IsFront (before ++ written)) all (front_after before written full w); leaves = n }, k)
 
 -- ---- places where the office is left alone
 
@@ -102,7 +103,7 @@ may_fail input = record { leave_due = λ e. never e; to_head = λ e. never e }
 pub may_fail_after : (input block more : Bytes) (r : Request) → HasHead input block (Accepted r) more → MayFail input r.waits false
 may_fail_after input block more r h = record { leave_due = λ e. (block, more, Accepted r, h, e); to_head = λ e. never e }
 
-module _ {M : Type 0} (represents : M → State → Type 0) (is_intact : M → Type 0) where
+module _ {M : Type 0} (represents : M → State → Type 0) (is_intact is_open : M → Type 0) where
   -- what stands last changes nothing in the office
   abbrev pub AloneAt : ℕ → Last → Bytes → Type 0
   AloneAt number last text = (s : State) → (text ≡ last_text number s last) × (s ≡ state_after_last s last)
@@ -110,17 +111,17 @@ module _ {M : Type 0} (represents : M → State → Type 0) (is_intact : M → T
   -- a fixed answer was sent
   pub refused : (number : ℕ) (old new : M) (input before rest : Bytes) (last : Last) (bare : Bool) (status : Status) (a b : Option Bytes) (next : Next)
       → Refused a b bare status next → Stands input last → IsClosing number last → AloneAt number last (before ++ refusal bare (error status))
-      → (is_intact new → (s : State) → represents old s → represents new s)
-      → (written : Bytes) × Appends a b written × Through represents is_intact old new (λ s t. Turn number s input next (before ++ written) t rest)
-  refused number old new input before rest last bare status a b next (sent, sends, e) x c alone kept =
+      → (is_intact new → (s : State) → represents old s → represents new s) → ((s : State) → LastLeavesOpen (is_open old) s last → is_open new)
+      → (written : Bytes) × Appends a b written × Through represents is_intact old new (λ s t. Turn (is_open old) (is_open new) number s input next (before ++ written) t rest)
+  refused number old new input before rest last bare status a b next (sent, sends, e) x c alone kept stays =
       let (written, appended, is) = written_of a b (refusal bare (error status)) sent sends in (
         written,
         appended,
         λ i s h. (
           s,
           kept i s h,
-          subst (λ n. Turn number s input n (before ++ written) s rest) (sym e)
-              (closed_turn number s input before (refusal bare (error status)) written rest s last sent x c (alone s).0 (alone s).1 is),
+          subst (λ n. Turn (is_open old) (is_open new) number s input n (before ++ written) s rest) (sym e)
+              (closed_turn (is_open old) (is_open new) number s input before (refusal bare (error status)) written rest s last sent x c (alone s).0 (alone s).1 is (stays s)),
         ),
       )
 
@@ -148,8 +149,9 @@ module _ {M : Type 0} (represents : M → State → Type 0) (is_intact : M → T
       → bare ≡ is_head request.method → (request.closes || nat_eq number 10000) ≡ true → next ≡ after_sending sent (Ends Closed)
       → Sends a b (answer_text bare true told) sent
       → (is_intact new → (s : State) → represents old s → represents new (answered s request (body_at items size n)).1 × (told ≡ (answered s request (body_at items size n)).0))
-      → (written : Bytes) × Appends a b written × Through represents is_intact old new (λ s t. Turn number s items next (leave_if request.waits ++ written) t rest)
-  acted_closing number old new items size n request told bare rest a b sent next h within e r is_bare closing ends sends answers =
+      → (request.method ≡ codes "POST" → is_intact new → told.status ≡ Fine → is_open new)
+      → (written : Bytes) × Appends a b written × Through represents is_intact old new (λ s t. Turn (is_open old) (is_open new) number s items next (leave_if request.waits ++ written) t rest)
+  acted_closing number old new items size n request told bare rest a b sent next h within e r is_bare closing ends sends answers kept =
       let (written, appended, is) = written_of a b (answer_text bare true told) sent sends in
       let message : Message = record { request = request; body = body_at items size n } in
       let begins = message_at items size n request rest h within e r in (
@@ -161,8 +163,9 @@ module _ {M : Type 0} (represents : M → State → Type 0) (is_intact : M → T
             λ j. leave_if request.waits ++ answer_text (is_bare j) (sym closing j) (told_is j) in (
               state_after s message,
               shown_after,
-              subst (λ x. Turn number s items x (leave_if request.waits ++ written) (state_after s message) rest) (sym ends)
-                  (closed_turn number s items (leave_if request.waits) (answer_text bare true told) written rest (state_after s message) (Answers message) sent (rest, begins) closing says refl is),
+              subst (λ x. Turn (is_open old) (is_open new) number s items x (leave_if request.waits ++ written) (state_after s message) rest) (sym ends)
+                  (closed_turn (is_open old) (is_open new) number s items (leave_if request.waits) (answer_text bare true told) written rest (state_after s message) (Answers message) sent
+                  (rest, begins) closing says refl is (λ accepted. kept accepted.0 i (ap (λ (x : Answer). x.status) told_is ∙ accepted.1))),
             ),
       )
 
@@ -171,8 +174,9 @@ module _ {M : Type 0} (represents : M → State → Type 0) (is_intact : M → T
       → bare ≡ is_head request.method → (request.closes || nat_eq number 10000) ≡ false → next ≡ after_sending sent Goes
       → Sends a b (answer_text bare false told) sent
       → (is_intact new → (s : State) → represents old s → represents new (answered s request (body_at items size n)).1 × (told ≡ (answered s request (body_at items size n)).0))
-      → (written : Bytes) × Appends a b written × Through represents is_intact old new (λ s t. Turn number s items next (leave_if request.waits ++ written) t rest)
-  acted_open number old new items size n request told bare rest a b sent next h within e r is_bare closing ends sends answers =
+      → (request.method ≡ codes "POST" → is_intact new → told.status ≡ Fine → is_open new)
+      → (written : Bytes) × Appends a b written × Through represents is_intact old new (λ s t. Turn (is_open old) (is_open new) number s items next (leave_if request.waits ++ written) t rest)
+  acted_open number old new items size n request told bare rest a b sent next h within e r is_bare closing ends sends answers kept =
       let (written, appended, is) = written_of a b (answer_text bare false told) sent sends in
       let message : Message = record { request = request; body = body_at items size n } in
       let begins = message_at items size n request rest h within e r in (
@@ -184,8 +188,9 @@ module _ {M : Type 0} (represents : M → State → Type 0) (is_intact : M → T
             λ j. leave_if request.waits ++ answer_text (is_bare j) false (told_is j) in (
               state_after s message,
               shown_after,
-              subst (λ x. Turn number s items x (leave_if request.waits ++ written) (state_after s message) rest) (sym ends)
-                  (open_turn number s items (leave_if request.waits) (answer_text bare false told) written rest (state_after s message) message sent begins closing says refl is),
+              subst (λ x. Turn (is_open old) (is_open new) number s items x (leave_if request.waits ++ written) (state_after s message) rest) (sym ends)
+                  (open_turn (is_open old) (is_open new) number s items (leave_if request.waits) (answer_text bare false told) written rest (state_after s message) message sent begins closing says refl is
+                  (λ accepted. kept accepted.0 i (ap (λ (x : Answer). x.status) told_is ∙ accepted.1))),
             ),
       )
 
@@ -194,16 +199,17 @@ module _ {M : Type 0} (represents : M → State → Type 0) (is_intact : M → T
       → HasHead items (take size items) (Accepted request) (drop size items) → size + n ≤ length items → n ≡ body_length request → rest ≡ drop (size + n) items
       → bare ≡ is_head request.method → (request.closes || nat_eq number 10000) ≡ closing → Replies a b closing (answer_text bare closing told) next
       → (is_intact new → (s : State) → represents old s → represents new (answered s request (body_at items size n)).1 × (told ≡ (answered s request (body_at items size n)).0))
-      → (written : Bytes) × Appends a b written × Through represents is_intact old new (λ s t. Turn number s items next (leave_if request.waits ++ written) t rest)
-  acted number old new items size n request told bare rest a b true next h within e r is_bare closes (sent, sends, ends) answers =
-      acted_closing number old new items size n request told bare rest a b sent next h within e r is_bare closes ends sends answers
-  acted number old new items size n request told bare rest a b false next h within e r is_bare closes (sent, sends, ends) answers =
-      acted_open number old new items size n request told bare rest a b sent next h within e r is_bare closes ends sends answers
+      → (request.method ≡ codes "POST" → is_intact new → told.status ≡ Fine → is_open new)
+      → (written : Bytes) × Appends a b written × Through represents is_intact old new (λ s t. Turn (is_open old) (is_open new) number s items next (leave_if request.waits ++ written) t rest)
+  acted number old new items size n request told bare rest a b true next h within e r is_bare closes (sent, sends, ends) answers kept =
+      acted_closing number old new items size n request told bare rest a b sent next h within e r is_bare closes ends sends answers kept
+  acted number old new items size n request told bare rest a b false next h within e r is_bare closes (sent, sends, ends) answers kept =
+      acted_open number old new items size n request told bare rest a b sent next h within e r is_bare closes ends sends answers kept
 
   -- the leave to send a body was broken off
   pub leave_broken : (number : ℕ) (office : M) (items block more : Bytes) (request : Request) (a b c : Option Bytes) (sent : Sent) (next result : Next)
       → (sent ≡ All → ⊥) → result ≡ after_sending sent next → HasHead items block (Accepted request) more → Sends b c (leave_if request.waits) sent
-      → Exchange represents is_intact number a a b c office items result office items × AtEndIf a result
+      → Exchange represents is_intact is_open number a a b c office items result office items × AtEndIf a result
   leave_broken number office items block more request a b c All next result n e h s = absurd (n refl)
   leave_broken number office items block more request a b c Failed next result n e h (front, (others, f), s) =
       let there : HasHead (items ++ []) block (Accepted request) (more ++ []) = head_more items block (Accepted request) more [] h in (
@@ -215,13 +221,13 @@ module _ {M : Type 0} (represents : M → State → Type 0) (is_intact : M → T
           λ i x shown. (
             x,
             shown,
-            subst (λ r. Turn number x (items ++ []) r front x items) (sym e) (record {
+            subst (λ r. Turn (is_open office) (is_open office) number x (items ++ []) r front x items) (sym e) (record {
               last = Fails request.waits false;
               stands = may_fail_after (items ++ []) block (more ++ []) request there;
               ends = tt;
               written = (others ++ refusal false (error Busy), ap (λ l. l ++ refusal false (error Busy)) f ∙ append_assoc front others (refusal false (error Busy)));
               leaves = refl;
-            }),
+            }, λ never. absurd never),
           ),
         ),
         subst (AtEndIf a) (sym e) tt,
@@ -236,13 +242,13 @@ module _ {M : Type 0} (represents : M → State → Type 0) (is_intact : M → T
           λ i x shown. (
             x,
             shown,
-            subst (λ r. Turn number x (items ++ []) r front x items) (sym e) (record {
+            subst (λ r. Turn (is_open office) (is_open office) number x (items ++ []) r front x items) (sym e) (record {
               last = Fails request.waits false;
               stands = may_fail_after (items ++ []) block (more ++ []) request there;
               ends = tt;
               written = (others ++ refusal false (error Busy), ap (λ l. l ++ refusal false (error Busy)) f ∙ append_assoc front others (refusal false (error Busy)));
               leaves = refl;
-            }),
+            }, λ never. absurd never),
           ),
         ),
         subst (AtEndIf a) (sym e) tt,
@@ -262,22 +268,26 @@ head_grown items new got size v h e a =
     let three = subst (λ m. HasHead (items ++ got) (take size new) v m) d two in
     subst (λ i. HasHead i (take size new) v (drop size new)) (sym e) three
 
+-- the last place; an office that it leaves open is open then
+abbrev pub LastTurn : Type 0 → Type 0 → ℕ → State → Bytes → Bytes → Ended → State → Type 0
+LastTurn was now number s input out end new = (stops : Stops number s input out end new) × (LastLeavesOpen was s stops.last → now)
+
 -- the input stops inside a body
-pub stops_in_body : (number : ℕ) (s : State) (items new got : Bytes) (size : ℕ) (r : Request) (end : Ended) → size ≤ length items → new ≡ items ++ got → length new < size + body_length r
-    → HasHead items (take size items) (Accepted r) (drop size items) → ((end ≡ Cut) ⊎ (end ≡ ReadFault)) → Stops number s (items ++ got) (leave_if r.waits) end s
-stops_in_body number s items new got size r end h e l a which =
+pub stops_in_body : (was : Type 0) (number : ℕ) (s : State) (items new got : Bytes) (size : ℕ) (r : Request) (end : Ended) → size ≤ length items → new ≡ items ++ got → length new < size + body_length r
+    → HasHead items (take size items) (Accepted r) (drop size items) → ((end ≡ Cut) ⊎ (end ≡ ReadFault)) → LastTurn was was number s (items ++ got) (leave_if r.waits) end s
+stops_in_body was number s items new got size r end h e l a which =
     let len : length new ≡ length items + length got = ap length e ∙ length-append items got in
     let stands : Stands (items ++ got) (BodyCut r) = (take size items, drop size items ++ got, head_more items (take size items) (Accepted r) (drop size items) got a, omega (arith, length-append (drop size items) got, length-drop size items)) in
-    elim which as (λ w. Stops number s (items ++ got) (leave_if r.waits) end s) [
-      | inl f ↦ subst (λ x. Stops number s (items ++ got) (leave_if r.waits) x s) (sym f) (record { last = BodyCut r; stands = stands; ends = tt; written = refl; leaves = refl })
-      | inr f ↦ subst (λ x. Stops number s (items ++ got) (leave_if r.waits) x s) (sym f) (record { last = BodyCut r; stands = stands; ends = inr tt; written = refl; leaves = refl })
+    elim which as (λ w. LastTurn was was number s (items ++ got) (leave_if r.waits) end s) [
+      | inl f ↦ subst (λ x. LastTurn was was number s (items ++ got) (leave_if r.waits) x s) (sym f) (record { last = BodyCut r; stands = stands; ends = tt; written = refl; leaves = refl }, λ stays. stays)
+      | inr f ↦ subst (λ x. LastTurn was was number s (items ++ got) (leave_if r.waits) x s) (sym f) (record { last = BodyCut r; stands = stands; ends = inr tt; written = refl; leaves = refl }, λ stays. stays)
     ]
 
 -- the input stops before a head or inside it
-pub stops_early : (number : ℕ) (s : State) (input : Bytes) → (IsBlank input ⊎ IsHeadCut input) → Stops number s input [] ReadFault s
-stops_early number s input (inl h) = record { last = Nothing; stands = h; ends = inl refl; written = refl; leaves = refl }
-stops_early number s input (inr h) = record { last = HeadCut; stands = h; ends = inr tt; written = refl; leaves = refl }
+pub stops_early : (was : Type 0) (number : ℕ) (s : State) (input : Bytes) → (IsBlank input ⊎ IsHeadCut input) → LastTurn was was number s input [] ReadFault s
+stops_early was number s input (inl h) = (record { last = Nothing; stands = h; ends = inl refl; written = refl; leaves = refl }, λ stays. stays)
+stops_early was number s input (inr h) = (record { last = HeadCut; stands = h; ends = inr tt; written = refl; leaves = refl }, λ stays. stays)
 
 -- a bound, where a head may have asked for leave
-pub bound_here : (number : ℕ) (s : State) (input : Bytes) (leave : Bool) → MayFail input leave false → Stops number s input (leave_if leave) Bound s
-bound_here number s input leave m = record { last = Fails leave false; stands = m; ends = tt; written = (refusal false (error Busy), refl); leaves = refl }
+pub bound_here : (was : Type 0) (number : ℕ) (s : State) (input : Bytes) (leave : Bool) → MayFail input leave false → LastTurn was was number s input (leave_if leave) Bound s
+bound_here was number s input leave m = (record { last = Fails leave false; stands = m; ends = tt; written = (refusal false (error Busy), refl); leaves = refl }, λ never. absurd never)

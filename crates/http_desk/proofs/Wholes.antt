@@ -9,8 +9,8 @@ use Rattle.http_desk.specs.declared.session_end.Next.TheVariants.{Ends}
 use Rattle.http_messages.specs.Ending.{scan}
 use Rattle.http_messages.specs.Heads.{Verdict}
 use Rattle.http_desk.specs.Messages.{longest_head, Last, Nothing, HeadCut, BodyCut, NoHead, Refuses, Answers, Fails, Stands, SomeHead, IsTooLong}
-use Rattle.http_desk.specs.Session.{IsClosing, Session}
-use Rattle.http_desk.specs.Talking.{AtEndIf, Talks, TalksWhole}
+use Rattle.http_desk.specs.Session.{IsClosing}
+use Rattle.http_desk.specs.Talking.{AtEndIf, Keeps, Talks, TalksWhole}
 use Rattle.http_desk.proofs.Turns.{head_more, begins_more}
 use Rattle.http_desk.proofs.Sessions.{cuts_longer}
 
@@ -34,8 +34,8 @@ stands_more number input more (Fails leave bare) c x = record {
 }
 
 -- what follows a closing answer means nothing
-pub nothing_follows : (s : State) (input out more : Bytes) (new : State) → Session s input out Closed new → Session s (input ++ more) out Closed new
-nothing_follows s input out more new a = record {
+pub nothing_follows : (was now : Type 0) (s : State) (input out more : Bytes) (new : State) → Keeps was now s input out Closed new → Keeps was now s (input ++ more) out Closed new
+nothing_follows was now s input out more new (a, kept) = (record {
   messages = a.messages;
   rest = a.rest ++ more;
   out = a.out;
@@ -50,21 +50,21 @@ nothing_follows s input out more new a = record {
     leaves = a.stops.leaves;
   };
   says = a.says;
-}
+}, kept)
 
 all_read : (xs ys read : Bytes) → xs ≡ read ++ ys → ys ≡ [] → read ≡ xs
 all_read xs ys read e f = sym (e ∙ ap (λ l. read ++ l) f ∙ append-nil read)
 
-pub talks_whole : {M : Type 0} (represents : M → State → Type 0) (is_intact : M → Type 0) (a b c d : Option Bytes) (old new : M) (end : Ended)
-    → Talks represents is_intact a b c d old end new → AtEndIf b (Ends end) → TalksWhole represents is_intact a c d old end new
-talks_whole represents is_intact None b c d old new end t at_end = tt
-talks_whole represents is_intact (Some xs) None c d old new end (read, written, q, p, through) at_end = absurd q
-talks_whole represents is_intact (Some xs) (Some ys) c d old new End (read, written, q, p, through) at_end =
-    λ h. (written, p, λ i s x. let (t, y, session) = through i s x in (t, y, subst (λ l. Session s l written End t) (all_read xs ys read q at_end) session))
-talks_whole represents is_intact (Some xs) (Some ys) c d old new Cut (read, written, q, p, through) at_end =
-    λ h. (written, p, λ i s x. let (t, y, session) = through i s x in (t, y, subst (λ l. Session s l written Cut t) (all_read xs ys read q at_end) session))
-talks_whole represents is_intact (Some xs) (Some ys) c d old new Closed (read, written, q, p, through) at_end =
-    λ h. (written, p, λ i s x. let (t, y, session) = through i s x in (t, y, subst (λ l. Session s l written Closed t) (sym q) (nothing_follows s read written ys t session)))
-talks_whole represents is_intact (Some xs) (Some ys) c d old new ReadFault t at_end = λ h. absurd h
-talks_whole represents is_intact (Some xs) (Some ys) c d old new WriteFault t at_end = λ h. absurd h
-talks_whole represents is_intact (Some xs) (Some ys) c d old new Bound t at_end = λ h. absurd h
+pub talks_whole : {M : Type 0} (represents : M → State → Type 0) (is_intact is_open : M → Type 0) (a b c d : Option Bytes) (old new : M) (end : Ended)
+    → Talks represents is_intact is_open a b c d old end new → AtEndIf b (Ends end) → TalksWhole represents is_intact is_open a c d old end new
+talks_whole represents is_intact is_open None b c d old new end t at_end = tt
+talks_whole represents is_intact is_open (Some xs) None c d old new end (read, written, q, p, through) at_end = absurd q
+talks_whole represents is_intact is_open (Some xs) (Some ys) c d old new End (read, written, q, p, through) at_end =
+    λ h. (written, p, λ i s x. let (t, y, session) = through i s x in (t, y, subst (λ l. Keeps (is_open old) (is_open new) s l written End t) (all_read xs ys read q at_end) session))
+talks_whole represents is_intact is_open (Some xs) (Some ys) c d old new Cut (read, written, q, p, through) at_end =
+    λ h. (written, p, λ i s x. let (t, y, session) = through i s x in (t, y, subst (λ l. Keeps (is_open old) (is_open new) s l written Cut t) (all_read xs ys read q at_end) session))
+talks_whole represents is_intact is_open (Some xs) (Some ys) c d old new Closed (read, written, q, p, through) at_end =
+    λ h. (written, p, λ i s x. let (t, y, session) = through i s x in (t, y, subst (λ l. Keeps (is_open old) (is_open new) s l written Closed t) (sym q) (nothing_follows (is_open old) (is_open new) s read written ys t session)))
+talks_whole represents is_intact is_open (Some xs) (Some ys) c d old new ReadFault t at_end = λ h. absurd h
+talks_whole represents is_intact is_open (Some xs) (Some ys) c d old new WriteFault t at_end = λ h. absurd h
+talks_whole represents is_intact is_open (Some xs) (Some ys) c d old new Bound t at_end = λ h. absurd h

@@ -1,5 +1,5 @@
 -- What holds of an office, whoever comes to it, by HTTP or by a call.
-use Rattle.std.specs.Prelude.{◌≡◌, ◌++◌, List, Option, Some, None}
+use Rattle.std.specs.Prelude.{◌≡◌, ◌++◌, IsOk, List, Option, Some, None}
 use Rattle.std.specs.List.{AllByRecursion}
 use Rattle.std.specs.Io.KnownBytes.{Consumes, Appends}
 use Rattle.isad_core.specs.Texts.{Bytes}
@@ -18,7 +18,7 @@ use Rattle.office_core.specs.Soundness.{IsSound, NamesDays}
 use Rattle.office_core.specs.State.{State}
 use Rattle.http_desk.specs.declared.session_end.Ended.{Ended}
 use Rattle.http_desk.specs.Runs.{HasCarriedOut, Visit, ByHttp, Directly, Replied, Answered, CallsNameDays, CallsNameTexts}
-use Rattle.http_desk.specs.Runs.{AllHappen, AllBring, IsVisited, AreVisits}
+use Rattle.http_desk.specs.Runs.{AllHappen, AllBring, IsVisited, AreVisits, VisitsLeaveOpen}
 use Rattle.http_desk.specs.Session.{Session}
 use Rattle.http_desk.specs.Talking.{Talks}
 
@@ -33,21 +33,25 @@ SessionsRunTheMachine =
 -- ---- what makes a visit
 
 -- What `talk` promises of a peer, `apply` of a command and `ask` of a question, each with its outcome, makes a visit.
-pub record MakeVisits {M : Type 0} (represents : M → State → Type 0) (is_intact : M → Type 0) : Type 0 where
+pub record MakeVisits {M : Type 0} (represents : M → State → Type 0) (is_intact is_open : M → Type 0) : Type 0 where
   pub talk : (left left_after held held_after : Option Bytes) (old new : M) (end : Ended)
-      → Talks represents is_intact left left_after held held_after old end new → (is_intact new → is_intact old)
+      → Talks represents is_intact is_open left left_after held held_after old end new → (is_intact new → is_intact old)
+      → (is_intact new → is_open new → is_open old)
       → (read written : Bytes) × Consumes left left_after read × Appends held held_after written
-      × IsVisited represents is_intact old new (ByHttp read written end)
+      × IsVisited represents is_intact is_open old new (ByHttp read written end)
   pub apply : (old new : M) (command : Command) (reply : Reply) → (is_intact new → is_intact old)
+      → (is_intact new → is_open new → is_open old) → (is_intact new → IsOk reply.done → is_open new)
       → (is_intact new → (s : State) → represents old s → represents new (machine.step s command).0
       × (reply.done ≡ (machine.step s command).1) × (reply.json ≡ reply_text (machine.step s command).1))
-      → IsVisited represents is_intact old new (Directly (ToDo command) (Some (Replied reply.done reply.json)))
+      → IsVisited represents is_intact is_open old new (Directly (ToDo command) (Some (Replied reply.done reply.json)))
   pub ask : (old new : M) (query : Query) (told : Answer) → (is_intact new → is_intact old)
+      → (is_intact new → is_open new → is_open old)
       → (is_intact new → (s : State) → represents old s → represents new s × (told ≡ answer s query))
-      → IsVisited represents is_intact old new (Directly (ToTell query) (Some (Answered told)))
+      → IsVisited represents is_intact is_open old new (Directly (ToTell query) (Some (Answered told)))
   pub busy : (old new : M) (asked : Asked) → (is_intact new → is_intact old)
+      → (is_intact new → is_open new → is_open old)
       → (is_intact new → (s : State) → represents old s → represents new s)
-      → IsVisited represents is_intact old new (Directly asked None)
+      → IsVisited represents is_intact is_open old new (Directly asked None)
 
 -- ---- what holds of all of them
 
@@ -78,8 +82,10 @@ VisitsRunTheMachine =
     → IsOneRun s visits new
 
 -- From a sound state on, whatever sessions and calls there were, what the office shows is what the machine has.
-abbrev pub TheHeadline : {M : Type 0} → (M → State → Type 0) → (M → Type 0) → Type 0
-TheHeadline {M} represents is_intact =
-    (visits : List Visit) (old new : M) → AreVisits represents is_intact old new visits → AllByRecursion CallsNameDays visits
-    → is_intact new → (s : State) → represents old s → IsSound s
+-- Where the last of them was a command that was accepted, the office is open.
+abbrev pub TheHeadline : {M : Type 0} → (M → State → Type 0) → (M → Type 0) → (M → Type 0) → Type 0
+TheHeadline {M} represents is_intact is_open =
+    (visits : List Visit) (old new : M) → AreVisits represents is_intact is_open old new visits
+    → AllByRecursion CallsNameDays visits → is_intact new → (s : State) → represents old s → IsSound s
     → (t : State) × represents new t × IsOneRun s visits t
+    × ((all : AllHappen s visits t) × (VisitsLeaveOpen (is_open old) s visits t all → is_open new))

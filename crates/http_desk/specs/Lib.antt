@@ -1,5 +1,6 @@
 pub mod Messages
 pub mod Session
+pub mod Keeping
 pub mod Laws
 pub mod Streams
 pub mod Sending

@@ -1,5 +1,5 @@
 -- What a session has the machine do, and how sessions and calls make one run of the machine.
-use Rattle.std.specs.Prelude.{◌≡◌, ◌++◌, List, [], ◌∷◌, Option, Some, None}
+use Rattle.std.specs.Prelude.{◌≡◌, ◌++◌, IsOk, List, [], ◌∷◌, Option, Some, None}
 use Rattle.std.specs.List.{AllByRecursion}
 use Rattle.isad_core.specs.Texts.{Bytes}
 use Rattle.office_core.specs.declared.command.Command.{Command}
@@ -13,6 +13,7 @@ use Rattle.office_core.specs.Soundness.{NamesDays}
 use Rattle.office_core.specs.State.{State}
 use Rattle.http_messages.specs.Answers.{Answer, of_reply, of_told, answered}
 use Rattle.http_desk.specs.declared.session_end.Ended.{Ended}
+use Rattle.http_desk.specs.Keeping.{LeavesOpen}
 use Rattle.http_desk.specs.Messages.{Message, Last, Nothing, HeadCut, BodyCut, NoHead, Refuses, Answers, Fails}
 use Rattle.http_desk.specs.Session.{Session, message_answer, state_after}
 use Rattle.http_desk.specs.Talking.{Through}
@@ -126,12 +127,30 @@ CallsNameTexts (ByHttp input output end) = Unit {0}
 CallsNameTexts (Directly (ToDo command) told) = NamesTexts command
 CallsNameTexts (Directly (ToTell query) told) = Unit {0}
 
+-- ---- which of them leave an office open
+
+-- a session that does so; a command that was accepted
+abbrev pub VisitLeavesOpen : Type 0 → (s : State) (visit : Visit) (new : State) → Happens s visit new → Type 0
+VisitLeavesOpen was_open s (ByHttp input output end) new session = LeavesOpen was_open session
+VisitLeavesOpen was_open s (Directly (ToDo command) (Some heard)) new happens = IsOk (machine.step s command).1
+VisitLeavesOpen was_open s (Directly (ToTell query) (Some heard)) new happens = ⊥
+VisitLeavesOpen was_open s (Directly asked None) new happens = ⊥
+
+-- the last of them does so; where there are none, the office was open before
+abbrev pub VisitsLeaveOpen : Type 0 → (s : State) (visits : List Visit) (new : State) → AllHappen s visits new → Type 0
+VisitsLeaveOpen was_open s [] new same = was_open
+VisitsLeaveOpen was_open s (visit ∷ later) new (mid, happens, more) =
+    VisitsLeaveOpen (VisitLeavesOpen was_open s visit mid happens) mid later new more
+
 -- ---- an office that is seen in a state, and whose store has returned what was written to it
 
-module _ {M : Type 0} (represents : M → State → Type 0) (is_intact : M → Type 0) where
+module _ {M : Type 0} (represents : M → State → Type 0) (is_intact is_open : M → Type 0) where
   pub record IsVisited (old new : M) (visit : Visit) : Type 0 where
     pub intact : is_intact new → is_intact old
-    pub happens : Through represents is_intact old new (λ s t. Happens s visit t)
+    pub was_open : is_intact new → is_open new → is_open old
+    -- an office that this leaves open is open then
+    pub happens : Through represents is_intact old new
+        (λ s t. (it : Happens s visit t) × (VisitLeavesOpen (is_open old) s visit t it → is_open new))
 
   abbrev pub AreVisits : M → M → List Visit → Type 0
   AreVisits old new [] = old ≡ new

@@ -12,6 +12,7 @@ use Rattle.http_desk.specs.declared.output.Sent.TheVariants.{All, Failed, Bound 
 use Rattle.http_messages.specs.declared.status.Status.{Status}
 use Rattle.http_messages.specs.Answers.{error}
 use Rattle.http_desk.specs.Sending.{Sends}
+use Rattle.http_desk.specs.Keeping.{IsAccepted, LastLeavesOpen, LeavesOpen}
 use Rattle.http_desk.specs.Messages.{Message, Begins}
 use Rattle.http_desk.specs.Session.{closes, message_text, state_after, refusal, Stops, Session}
 use Rattle.http_desk.specs.Laws.{HasEnded}
@@ -24,27 +25,36 @@ pub record GoesOn (number : ℕ) (s : State) (input out : Bytes) (new : State) (
   pub says : out ≡ message_text false s message
   pub leaves : new ≡ state_after s message
 
-abbrev pub Turn : ℕ → State → Bytes → Next → Bytes → State → Bytes → Type 0
-Turn number s input Goes out new rest = GoesOn number s input out new rest
-Turn number s input (Ends end) out new rest = Stops number s input out end new
+-- what comes in one message's place; an office that this leaves open is open then
+abbrev pub Turn : Type 0 → Type 0 → ℕ → State → Bytes → Next → Bytes → State → Bytes → Type 0
+Turn was_open is_open number s input Goes out new rest =
+    (goes : GoesOn number s input out new rest) × (IsAccepted s goes.message → is_open)
+Turn was_open is_open number s input (Ends end) out new rest =
+    (stops : Stops number s input out end new) × (LastLeavesOpen was_open s stops.last → is_open)
 
 -- from one office to another, where the store has returned what was written
 abbrev pub Through : {M : Type 0} → (M → State → Type 0) → (M → Type 0) → M → M → (State → State → Type 0) → Type 0
 Through represents is_intact old new P = is_intact new → (s : State) → represents old s → (t : State) × represents new t × P s t
 
 -- what stood in a buffer and what a reader gave then, answered on a writer, is one message's place
-abbrev pub Exchange : {M : Type 0} → (M → State → Type 0) → (M → Type 0) → ℕ → Option Bytes → Option Bytes
-    → Option Bytes → Option Bytes → M → Bytes → Next → M → Bytes → Type 0
-Exchange represents is_intact number left left_after held held_after old buffer next new rest =
+abbrev pub Exchange : {M : Type 0} → (M → State → Type 0) → (M → Type 0) → (M → Type 0) → ℕ → Option Bytes
+    → Option Bytes → Option Bytes → Option Bytes → M → Bytes → Next → M → Bytes → Type 0
+Exchange represents is_intact is_open number left left_after held held_after old buffer next new rest =
     (read : Bytes) × (written : Bytes) × Consumes left left_after read × Appends held held_after written
-    × Through represents is_intact old new (λ s t. Turn number s (buffer ++ read) next written t rest)
+    × Through represents is_intact old new
+    (λ s t. Turn (is_open old) (is_open new) number s (buffer ++ read) next written t rest)
+
+-- a session; an office that it leaves open is open then
+abbrev pub Keeps : Type 0 → Type 0 → State → Bytes → Bytes → Ended → State → Type 0
+Keeps was_open is_open s input output end new =
+    (session : Session s input output end new) × (LeavesOpen was_open session → is_open)
 
 -- what was read and written in a session
-abbrev pub Talks : {M : Type 0} → (M → State → Type 0) → (M → Type 0) → Option Bytes → Option Bytes → Option Bytes
-    → Option Bytes → M → Ended → M → Type 0
-Talks represents is_intact left left_after held held_after old end new =
+abbrev pub Talks : {M : Type 0} → (M → State → Type 0) → (M → Type 0) → (M → Type 0) → Option Bytes → Option Bytes
+    → Option Bytes → Option Bytes → M → Ended → M → Type 0
+Talks represents is_intact is_open left left_after held held_after old end new =
     (read : Bytes) × (written : Bytes) × Consumes left left_after read × Appends held held_after written
-    × Through represents is_intact old new (λ s t. Session s read written end t)
+    × Through represents is_intact old new (λ s t. Keeps (is_open old) (is_open new) s read written end t)
 
 -- these say that the input has ended
 abbrev pub AtEndIf : Option Bytes → Next → Type 0
@@ -81,8 +91,8 @@ Replies held held_after closing text next = (sent : Sent) × Sends held held_aft
     × (next ≡ after_sending sent (after_answer closing))
 
 -- the session of the whole input that a reader had
-abbrev pub TalksWhole : {M : Type 0} → (M → State → Type 0) → (M → Type 0) → Option Bytes → Option Bytes
+abbrev pub TalksWhole : {M : Type 0} → (M → State → Type 0) → (M → Type 0) → (M → Type 0) → Option Bytes → Option Bytes
     → Option Bytes → M → Ended → M → Type 0
-TalksWhole represents is_intact remaining held held_after old end new =
+TalksWhole represents is_intact is_open remaining held held_after old end new =
     IfSome remaining (λ input. HasEnded end → (written : Bytes) × Appends held held_after written
-    × Through represents is_intact old new (λ s t. Session s input written end t))
+    × Through represents is_intact old new (λ s t. Keeps (is_open old) (is_open new) s input written end t))

@@ -1,14 +1,16 @@
 //! What is answered to a request.
-ghost use Rattle.std.specs.Prelude.{◌&&◌, ◌≡◌, [], length, IfOk, OnErr, is_none, Some};
+ghost use Rattle.std.specs.Prelude.{◌&&◌, ◌≡◌, [], length, IfOk, IsOk, OnErr, is_none, Some, true, codes};
 ghost use Rattle.httparse.specs.Spans.{IsWithin};
 ghost use Rattle.office_core.specs.State.{State};
 ghost use Rattle.office_core.specs.Rules as rules;
 ghost use Rattle.office_core.specs.Json.{reply_text};
 ghost use Rattle.office_core.specs.Queries.{answer};
 ghost use Rattle.http_messages.specs.Answers as spec;
+ghost use Rattle.http_messages.specs.Routes as routes;
 ghost use Rattle.http_messages.specs.Heard.{request_in};
 ghost use Rattle.http_messages.specs.Replies.{answer_in};
 ghost use Rattle.http_messages.specs.Routing.{route_in};
+ghost use Rattle.http_messages.specs.declared.status.Status.TheVariants.{Fine};
 ghost use Rattle.office_core.specs.declared.command.Command.TheVariants as commands;
 
 use http_messages::answers::Answered;
@@ -45,7 +47,8 @@ impl Means {
 
 /// The answer of a reply.
 fn of_reply(reply: Reply) -> Answered
-    ensures { (r : rules.Reply) → reply.done ≡ r → reply.json ≡ reply_text r → answer_in result ≡ spec.of_reply r }
+    ensures same { (r : rules.Reply) → reply.done ≡ r → reply.json ≡ reply_text r → answer_in result ≡ spec.of_reply r }
+    ensures accepted { (answer_in result).status ≡ Fine → IsOk reply.done }
 {
     let Reply { done, json } = reply;
     match done {
@@ -68,6 +71,8 @@ fn of_told(told: Answer) -> Answered
 /// Has a command carried out.
 fn done<M: Machine>(alloc: Global, office: &mut M, command: Command) -> Result<Answered, Busy>
     ensures intact { M.is_intact office.new → M.is_intact office.old }
+    ensures was_open { M.is_intact office.new → M.is_open office.new → M.is_open office.old }
+    ensures kept { IfOk result (λ a. M.is_intact office.new → (answer_in a).status ≡ Fine → M.is_open office.new) }
     ensures answers { IfOk result (λ a. M.is_intact office.new → (s : State) → M.represents office.old s →
         M.represents office.new (spec.done s command).1 × (answer_in a ≡ (spec.done s command).0)) }
     ensures busy { OnErr result (M.is_intact office.new → (s : State) → M.represents office.old s
@@ -82,6 +87,7 @@ fn done<M: Machine>(alloc: Global, office: &mut M, command: Command) -> Result<A
 /// Has a question answered.
 fn asked<M: Machine>(alloc: Global, office: &mut M, query: Query) -> Result<Answered, Busy>
     ensures intact { M.is_intact office.new → M.is_intact office.old }
+    ensures was_open { M.is_intact office.new → M.is_open office.new → M.is_open office.old }
     ensures answers { IfOk result (λ a. M.is_intact office.new → (s : State) → M.represents office.old s →
         M.represents office.new s × (answer_in a ≡ spec.of_told (answer s query))) }
     ensures busy { OnErr result (M.is_intact office.new → (s : State) → M.represents office.old s
@@ -100,6 +106,8 @@ fn done_if_read<M: Machine>(
     command: Option<Command>,
 ) -> Result<Answered, Busy>
     ensures intact { M.is_intact office.new → M.is_intact office.old }
+    ensures was_open { M.is_intact office.new → M.is_open office.new → M.is_open office.old }
+    ensures kept { IfOk result (λ a. M.is_intact office.new → (answer_in a).status ≡ Fine → M.is_open office.new) }
     ensures answers { IfOk result (λ a. M.is_intact office.new → (s : State) → M.represents office.old s →
         M.represents office.new (spec.done_if_read s command).1 × (answer_in a ≡ (spec.done_if_read s command).0)) }
     ensures busy { OnErr result (M.is_intact office.new → (s : State) → M.represents office.old s
@@ -141,6 +149,9 @@ fn carried_out<M: Machine>(
     route: Route<'_>,
 ) -> Result<Answered, Busy>
     ensures intact { M.is_intact office.new → M.is_intact office.old }
+    ensures was_open { M.is_intact office.new → M.is_open office.new → M.is_open office.old }
+    ensures kept { routes.is_post (route_in route.entry) ≡ true
+        → IfOk result (λ a. M.is_intact office.new → (answer_in a).status ≡ Fine → M.is_open office.new) }
     ensures answers { IfOk result (λ a. M.is_intact office.new → (s : State) → M.represents office.old s →
         M.represents office.new (spec.carried_out s body.now (route_in route.entry)).1
         × (answer_in a ≡ (spec.carried_out s body.now (route_in route.entry)).0)) }
@@ -173,6 +184,9 @@ fn by_route<M: Machine>(
 ) -> Result<Answered, Busy>
     requires { IsWithin (length block.now) head.method }
     ensures intact { M.is_intact office.new → M.is_intact office.old }
+    ensures was_open { M.is_intact office.new → M.is_open office.new → M.is_open office.old }
+    ensures kept { (request_in block.now head).method ≡ codes "POST"
+        → IfOk result (λ a. M.is_intact office.new → (answer_in a).status ≡ Fine → M.is_open office.new) }
     ensures answers { IfOk result (λ a. M.is_intact office.new → (s : State) → M.represents office.old s →
         M.represents office.new (spec.by_route s (request_in block.now head) body.now (Some (route_in route.entry))).1
         × (answer_in a ≡ (spec.by_route s (request_in block.now head) body.now (Some (route_in route.entry))).0)) }
@@ -200,6 +214,9 @@ pub fn respond<M: Machine>(
     requires method { IsWithin (length block.now) head.method }
     requires target { IsWithin (length block.now) head.target }
     ensures intact { M.is_intact office.new → M.is_intact office.old }
+    ensures was_open { M.is_intact office.new → M.is_open office.new → M.is_open office.old }
+    ensures kept { (request_in block.now head).method ≡ codes "POST"
+        → IfOk result (λ a. M.is_intact office.new → (answer_in a).status ≡ Fine → M.is_open office.new) }
     ensures answers { IfOk result (λ a. M.is_intact office.new → (s : State) → M.represents office.old s →
         M.represents office.new (spec.answered s (request_in block.now head) body.now).1
         × (answer_in a ≡ (spec.answered s (request_in block.now head) body.now).0)) }

@@ -143,8 +143,10 @@ fn act<W: Write, M: Machine>(
         (Accepted (request_in (take size buffer.old.items) head)) (drop size buffer.old.items) }
     ensures turn { (written : Bytes) × Appends writer.old.bytes writer.new.bytes written
         × Through M.represents M.is_intact office.old office.new (λ s t.
-        Turn number s buffer.old.items result (leave_if head.waits ++ written) t buffer.new.items) }
+        Turn (M.is_open office.old) (M.is_open office.new) number s buffer.old.items result
+            (leave_if head.waits ++ written) t buffer.new.items) }
     ensures intact { M.is_intact office.new → M.is_intact office.old }
+    ensures was_open { M.is_intact office.new → M.is_open office.new → M.is_open office.old }
     ensures no_end { IsNoEnd result }
     ensures flushed { IsFlushed writer.new result }
     ensures writes { TellsWriteFault writer.old writer.new result }
@@ -182,9 +184,10 @@ fn receive<R: Read, W: Write, M: Machine>(
     requires target { IsWithin (length (take size buffer.old.items)) head.target }
     requires accepted { HasHead buffer.old.items (take size buffer.old.items)
         (Accepted (request_in (take size buffer.old.items) head)) (drop size buffer.old.items) }
-    ensures turn { Exchange M.represents M.is_intact number reader.old.bytes reader.new.bytes
+    ensures turn { Exchange M.represents M.is_intact M.is_open number reader.old.bytes reader.new.bytes
         writer.old.bytes writer.new.bytes office.old buffer.old.items result office.new buffer.new.items }
     ensures intact { M.is_intact office.new → M.is_intact office.old }
+    ensures was_open { M.is_intact office.new → M.is_open office.new → M.is_open office.old }
     ensures at_end { AtEndIf reader.new.bytes result }
     ensures flushed { FlushesAll writer.old writer.new result }
     ensures reads { TellsReadFault reader.old reader.new result }
@@ -216,9 +219,10 @@ fn exchange<R: Read, W: Write, M: Machine>(
     buffer: &mut Vec<u8>,
     number: u32,
 ) -> Next
-    ensures turn { Exchange M.represents M.is_intact number reader.old.bytes reader.new.bytes
+    ensures turn { Exchange M.represents M.is_intact M.is_open number reader.old.bytes reader.new.bytes
         writer.old.bytes writer.new.bytes office.old buffer.old.items result office.new buffer.new.items }
     ensures intact { M.is_intact office.new → M.is_intact office.old }
+    ensures was_open { M.is_intact office.new → M.is_open office.new → M.is_open office.old }
     ensures at_end { AtEndIf reader.new.bytes result }
     ensures flushed { FlushesAll writer.old writer.new result }
     ensures reads { TellsReadFault reader.old reader.new result }
@@ -251,9 +255,10 @@ fn talk_with<R: Read, W: Write, M: Machine>(
     writer: &mut Sink<'_, W>,
     office: &mut M,
 ) -> Ended
-    ensures session { Talks M.represents M.is_intact reader.old.bytes reader.new.bytes
+    ensures session { Talks M.represents M.is_intact M.is_open reader.old.bytes reader.new.bytes
         writer.old.bytes writer.new.bytes office.old result office.new }
     ensures intact { M.is_intact office.new → M.is_intact office.old }
+    ensures was_open { M.is_intact office.new → M.is_open office.new → M.is_open office.old }
     ensures at_end { AtEndIf reader.new.bytes (Next.Ends result) }
     ensures flushed { FlushesAll writer.old writer.new (Next.Ends result) }
     ensures read_fault { TellsReadFault reader.old reader.new (Next.Ends result) }
@@ -280,12 +285,13 @@ pub fn talk<R: Read, W: Write, M: Machine>(
     writer: &mut Sink<'_, W>,
     office: &mut M,
 ) -> Ended
-    ensures session { Talks M.represents M.is_intact reader.old.bytes reader.new.bytes
+    ensures session { Talks M.represents M.is_intact M.is_open reader.old.bytes reader.new.bytes
         writer.old.bytes writer.new.bytes office.old result office.new }
     // Where the reader tells its bytes, it is a session of all of them.
-    ensures whole { TalksWhole M.represents M.is_intact reader.old.bytes
+    ensures whole { TalksWhole M.represents M.is_intact M.is_open reader.old.bytes
         writer.old.bytes writer.new.bytes office.old result office.new }
     ensures intact { M.is_intact office.new → M.is_intact office.old }
+    ensures was_open { M.is_intact office.new → M.is_open office.new → M.is_open office.old }
     ensures at_end { AtEndIf reader.new.bytes (Next.Ends result) }
     // All that was written was flushed, unless a fault of the writer or a bound ends the session.
     ensures flushed { FlushesAll writer.old writer.new (Next.Ends result) }

@@ -55,6 +55,8 @@ impl Machine for Counter {
 
     ghost is_intact = { λ office. Prim.Unit {0} };
 
+    ghost is_open = { λ office. Prim.Unit {0} };
+
     fn apply(&mut self, alloc: Global, _command: Command) -> Result<Reply, Busy> {
         let Ok(json) = Vec::from_slice(alloc, b"{\"ticket\":1}") else {
             return Err(Busy::Memory);
@@ -310,6 +312,8 @@ impl Machine for Long {
 
     ghost is_intact = { λ office. Prim.Unit {0} };
 
+    ghost is_open = { λ office. Prim.Unit {0} };
+
     fn apply(&mut self, _alloc: Global, _command: Command) -> Result<Reply, Busy> {
         Err(Busy::Memory)
     }
@@ -360,6 +364,8 @@ impl Machine for Tally {
     ghost represents = { λ office s. ⊥ };
 
     ghost is_intact = { λ office. Prim.Unit {0} };
+
+    ghost is_open = { λ office. Prim.Unit {0} };
 
     fn apply(&mut self, alloc: Global, command: Command) -> Result<Reply, Busy> {
         let Ok(json) = Vec::from_slice(alloc, b"{\"ticket\":1}") else {

@@ -2,22 +2,38 @@
 use Rattle.std.proofs.Common.{◌≡◌, List, [], ◌∷◌, Option, Some, None, refl, sym, ap, subst, ◌∙◌}
 use Rattle.office_core.specs.MixedRuns.{Told, next_state, told_of, state_after_all, all_told}
 use Rattle.office_core.specs.State.{State}
-use Rattle.office.specs.Runs.{Call, heard, with_heard, all_heard, with_told, Follows, AreCalls, IsMachinesRun}
+use Rattle.office.specs.Runs.{Call, heard, with_heard, all_heard, with_told, Follows, AreCalls, IsAcceptance, IsMachinesRun, LeaveOpen}
 
-module _ {M : Type 0} (represents : M → State → Type 0) (is_intact : M → Type 0) where
-  intact_before : (calls : List Call) (old new : M) → AreCalls represents is_intact old new calls → is_intact new → is_intact old
+module _ {M : Type 0} (represents : M → State → Type 0) (is_intact is_open : M → Type 0) where
+  intact_before : (calls : List Call) (old new : M) → AreCalls represents is_intact is_open old new calls → is_intact new → is_intact old
   intact_before [] old new same intact = subst (λ (m : M). is_intact m) (sym same) intact
   intact_before (call ∷ later) old new it intact = it.1.intact (intact_before later it.0 new it.2 intact)
 
-  pub machines_run : (calls : List Call) (old new : M) → AreCalls represents is_intact old new calls → IsMachinesRun represents is_intact old new calls
-  machines_run [] old new same intact s is = (subst (λ (m : M). represents m s) same is, refl)
-  machines_run (call ∷ later) old new it intact s is =
-      at call.told (it.1.follows (intact_before later it.0 new it.2 intact) s is) (λ t shown. machines_run later it.0 new it.2 intact t shown)
+  -- what leaves an office open that was so, leaves one open that was so, too
+  still_open : (was now : Type 0) (calls : List Call) → (was → now) → LeaveOpen was calls → LeaveOpen now calls
+  still_open was now [] still h = still h
+  still_open was now (call ∷ later) still h = h
+
+  left_open : (calls : List Call) (old new : M) → AreCalls represents is_intact is_open old new calls → is_intact new → LeaveOpen (is_open old) calls → is_open new
+  left_open [] old new same intact h = subst (λ (m : M). is_open m) same h
+  left_open (call ∷ later) old new it intact h =
+      left_open later it.0 new it.2 intact (still_open (IsAcceptance call.told) (is_open it.0) later (it.1.kept (intact_before later it.0 new it.2 intact)) h)
+
+  runs : (calls : List Call) (old new : M) → AreCalls represents is_intact is_open old new calls → is_intact new → (s : State) → represents old s
+      → represents new (state_after_all s (heard calls)) × (all_heard calls ≡ all_told s (heard calls))
+  runs [] old new same intact s is = (subst (λ (m : M). represents m s) same is, refl)
+  runs (call ∷ later) old new it intact s is =
+      at call.told (it.1.follows (intact_before later it.0 new it.2 intact) s is) (λ t shown. runs later it.0 new it.2 intact t shown)
     where
-      at : (told : Option Told) → Follows represents is_intact s call.asked told it.0
+      at : (told : Option Told) → Follows represents is_intact is_open s call.asked told it.0
           → ((t : State) → represents it.0 t → represents new (state_after_all t (heard later)) × (all_heard later ≡ all_told t (heard later)))
           → represents new (state_after_all s (with_heard call.asked told (heard later))) × (with_told told (all_heard later) ≡ all_told s (with_heard call.asked told (heard later)))
       at (Some told) follows on =
           let rest = on (next_state s call.asked) follows.0 in
           (rest.0, ap (λ (t : Told). t ∷ all_heard later) follows.1 ∙ ap (λ (ts : List Told). told_of s call.asked ∷ ts) rest.1)
       at None follows on = on s follows
+
+  pub machines_run : (calls : List Call) (old new : M) → AreCalls represents is_intact is_open old new calls → IsMachinesRun represents is_intact is_open old new calls
+  machines_run calls old new are intact s is =
+      let (shown, told) = runs calls old new are intact s is in
+      (shown, told, left_open calls old new are intact)

@@ -1,6 +1,6 @@
 -- The calls of an office over its tables are calls of the machine.
 use Rattle.std.proofs.Common.{◌≡◌, ℕ, Result, Ok, Err, OnErr, sym, ap, subst, ◌∙◌}
-use Rattle.std.specs.Prelude.{IfOk}
+use Rattle.std.specs.Prelude.{IfOk, IsOk}
 use Rattle.sqlite_trees.specs.declared.store.Store as store
 use Rattle.sqlite.specs.Effect.{Database}
 use Rattle.sqlite.specs.Held.{Held, state}
@@ -20,7 +20,7 @@ use Rattle.office_core.specs.declared.machine.Reply.{Reply}
 use Rattle.office_core.specs.declared.query.Answer.{Answer}
 use Rattle.office_core.specs.declared.query.Query.{Query}
 use Rattle.office.specs.Applying.{TakesStep}
-use Rattle.office.specs.Resting.{IsAsBefore, IsIn, is_clean, is_shown}
+use Rattle.office.specs.Resting.{IsAsBefore, IsIn, is_clean, is_shown, is_still_open}
 use Rattle.office.specs.Runs.{IsCall, answered, applied}
 use Rattle.refinement.specs.Represents.{RepresentsState}
 
@@ -37,15 +37,20 @@ module _ {S : Type 0} (g : store.Ghosts S) (places : Trees → Forest ℕ → Ty
 
   -- a command
   pub applied_call : {E : Type 0} (asked : Command) (r : Result Reply E) → (clean new → clean old)
+      → (clean new → is_still_open g new → is_still_open g old) → (clean new → IfOk r (λ reply. IsOk reply.done → is_still_open g new))
       → (clean new → (s : State) → IsSoundOffice s → IsIn places version s (state g old) → IfOk r (λ reply. TakesStep places version s asked reply.done (state g new)))
       → ((s : State) → IsSoundOffice s → IsSoundOffice (step s asked).0) → (clean new → OnErr r (IsAsBefore (state g old) (state g new)))
-      → IsCall shown clean old new (applied asked r)
-  applied_call asked (Ok reply) before steps sound busy = record {
+      → IsCall shown clean (is_still_open g) old new (applied asked r)
+  applied_call asked (Ok reply) before was kept steps sound busy = record {
     intact = before;
+    was_open = was;
+    kept = kept;
     follows = λ at s is. let it = steps at s is.0 is.1 in ((sound s is.0, it.1), ap Replied it.0);
   }
-  applied_call asked (Err e) before steps sound busy = record {
+  applied_call asked (Err e) before was kept steps sound busy = record {
     intact = before;
+    was_open = was;
+    kept = λ at never. absurd never;
     follows = λ at s is. (is.0, in_as_before places version (state g old) (state g new) s (busy at) is.1);
   }
 
@@ -58,6 +63,10 @@ module _ {S : Type 0} (g : store.Ghosts S) (places : Trees → Forest ℕ → Ty
       ((sound s is.0, it.1), it.0, bytes ∙ ap (λ (r : rules.Reply). reply_text r) it.0)
   step_told asked (Err e) steps sound bytes = tt
 
+  pub kept_open : {E : Type 0} (r : Result Reply E) → (clean new → IfOk r (λ reply. IsOk reply.done → is_still_open g new)) → IfOk r (λ reply. clean new → IsOk reply.done → is_still_open g new)
+  kept_open (Ok reply) kept = kept
+  kept_open (Err e) kept = tt
+
   pub busy_same : {X E : Type 0} (r : Result X E) → (clean new → OnErr r (IsAsBefore (state g old) (state g new))) → OnErr r (clean new → (s : State) → shown old s → shown new s)
   busy_same (Ok x) same = tt
   busy_same (Err e) same = λ at s is. (is.0, in_as_before places version (state g old) (state g new) s (same at) is.1)
@@ -65,13 +74,17 @@ module _ {S : Type 0} (g : store.Ghosts S) (places : Trees → Forest ℕ → Ty
   -- a question
   pub answered_call : {E : Type 0} (asked : Query) (r : Result Answer E) → (clean new → clean old)
       → (clean new → (s : State) → IsSoundOffice s → IsIn places version s (state g old) → IfOk r (λ told. told ≡ answer s asked))
-      → (clean new → IsAsBefore (state g old) (state g new)) → IsCall shown clean old new (answered asked r)
+      → (clean new → IsAsBefore (state g old) (state g new)) → IsCall shown clean (is_still_open g) old new (answered asked r)
   answered_call asked (Ok told) before answers same = record {
     intact = before;
+    was_open = λ at. (same at).was_open;
+    kept = λ at never. absurd never;
     follows = λ at s is. ((is.0, in_as_before places version (state g old) (state g new) s (same at) is.1), ap Answered (answers at s is.0 is.1));
   }
   answered_call asked (Err e) before answers same = record {
     intact = before;
+    was_open = λ at. (same at).was_open;
+    kept = λ at never. absurd never;
     follows = λ at s is. (is.0, in_as_before places version (state g old) (state g new) s (same at) is.1);
   }
 

@@ -38,6 +38,10 @@ is_shown g places version office s = IsSoundOffice s × IsIn places version s (s
 abbrev pub is_clean : {S : Type 0} → trees.Ghosts S → Held S → Type 0
 is_clean g office = HasCleanDisk (state g office)
 
+-- no failure of the disk has shut its connection
+abbrev pub is_still_open : {S : Type 0} → trees.Ghosts S → Held S → Type 0
+is_still_open g office = IsTrue (state g office).is_open
+
 -- no transaction is open, and while the connection is open, the tables are as they were
 pub record IsAsBefore (old new : store.State) : Type 0 where
   pub was_open : IsTrue new.is_open → IsTrue old.is_open

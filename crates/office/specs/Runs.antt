@@ -1,5 +1,5 @@
 -- Calls on an office, one after another, and the run of the machine.
-use Rattle.std.specs.Prelude.{◌≡◌, List, [], ◌∷◌, Option, Some, None, Result, Ok, Err}
+use Rattle.std.specs.Prelude.{◌≡◌, IsOk, List, [], ◌∷◌, Option, Some, None, Result, Ok, Err}
 use Rattle.office_core.specs.MixedRuns.{Asked, ToDo, ToTell, Told, Replied, Answered, next_state, told_of, state_after_all, all_told}
 use Rattle.office_core.specs.State.{State}
 use Rattle.office_core.specs.declared.command.Command.{Command}
@@ -38,8 +38,19 @@ abbrev pub all_heard : List Call → List Told
 all_heard [] = []
 all_heard (call ∷ later) = with_told call.told (all_heard later)
 
--- An office is seen in a state, and its store has returned what was written to it.
-module _ {M : Type 0} (represents : M → State → Type 0) (is_intact : M → Type 0) where
+-- a command was accepted
+abbrev pub IsAcceptance : Option Told → Type 0
+IsAcceptance (Some (Replied reply)) = IsOk reply
+IsAcceptance (Some (Answered answer)) = ⊥
+IsAcceptance None = ⊥
+
+-- the last call was a command that was accepted; where there are none, the office was open before
+abbrev pub LeaveOpen : Type 0 → List Call → Type 0
+LeaveOpen was_open [] = was_open
+LeaveOpen was_open (call ∷ later) = LeaveOpen (IsAcceptance call.told) later
+
+-- An office is seen in a state, and its store has returned what was written to it, and is open.
+module _ {M : Type 0} (represents : M → State → Type 0) (is_intact is_open : M → Type 0) where
   -- what is told is what the machine tells, in its next state; an office that is busy stays as it is
   abbrev pub Follows : State → Asked → Option Told → M → Type 0
   Follows s asked (Some told) new = represents new (next_state s asked) × (told ≡ told_of s asked)
@@ -48,6 +59,8 @@ module _ {M : Type 0} (represents : M → State → Type 0) (is_intact : M → T
   -- one call
   pub record IsCall (old new : M) (call : Call) : Type 0 where
     pub intact : is_intact new → is_intact old
+    pub was_open : is_intact new → is_open new → is_open old
+    pub kept : is_intact new → IsAcceptance call.told → is_open new
     pub follows : is_intact new → (s : State) → represents old s → Follows s call.asked call.told new
 
   -- one call after another
@@ -55,8 +68,10 @@ module _ {M : Type 0} (represents : M → State → Type 0) (is_intact : M → T
   AreCalls old new [] = old ≡ new
   AreCalls old new (call ∷ later) = (mid : M) × IsCall old mid call × AreCalls mid new later
 
-  -- what is told is what the machine tells over what it is asked, and the office is then in the machine's state
+  -- What is told is what the machine tells over what it is asked, and the office is then in the machine's state. Where the
+  -- last call was a command that was accepted, it is open.
   abbrev pub IsMachinesRun : M → M → List Call → Type 0
   IsMachinesRun old new calls =
       is_intact new → (s : State) → represents old s
       → represents new (state_after_all s (heard calls)) × (all_heard calls ≡ all_told s (heard calls))
+      × (LeaveOpen (is_open old) calls → is_open new)

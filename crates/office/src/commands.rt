@@ -154,6 +154,8 @@ pub(crate) fn apply_to<P: Places, S: Alter>(
     ensures steps { HasCleanDisk (state S.Store conn.new)
         → (s : State) → IsSoundOffice s → IsIn P.represents P.version s (state S.Store conn.old)
         → IfOk result (λ reply. TakesStep P.represents P.version s command.now reply.done (state S.Store conn.new)) }
+    ensures was_open { HasCleanDisk (state S.Store conn.new)
+        → IsTrue (state S.Store conn.new).is_open → IsTrue (state S.Store conn.old).is_open }
     ensures kept { HasCleanDisk (state S.Store conn.new)
         → IfOk result (λ reply. IsOk reply.done → IsTrue (state S.Store conn.new).is_open) }
     ensures bytes { IfOk result (λ reply. reply.json ≡ reply_text reply.done) }

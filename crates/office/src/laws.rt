@@ -33,6 +33,6 @@ pub use state_encoding::laws_of_offices::{
 /// Over any list of calls, whatever was busy among them, the office runs as the machine does: it tells what the machine
 /// tells over what was asked while it was not busy, and is then in the machine's state.
 pub fn calls_are_the_machines_run<M: Machine>()
-    ensures { (calls : List Call) (old new : M) → AreCalls M.represents M.is_intact old new calls
-        → IsMachinesRun M.represents M.is_intact old new calls }
+    ensures { (calls : List Call) (old new : M) → AreCalls M.represents M.is_intact M.is_open old new calls
+        → IsMachinesRun M.represents M.is_intact M.is_open old new calls }
 {}

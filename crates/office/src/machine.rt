@@ -7,11 +7,13 @@ use sqlite::Alter;
 use std::alloc::Global;
 
 impl<P: Places, S: Alter> Machine for Office<P, S> {
-    ghost use Rattle.office.specs.Resting.{is_clean, is_shown};
+    ghost use Rattle.office.specs.Resting.{is_clean, is_shown, is_still_open};
 
     ghost represents = { is_shown S.Store P.represents P.version };
 
     ghost is_intact = { is_clean S.Store };
+
+    ghost is_open = { is_still_open S.Store };
 
     fn apply(&mut self, alloc: Global, command: Command) -> Result<Reply, Busy> {
         Office::apply(self, alloc, &command)

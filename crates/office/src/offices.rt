@@ -18,7 +18,7 @@ ghost use Rattle.office.specs.Applying.{HasBusyCause, MayFind, TakesStep};
 ghost use Rattle.office.specs.Founding.{founded};
 ghost use Rattle.office.specs.Migrating.{MayFindSpans};
 ghost use Rattle.office.specs.Opening.{HasOpenCause};
-ghost use Rattle.office.specs.Resting.{IsAsBefore, IsIn, is_clean, is_shown};
+ghost use Rattle.office.specs.Resting.{IsAsBefore, IsIn, is_clean, is_shown, is_still_open};
 ghost use Rattle.office.specs.Runs.{IsCall, answered, applied};
 ghost use Rattle.refinement.specs.Represents.{RepresentsState};
 ghost use Rattle.nested_sets.specs.Represents.{RepresentsSpanRows};
@@ -114,6 +114,8 @@ impl<P: Places, S: Alter> Office<P, S> {
             → IfOk result (λ reply. TakesStep P.represents P.version s command.now reply.done
             (state S.Store self.new)) }
         ensures sound { (s : State) → IsSoundOffice s → IsSoundOffice (step s command.now).0 }
+        ensures was_open { HasCleanDisk (state S.Store self.new)
+            → IsTrue (state S.Store self.new).is_open → IsTrue (state S.Store self.old).is_open }
         ensures kept { HasCleanDisk (state S.Store self.new)
             → IfOk result (λ reply. IsOk reply.done → IsTrue (state S.Store self.new).is_open) }
         ensures bytes { IfOk result (λ reply. reply.json ≡ reply_text reply.done) }
@@ -126,8 +128,8 @@ impl<P: Places, S: Alter> Office<P, S> {
             → IfErr result (HasBusyCause (state S.Store self.old) (state S.Store self.new)) }
         ensures crash { Survives (state S.Store self.old) (state S.Store self.new)
             (MayFind P.represents P.version command.now (state S.Store self.old)) }
-        ensures call { IsCall (is_shown S.Store P.represents P.version) (is_clean S.Store) self.old self.new
-            (applied command.now result) }
+        ensures call { IsCall (is_shown S.Store P.represents P.version) (is_clean S.Store) (is_still_open S.Store)
+            self.old self.new (applied command.now result) }
     {
         names_days_and_texts(command);
         match apply_to::<P, S>(alloc, &mut self.conn, command) {
@@ -147,8 +149,8 @@ impl<P: Places, S: Alter> Office<P, S> {
             → (s : State) → IsSoundOffice s → IsIn P.represents P.version s (state S.Store self.old)
             → IfErr result (HasBusyCause (state S.Store self.old) (state S.Store self.new)) }
         ensures crash { Survives (state S.Store self.old) (state S.Store self.new) (λ _. ⊥) }
-        ensures call { IsCall (is_shown S.Store P.represents P.version) (is_clean S.Store) self.old self.new
-            (answered query result) }
+        ensures call { IsCall (is_shown S.Store P.represents P.version) (is_clean S.Store) (is_still_open S.Store)
+            self.old self.new (answered query result) }
     {
         match ask_in::<P, S>(alloc, &mut self.conn, query) {
             Ok(answer) => Ok(answer),

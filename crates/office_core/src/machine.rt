@@ -1,5 +1,5 @@
 //! An office that takes commands and questions, one after the other.
-ghost use Rattle.std.specs.Prelude.{◌≡◌, IfOk, OnErr};
+ghost use Rattle.std.specs.Prelude.{◌≡◌, IfOk, IsOk, OnErr};
 ghost use Rattle.office_core.specs.State.{State};
 ghost use Rattle.office_core.specs.Rules.{step};
 ghost use Rattle.office_core.specs.Json.{reply_text};
@@ -35,9 +35,14 @@ pub trait Machine {
     /// The store has returned what was written to it so far.
     ghost is_intact: { Self → Type 0 };
 
-    /// Carries out one command.
+    /// What it keeps is seen through its store, which no failure of the disk has shut.
+    ghost is_open: { Self → Type 0 };
+
+    /// Carries out one command. Once a command was accepted the office is open; one that was shut stays so.
     fn apply(&mut self, alloc: Global, command: Command) -> Result<Reply, Busy>
         ensures intact { is_intact self.new → is_intact self.old }
+        ensures was_open { is_intact self.new → is_open self.new → is_open self.old }
+        ensures kept { IfOk result (λ reply. is_intact self.new → IsOk reply.done → is_open self.new) }
         ensures step { IfOk result (λ reply. is_intact self.new → (s : State) → represents self.old s →
             represents self.new (step s command).0 × (reply.done ≡ (step s command).1)
             × (reply.json ≡ reply_text (step s command).1)) }
@@ -47,6 +52,7 @@ pub trait Machine {
     /// Answers one question.
     fn ask(&mut self, alloc: Global, query: Query) -> Result<Answer, Busy>
         ensures intact { is_intact self.new → is_intact self.old }
+        ensures was_open { is_intact self.new → is_open self.new → is_open self.old }
         ensures answer { IfOk result (λ told. is_intact self.new → (s : State) → represents self.old s →
             represents self.new s × (told ≡ answer s query)) }
         ensures busy { OnErr result (is_intact self.new → (s : State) → represents self.old s

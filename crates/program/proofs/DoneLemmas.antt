@@ -1,10 +1,11 @@
 -- What the files hold once a command is done.
-use Rattle.std.proofs.Common.{refl}
+use Rattle.std.proofs.Common.{IsTrue, inl, inr, refl}
 use Rattle.sqlite.specs.Files.{file_state}
 use Rattle.sqlite.specs.Recovery.{Image}
 use Rattle.sqlite_disk.specs.declared.Disk.{Ghosts}
 use Rattle.office_tables.proofs.Calls.{early}
 use Rattle.program.proofs.HeadlineLemmas.{held_so}
+use Rattle.program.specs.Closed.{HoldState}
 use Rattle.program.specs.Stores.{WhatWasBroughtOverIsHeld, WhatWasMadeIsHeld, WhatWasSaidIsHeld, WhatWasServedIsHeld, WhatWasTakenInIsHeld}
 
 module _ {D : Type 0} (g : Ghosts D) (image : Image) where
@@ -22,16 +23,18 @@ module _ {D : Type 0} (g : Ghosts D) (image : Image) where
       held_so g image it.after files _ it.closed honest (after opened) opened
 
   pub said : WhatWasSaidIsHeld g image
-  said left left_after held held_after end files it honest s holds sound opened =
+  said left left_after held held_after end files it honest s holds sound =
       let clean = it.closed.clean honest in
-      let (t, shown, session) = it.session clean s (sound, (it.opened (it.intact clean)).left s holds) in
-      (t, session, held_so g image it.after files t it.closed honest (shown.1 opened) opened)
+      let (t, shown, talked) = it.session clean s (sound, (it.opened (it.intact clean)).left s holds) in
+      let held : IsTrue (file_state it.after).is_open → HoldState g files t = λ opened. held_so g image it.after files t it.closed honest (shown.1 opened) opened in
+      (t, talked.0, λ either. elim either as (λ _. HoldState g files t) [ inl leaves ↦ held (talked.1 leaves) | inr opened ↦ held opened ])
 
   pub served : WhatWasServedIsHeld g image
-  served connections all files it honest s holds sound opened =
+  served connections all files it honest s holds sound =
       let clean = it.closed.clean honest in
-      let (t, shown, are) = it.sessions.sessions clean s (sound, (it.opened (it.intact clean)).left s holds) in
-      (t, are, held_so g image it.after files t it.closed honest (shown.1 opened) opened)
+      let (t, shown, served) = it.sessions.sessions clean s (sound, (it.opened (it.intact clean)).left s holds) in
+      let held : IsTrue (file_state it.after).is_open → HoldState g files t = λ opened. held_so g image it.after files t it.closed honest (shown.1 opened) opened in
+      (t, served.0, λ either. elim either as (λ _. HoldState g files t) [ inl leaves ↦ held (served.1 leaves) | inr opened ↦ held opened ])
 
   pub brought_over : WhatWasBroughtOverIsHeld g image
   brought_over files it honest =

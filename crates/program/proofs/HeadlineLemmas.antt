@@ -1,5 +1,5 @@
 -- The headline over nested sets.
-use Rattle.std.proofs.Common.{IsTrue, List, [], ◌∷◌, subst, sym}
+use Rattle.std.proofs.Common.{IsTrue, List, [], ◌∷◌, inl, inr, subst, sym}
 use Rattle.sqlite.specs.Effect.{Database}
 use Rattle.sqlite.specs.Files.{file_state, over_files}
 use Rattle.sqlite.specs.Held.{Held}
@@ -12,7 +12,7 @@ use Rattle.sqlite_store.specs.declared.store.FileStore.{FileStore}
 use Rattle.http_desk.proofs.OneRun as law
 use Rattle.http_desk.specs.Runs.{AreVisits, Visit}
 use Rattle.nested_sets.specs.Represents.{RepresentsSpanRows}
-use Rattle.office.specs.Resting.{is_clean, is_shown}
+use Rattle.office.specs.Resting.{is_clean, is_shown, is_still_open}
 use Rattle.office_core.specs.State.{State}
 use Rattle.office_tables.specs.Schema.{schema}
 use Rattle.refinement.specs.Represents.{RepresentsState}
@@ -21,14 +21,16 @@ use Rattle.program.specs.Closed.{HasLeft, HaveCleanDisk, HoldState}
 use Rattle.program.specs.Headline.{TheHeadlineInAFile, TheHeadlineInMemory}
 
 -- a disk that has returned what was written to the last visit did so before the first
-all_intact : {M : Type 0} (represents : M → State → Type 0) (is_intact : M → Type 0) (visits : List Visit) (old new : M) → AreVisits represents is_intact old new visits
+all_intact : {M : Type 0} (represents : M → State → Type 0) (is_intact is_open : M → Type 0) (visits : List Visit) (old new : M) → AreVisits represents is_intact is_open old new visits
     → is_intact new → is_intact old
-all_intact represents is_intact [] old new same intact = subst is_intact (sym same) intact
-all_intact represents is_intact (visit ∷ later) old new (mid, first, rest) intact = first.intact (all_intact represents is_intact later mid new rest intact)
+all_intact represents is_intact is_open [] old new same intact = subst is_intact (sym same) intact
+all_intact represents is_intact is_open (visit ∷ later) old new (mid, first, rest) intact = first.intact (all_intact represents is_intact is_open later mid new rest intact)
 
 pub in_memory : TheHeadlineInMemory
 in_memory founding visits old new shown are days =
-    law.the_headline (is_shown over_memory RepresentsSpanRows Spans) (is_clean over_memory) visits old new are days (memory_is_clean new) _ shown shown.0.sound
+    let (t, after, run, all) =
+    law.the_headline (is_shown over_memory RepresentsSpanRows Spans) (is_clean over_memory) (is_still_open over_memory) visits old new are days (memory_is_clean new) _ shown shown.0.sound in
+    (t, after, run)
 
 -- the tables that show a state are of our schema
 shows : (db : Database) (s : State) → RepresentsState RepresentsSpanRows Spans db s → RepresentsState RepresentsSpanRows Spans (record { schema = schema Spans; trees = db.trees }) s
@@ -44,6 +46,8 @@ module _ {D : Type 0} (g : Ghosts D) (image : Image) where
       let clean = left.clean honest in
       let shown = is_shown (over_files {g = g}) RepresentsSpanRows Spans in
       let intact = is_clean (over_files {g = g}) in
-      let first = (found (all_intact shown intact visits old new are clean)).left s holds in
-      let (t, after, run) = law.the_headline shown intact visits old new are days clean s (sound, first) sound.sound in
-      (t, run, λ opened. held_so new files t left honest (after.1 opened) opened)
+      let stays = is_still_open (over_files {g = g}) in
+      let first = (found (all_intact shown intact stays visits old new are clean)).left s holds in
+      let (t, after, run, all) = law.the_headline shown intact stays visits old new are days clean s (sound, first) sound.sound in
+      let held : IsTrue (file_state new).is_open → HoldState g files t = λ opened. held_so new files t left honest (after.1 opened) opened in
+      (t, run, (all.0, λ either. elim either as (λ _. HoldState g files t) [ inl leaves ↦ held (all.1 leaves) | inr opened ↦ held opened ]))

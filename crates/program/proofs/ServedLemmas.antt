@@ -1,8 +1,8 @@
 -- Connections that were served, one after the other.
 use Rattle.std.proofs.Common.{◌≡◌, ◌∙◌, ◌||◌, ◌+◌, ℕ, Bool, true, false, [], ◌∷◌, Option, ap, refl, arith}
 use Rattle.office_core.specs.State.{State}
-use Rattle.http_desk.specs.Session.{Session}
-use Rattle.http_desk.specs.Talking.{Through}
+use Rattle.http_desk.specs.Talking.{Keeps, Through}
+use Rattle.http_desk.proofs.Openings.{session_open}
 use Rattle.program.specs.Served.{Connection, History, IsHeard, Serves, after_one}
 
 -- what has not failed before has failed where this call did
@@ -11,11 +11,11 @@ failed_so new true old is none = is
 failed_so new false old is none = is ∙ none
 
 -- after so many connections, one more
-pub and_one : {M : Type 0} (represents : M → State → Type 0) (is_intact : M → Type 0) (n : ℕ) (told told_mid told_after : Option History) (first mid last : M)
-    → Serves represents is_intact n told told_mid first mid true → (is_intact last → is_intact mid)
-    → (it : Connection) → IsHeard it → told_after ≡ after_one told_mid it → Through represents is_intact mid last (λ s t. Session s it.input it.output it.end t)
-    → Serves represents is_intact (n + 1) told told_after first last true
-and_one represents is_intact n told told_mid told_after first mid last so_far back it heard tells through = record {
+pub and_one : {M : Type 0} (represents : M → State → Type 0) (is_intact is_open : M → Type 0) (n : ℕ) (told told_mid told_after : Option History) (first mid last : M)
+    → Serves represents is_intact is_open n told told_mid first mid true → (is_intact last → is_intact mid)
+    → (it : Connection) → IsHeard it → told_after ≡ after_one told_mid it → Through represents is_intact mid last (λ s t. Keeps (is_open mid) (is_open last) s it.input it.output it.end t)
+    → Serves represents is_intact is_open (n + 1) told told_after first last true
+and_one represents is_intact is_open n told told_mid told_after first mid last so_far back it heard tells through = record {
   connections = it ∷ so_far.connections;
   heard = (heard, so_far.heard);
   tells = tells ∙ ap (λ h. after_one h it) so_far.tells;
@@ -23,18 +23,18 @@ and_one represents is_intact n told told_mid told_after first mid last so_far ba
   whole = λ _. let all = so_far.whole refl in omega arith;
   sessions = λ intact s shown.
       let (between, there, before) = so_far.sessions (back intact) s shown in
-      let (t, then, session) = through intact between there in
-      (t, then, (between, before, session));
+      let (t, then, talked) = through intact between there in
+      (t, then, ((between, before.0, talked.0), λ h. talked.1 (session_open _ (is_open mid) before.1 between t it.input it.output it.end talked.0 h)));
 }
 
 -- nobody was served
-pub unserved : {M : Type 0} (represents : M → State → Type 0) (is_intact : M → Type 0) (most : ℕ) (told : Option History) (office : M)
-    → Serves represents is_intact most told told office office false
-unserved represents is_intact most told office = record {
+pub unserved : {M : Type 0} (represents : M → State → Type 0) (is_intact is_open : M → Type 0) (most : ℕ) (told : Option History) (office : M)
+    → Serves represents is_intact is_open most told told office office false
+unserved represents is_intact is_open most told office = record {
   connections = [];
   heard = tt;
   tells = refl;
   few = omega arith;
   whole = λ all. absurd cc;
-  sessions = λ intact s shown. (s, shown, refl);
+  sessions = λ intact s shown. (s, shown, (refl, λ stays. stays));
 }

@@ -20,7 +20,7 @@ use Rattle.adoption.specs.declared.verdict.Verdict.TheVariants as verdict
 use Rattle.office_core.specs.Rules.{Reply}
 use Rattle.office.specs.Founding.{Founding}
 use Rattle.office.specs.Migrating.{MayFindMigrated}
-use Rattle.office.specs.Resting.{IsAsBefore, is_clean, is_shown}
+use Rattle.office.specs.Resting.{IsAsBefore, is_clean, is_shown, is_still_open}
 use Rattle.office.specs.Adopting.{HasAdoptCause}
 use Rattle.office.specs.declared.faults.OpenFault.{OpenFault}
 use Rattle.office.specs.declared.faults.OpenFault.TheVariants as opening
@@ -94,7 +94,7 @@ module _ {D : Type 0} (g : Ghosts D) (image : Image) (closed : Option (Files D))
     module _ (left left_after held held_after : Known) (office after : Held (FileStore D g)) (opened : IsOpened g image office)
         (intact : HasCleanDisk (file_state after) → HasCleanDisk (file_state office)) (left_so : HasLeft after files) where
       talked_with : (end : Ended) → AtEndIf left_after (Ends end)
-          → Talks (is_shown (over_files {g = g}) RepresentsSpanRows Spans) (is_clean (over_files {g = g})) left left_after held held_after office end after
+          → Talks (is_shown (over_files {g = g}) RepresentsSpanRows Spans) (is_clean (over_files {g = g})) (is_still_open (over_files {g = g})) left left_after held held_after office end after
           → IsSomeAnd closed (IsTalkedWith g image left left_after held held_after end)
       talked_with end at_end (read, written, gone, told, through) =
           let it : IsTalkedWith g image left left_after held held_after end files = record {
@@ -113,13 +113,13 @@ module _ {D : Type 0} (g : Ghosts D) (image : Image) (closed : Option (Files D))
           handed closed files _ is it
 
       pub talk_done : (r : Result (Unit {0}) Fault)
-          → OnOk r ((end : Ended) × EndsWell end × AtEndIf left_after (Ends end) × Talks (is_shown (over_files {g = g}) RepresentsSpanRows Spans) (is_clean (over_files {g = g})) left left_after held held_after office end after)
+          → OnOk r ((end : Ended) × EndsWell end × AtEndIf left_after (Ends end) × Talks (is_shown (over_files {g = g}) RepresentsSpanRows Spans) (is_clean (over_files {g = g})) (is_still_open (over_files {g = g})) left left_after held held_after office end after)
           → OnOk r (TalkDone g image left left_after held held_after closed)
       talk_done (Ok u) (end, well, at_end, talks) = (end, well, talked_with end at_end talks)
       talk_done (Err f) done = tt
 
       pub talk_broken : (r : Result (Unit {0}) Fault)
-          → IfErr r (λ f. (broken : Break) × (f ≡ Session broken) × AtEndIf left_after (Ends (ended_by broken)) × Talks (is_shown (over_files {g = g}) RepresentsSpanRows Spans) (is_clean (over_files {g = g})) left left_after held held_after office (ended_by broken) after)
+          → IfErr r (λ f. (broken : Break) × (f ≡ Session broken) × AtEndIf left_after (Ends (ended_by broken)) × Talks (is_shown (over_files {g = g}) RepresentsSpanRows Spans) (is_clean (over_files {g = g})) (is_still_open (over_files {g = g})) left left_after held held_after office (ended_by broken) after)
           → IfErr r (TalkFails g image left left_after held held_after closed)
       talk_broken (Ok u) why = tt
       talk_broken (Err f) (broken, is_so, at_end, talks) = inr (broken, is_so, talked_with (ended_by broken) at_end talks)
@@ -141,20 +141,20 @@ module _ {D : Type 0} (g : Ghosts D) (image : Image) (closed : Option (Files D))
 
     module _ (held held_after : Known) (port connections : ℕ) (office after : Held (FileStore D g)) (opened : IsOpened g image office)
         (intact : HasCleanDisk (file_state after) → HasCleanDisk (file_state office)) (left_so : HasLeft after files) where
-      served : (all : Bool) → Serves (is_shown (over_files {g = g}) RepresentsSpanRows Spans) (is_clean (over_files {g = g})) connections None None office after all
+      served : (all : Bool) → Serves (is_shown (over_files {g = g}) RepresentsSpanRows Spans) (is_clean (over_files {g = g})) (is_still_open (over_files {g = g})) connections None None office after all
           → IsSomeAnd closed (HasServed g image connections all)
       served all sessions =
           let it : HasServed g image connections all files = record { office = office; after = after; opened = opened; intact = intact; sessions = sessions; closed = left_so } in
           handed closed files _ is it
 
       pub serve_done : (r : Result (Unit {0}) Fault)
-          → OnOk r (Listens port held held_after × Serves (is_shown (over_files {g = g}) RepresentsSpanRows Spans) (is_clean (over_files {g = g})) connections None None office after true)
+          → OnOk r (Listens port held held_after × Serves (is_shown (over_files {g = g}) RepresentsSpanRows Spans) (is_clean (over_files {g = g})) (is_still_open (over_files {g = g})) connections None None office after true)
           → OnOk r (ServeDone g image port connections held held_after closed)
       serve_done (Ok u) (listens, sessions) = (served true sessions, listens)
       serve_done (Err f) done = tt
 
       pub serve_failed : (r : Result (Unit {0}) Fault)
-          → IfErr r (λ f. ServerFails port held held_after f × Serves (is_shown (over_files {g = g}) RepresentsSpanRows Spans) (is_clean (over_files {g = g})) connections None None office after false)
+          → IfErr r (λ f. ServerFails port held held_after f × Serves (is_shown (over_files {g = g}) RepresentsSpanRows Spans) (is_clean (over_files {g = g})) (is_still_open (over_files {g = g})) connections None None office after false)
           → IfErr r (ServeFails g image port connections held held_after closed)
       serve_failed (Ok u) why = tt
       serve_failed (Err f) (why, sessions) = inr (served false sessions, why)

@@ -13,7 +13,7 @@ use Rattle.tree_core.specs.Versions.{Version}
 use Rattle.office_core.specs.SoundOffice.{IsSoundOffice}
 use Rattle.office.specs.Founding.{Founding, founded}
 use Rattle.office.specs.Opening.{HasOpenCause}
-use Rattle.office.specs.Resting.{IsIn, is_clean, is_shown}
+use Rattle.office.specs.Resting.{IsIn, is_clean, is_shown, is_still_open}
 use Rattle.office.specs.declared.faults.OpenFault.{OpenFault}
 use Rattle.office.specs.declared.faults.OpenFault.TheVariants as opening
 use Rattle.http_desk.specs.Talking.{AtEndIf, Talks}
@@ -40,11 +40,11 @@ not_opened founding left held old new (opening.Unsound n) why = absurd why
 module _ (places : Trees → Forest ℕ → Type 0) (version : Version) (founding : Founding) (left left_after held held_after : Known) (before after : Held MemStore) (end : Ended) where
   -- what was said to a new office is a session with it
   pub talked : IsSoundOffice (founded founding) → (HasCleanDisk (state over_memory before) → IsIn places version (founded founding) (state over_memory before))
-      → Talks (is_shown over_memory places version) (is_clean over_memory) left left_after held held_after before end after → AtEndIf left_after (Ends end)
+      → Talks (is_shown over_memory places version) (is_clean over_memory) (is_still_open over_memory) left left_after held held_after before end after → AtEndIf left_after (Ends end)
       → Talked founding left left_after held held_after end
   talked sound shown (read, written, gone, told, through) at_end =
       let (t, is, session) = through (memory_is_clean after) (founded founding) (sound, shown (memory_is_clean before)) in
-      (read, written, gone, at_end, told, t, session)
+      (read, written, gone, at_end, told, t, session.0)
 
 -- it ended well, or broke off
 pub done_by : (founding : Founding) (left left_after held held_after : Known) (end : Ended) (r : Result (Unit {0}) Fault) → Talked founding left left_after held held_after end

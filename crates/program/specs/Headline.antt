@@ -1,5 +1,5 @@
 -- What an archivist may be told of an office over nested sets, in memory and in a file.
-use Rattle.std.specs.Prelude.{IsTrue, List}
+use Rattle.std.specs.Prelude.{◌⊎◌, IsTrue, List}
 use Rattle.std.specs.List.{AllByRecursion}
 use Rattle.sqlite.specs.Files.{file_state, over_files}
 use Rattle.sqlite.specs.Held.{Held}
@@ -11,10 +11,10 @@ use Rattle.sqlite_disk.specs.declared.Files.{Files}
 use Rattle.sqlite_store.specs.declared.store.FileStore.{FileStore}
 use Rattle.sqlite_trees.specs.declared.memory.MemStore.{MemStore}
 use Rattle.http_desk.specs.Headline.{IsOneRun}
-use Rattle.http_desk.specs.Runs.{AreVisits, CallsNameDays, Visit}
+use Rattle.http_desk.specs.Runs.{AllHappen, AreVisits, CallsNameDays, Visit, VisitsLeaveOpen}
 use Rattle.nested_sets.specs.Represents.{RepresentsSpanRows}
 use Rattle.office.specs.Founding.{Founding, founded}
-use Rattle.office.specs.Resting.{is_clean, is_shown}
+use Rattle.office.specs.Resting.{is_clean, is_shown, is_still_open}
 use Rattle.office_core.specs.SoundOffice.{IsSoundOffice}
 use Rattle.office_core.specs.State.{State}
 use Rattle.tree_core.specs.Versions.{Spans}
@@ -27,18 +27,23 @@ abbrev pub TheHeadlineInMemory : Type 0
 TheHeadlineInMemory =
     (founding : Founding) (visits : List Visit) (old new : Held MemStore)
     → is_shown over_memory RepresentsSpanRows Spans old (founded founding)
-    → AreVisits (is_shown over_memory RepresentsSpanRows Spans) (is_clean over_memory) old new visits
+    → AreVisits (is_shown over_memory RepresentsSpanRows Spans) (is_clean over_memory) (is_still_open over_memory)
+        old new visits
     → AllByRecursion CallsNameDays visits
     → (t : State) × is_shown over_memory RepresentsSpanRows Spans new t × IsOneRun (founded founding) visits t
 
 module _ {D : Type 0} (g : Ghosts D) (image : Image) where
-  -- The same of an office that a file held when it was opened, and that is closed again. Unless a failure of the disk had
-  -- shut it, the file then holds the office in the machine's state.
+  -- The same of an office that a file held when it was opened, and that is closed again. Where the last thing that came
+  -- was a command that was accepted, the file then holds the office in the machine's state. So it does after anything
+  -- else, unless a failure of the disk had shut it.
   abbrev pub TheHeadlineInAFile : Type 0
   TheHeadlineInAFile =
       (s : State) (visits : List Visit) (old new : Held (FileStore D g)) (files : Files D)
       → (HasCleanDisk (file_state old) → IsFound image (file_state old)) → HoldsOffice image s → IsSoundOffice s
-      → AreVisits (is_shown over_files RepresentsSpanRows Spans) (is_clean over_files) old new visits
+      → AreVisits (is_shown over_files RepresentsSpanRows Spans) (is_clean over_files) (is_still_open over_files)
+        old new visits
       → AllByRecursion CallsNameDays visits
       → HasLeft new files → HaveCleanDisk g files
-      → (t : State) × IsOneRun s visits t × (IsTrue (file_state new).is_open → HoldState g files t)
+      → (t : State) × IsOneRun s visits t × ((all : AllHappen s visits t)
+      × (VisitsLeaveOpen (IsTrue (file_state old).is_open) s visits t all ⊎ IsTrue (file_state new).is_open
+      → HoldState g files t))

@@ -9,9 +9,10 @@ use Rattle.std.specs.declared.net.socket_addr.SocketAddr.TheVariants.{V4, V6}
 use Rattle.isad_core.specs.Texts.{Bytes}
 use Rattle.office_core.specs.State.{State}
 use Rattle.http_desk.specs.Quiet.{is_read_fault, is_write_fault}
+use Rattle.http_desk.specs.Keeping.{LeavesOpen}
 use Rattle.http_desk.specs.Session.{Session}
 use Rattle.http_desk.specs.Streams.{Stream}
-use Rattle.http_desk.specs.Talking.{AtEndIf, Through}
+use Rattle.http_desk.specs.Talking.{AtEndIf, Keeps, Through}
 use Rattle.http_desk.specs.declared.session_end.Ended.{Ended}
 use Rattle.http_desk.specs.declared.session_end.Ended.TheVariants.{Bound}
 use Rattle.http_desk.specs.declared.session_end.Next.TheVariants.{Ends}
@@ -69,30 +70,39 @@ abbrev pub AreSessions : List Connection → State → State → Type 0
 AreSessions [] s t = s ≡ t
 AreSessions (it ∷ earlier) s t = (mid : State) × AreSessions earlier s mid × Session mid it.input it.output it.end t
 
+-- the last of their messages is a command that was accepted; where there are none, the office was open before
+abbrev pub SessionsLeaveOpen : Type 0 → (connections : List Connection) (s t : State) → AreSessions connections s t
+    → Type 0
+SessionsLeaveOpen was_open [] s t same = was_open
+SessionsLeaveOpen was_open (it ∷ earlier) s t (mid, before, session) =
+    LeavesOpen (SessionsLeaveOpen was_open earlier s mid before) session
+
 -- A connection of which this was known when it was taken was heard and left.
-abbrev pub Answers : {M : Type 0} → (M → State → Type 0) → (M → Type 0) → Option Bytes → Option Bytes
+abbrev pub Answers : {M : Type 0} → (M → State → Type 0) → (M → Type 0) → (M → Type 0) → Option Bytes → Option Bytes
     → Option History → Option History → M → M → Type 0
-Answers represents is_intact left held told told_after old new =
+Answers represents is_intact is_open left held told told_after old new =
     (it : Connection) × (it.left ≡ left) × (it.held ≡ held) × IsHeard it
     × (told_after ≡ after_leaving told it.reader it.writer it.end)
-    × Through represents is_intact old new (λ s t. Session s it.input it.output it.end t)
+    × Through represents is_intact old new (λ s t. Keeps (is_open old) (is_open new) s it.input it.output it.end t)
 
 -- One connection was taken, heard and left; or none could be taken.
-abbrev pub ServesOne : {M : Type 0} → (M → State → Type 0) → (M → Type 0) → Option History → Option History
-    → M → M → Bool → Type 0
-ServesOne represents is_intact told told_after old new true =
+abbrev pub ServesOne : {M : Type 0} → (M → State → Type 0) → (M → Type 0) → (M → Type 0) → Option History
+    → Option History → M → M → Bool → Type 0
+ServesOne represents is_intact is_open told told_after old new true =
     (it : Connection) × IsHeard it × (told_after ≡ after_one told it)
-    × Through represents is_intact old new (λ s t. Session s it.input it.output it.end t)
-ServesOne represents is_intact told told_after old new false =
+    × Through represents is_intact old new (λ s t. Keeps (is_open old) (is_open new) s it.input it.output it.end t)
+ServesOne represents is_intact is_open told told_after old new false =
     (told_after ≡ told) × Through represents is_intact old new (λ s t. s ≡ t)
 
 -- Connections were taken, heard and left: at most so many, and all of them where that is said. Their sessions lead the
--- office from one state to another, while its store has returned what was written.
-pub record Serves {M : Type 0} (represents : M → State → Type 0) (is_intact : M → Type 0) (most : ℕ)
+-- office from one state to another, while its store has returned what was written. An office that they leave open is
+-- open then.
+pub record Serves {M : Type 0} (represents : M → State → Type 0) (is_intact is_open : M → Type 0) (most : ℕ)
     (told told_after : Option History) (old new : M) (all : Bool) : Type 0 where
   pub connections : List Connection
   pub heard : AllByRecursion IsHeard connections
   pub tells : told_after ≡ after_all told connections
   pub few : length connections ≤ most
   pub whole : all ≡ true → length connections ≡ most
-  pub sessions : Through represents is_intact old new (AreSessions connections)
+  pub sessions : Through represents is_intact old new
+      (λ s t. (are : AreSessions connections s t) × (SessionsLeaveOpen (is_open old) connections s t are → is_open new))

@@ -2,7 +2,7 @@
 -- an image: the bytes that its file and its log held. That these are the files of the name that was given is the
 -- system's part. What is said of an office is said while its disk has returned what was written; a disk that has done
 -- so to the end did so before (`intact`, and the first field of `crash`, which says what files may hold that a failure had shut).
-use Rattle.std.specs.Prelude.{◌≡◌, ℕ, Bool, IsOk, IsTrue, Ok, Option, None}
+use Rattle.std.specs.Prelude.{◌≡◌, ◌⊎◌, ℕ, Bool, IsOk, IsTrue, Ok, Option, None}
 use Rattle.std.specs.Io.KnownBytes.{Appends, Consumes}
 use Rattle.sqlite.specs.Files.{file_state, over_files}
 use Rattle.sqlite.specs.Held.{Held}
@@ -24,16 +24,17 @@ use Rattle.program.specs.Rows.{StandInOrder}
 use Rattle.office.specs.Adopting.{HasAdoptCause, state_in}
 use Rattle.office.specs.Applying.{MayFind, TakesStep}
 use Rattle.office.specs.Migrating.{IsMigrated, MayFindMigrated}
-use Rattle.office.specs.Resting.{IsAsBefore, IsIn, is_clean, is_shown}
+use Rattle.office.specs.Resting.{IsAsBefore, IsIn, is_clean, is_shown, is_still_open}
 use Rattle.office.specs.declared.faults.OpenFault.{OpenFault}
+use Rattle.http_desk.specs.Keeping.{LeavesOpen}
 use Rattle.http_desk.specs.Session.{Session}
-use Rattle.http_desk.specs.Talking.{AtEndIf}
+use Rattle.http_desk.specs.Talking.{AtEndIf, Keeps}
 use Rattle.http_desk.specs.declared.session_end.Ended.{Ended}
 use Rattle.http_desk.specs.declared.session_end.Next.TheVariants.{Ends}
 use Rattle.program.specs.Closed.{HasLeft, HaveCleanDisk, HoldState}
 use Rattle.program.specs.Faults.{fault_of_opening}
 use Rattle.program.specs.Kept.{AreHeld, HoldsOffice, IsFound}
-use Rattle.program.specs.Served.{AreSessions, Serves}
+use Rattle.program.specs.Served.{AreSessions, Serves, SessionsLeaveOpen}
 use Rattle.program.specs.declared.faults.Fault.{Fault}
 
 module _ {D : Type 0} (g : Ghosts D) (image : Image) where
@@ -71,7 +72,8 @@ module _ {D : Type 0} (g : Ghosts D) (image : Image) where
     pub at_end : AtEndIf left_after (Ends end)
     pub written : Appends held held_after output
     pub session : is_clean (over_files {g = g}) after → (s : State) → is_kept office s
-        → (t : State) × is_kept after t × Session s input output end t
+        → (t : State) × is_kept after t
+        × Keeps (IsTrue (file_state office).is_open) (IsTrue (file_state after).is_open) s input output end t
     pub closed : HasLeft after files
 
   -- An office that was opened took a file in, and replied so: that was one step. After a reply that is no refusal its
@@ -107,7 +109,8 @@ module _ {D : Type 0} (g : Ghosts D) (image : Image) where
     pub after : Held (FileStore D g)
     pub opened : IsOpened office
     pub intact : HasCleanDisk (file_state after) → HasCleanDisk (file_state office)
-    pub sessions : Serves is_kept (is_clean (over_files {g = g})) connections None None office after all
+    pub sessions : Serves is_kept (is_clean (over_files {g = g})) (is_still_open (over_files {g = g})) connections
+        None None office after all
     pub closed : HasLeft after files
 
   -- The tables of a store were a sound office's of version 1, and then one's of version 2, in the same state, over a
@@ -146,19 +149,25 @@ module _ {D : Type 0} (g : Ghosts D) (image : Image) where
       (source : Bytes) (done : Done) (files : Files D) (it : HasTakenIn source (Ok done) files) → HaveCleanDisk g files
       → (s : State) → HoldsOffice image s → IsSoundOffice s → HoldState g files (step s (Import source it.file)).0
 
-  -- unless a failure of the disk had shut the office
+  -- After a session the office is open where the last message was a command that was accepted. After another message a
+  -- failure of the disk may have shut it.
   abbrev pub WhatWasSaidIsHeld : Type 0
   WhatWasSaidIsHeld =
       (left left_after held held_after : Option Bytes) (end : Ended) (files : Files D)
       (it : IsTalkedWith left left_after held held_after end files) → HaveCleanDisk g files
-      → (s : State) → HoldsOffice image s → IsSoundOffice s → IsTrue (file_state it.after).is_open
-      → (t : State) × Session s it.input it.output end t × HoldState g files t
+      → (s : State) → HoldsOffice image s → IsSoundOffice s
+      → (t : State) × (session : Session s it.input it.output end t)
+      × (LeavesOpen (IsTrue (file_state it.office).is_open) session ⊎ IsTrue (file_state it.after).is_open
+      → HoldState g files t)
 
+  -- the same of connections
   abbrev pub WhatWasServedIsHeld : Type 0
   WhatWasServedIsHeld =
       (connections : ℕ) (all : Bool) (files : Files D) (it : HasServed connections all files) → HaveCleanDisk g files
-      → (s : State) → HoldsOffice image s → IsSoundOffice s → IsTrue (file_state it.after).is_open
-      → (t : State) × AreSessions it.sessions.connections s t × HoldState g files t
+      → (s : State) → HoldsOffice image s → IsSoundOffice s
+      → (t : State) × (are : AreSessions it.sessions.connections s t)
+      × (SessionsLeaveOpen (IsTrue (file_state it.office).is_open) it.sessions.connections s t are
+      ⊎ IsTrue (file_state it.after).is_open → HoldState g files t)
 
   abbrev pub WhatWasBroughtOverIsHeld : Type 0
   WhatWasBroughtOverIsHeld =

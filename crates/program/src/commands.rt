@@ -119,9 +119,9 @@ fn serve_on_port<M: Machine, W: Write>(
     out: &mut W,
 ) -> Result<(), Fault>
     ensures done { OnOk result (Listens port (W.contents out.old) (W.contents out.new)
-        × Serves M.represents M.is_intact connections None None office.old office.new true) }
+        × Serves M.represents M.is_intact M.is_open connections None None office.old office.new true) }
     ensures fault { IfErr result (λ f. ServerFails port (W.contents out.old) (W.contents out.new) f
-        × Serves M.represents M.is_intact connections None None office.old office.new false) }
+        × Serves M.represents M.is_intact M.is_open connections None None office.old office.new false) }
     ensures intact { M.is_intact office.new → M.is_intact office.old }
 {
     let mut local = listen(rt, alloc, port, out)?;

@@ -24,7 +24,8 @@ pub fn the_headline_in_memory()
     ensures { TheHeadlineInMemory }
 {}
 
-/// The same of an office that a file held. When it is closed the file holds it in that state.
+/// The same of an office that a file held. When it is closed the file holds it in that state, at least where the last
+/// thing that came was a command that was accepted.
 pub fn the_headline_in_a_file<S: Start>()
     ensures { TheHeadlineInAFile ⟦<FileFrom<S> as Disk>⟧ (image_at S.Start) }
 {}

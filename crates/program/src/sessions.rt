@@ -34,9 +34,10 @@ fn hold_session<M: Machine, R: Read, W: Write>(
     out: &mut W,
     office: &mut M,
 ) -> Ended
-    ensures session { Talks M.represents M.is_intact (R.remaining reader.old) (R.remaining reader.new)
+    ensures session { Talks M.represents M.is_intact M.is_open (R.remaining reader.old) (R.remaining reader.new)
         (W.contents out.old) (W.contents out.new) office.old result office.new }
     ensures intact { M.is_intact office.new → M.is_intact office.old }
+    ensures was_open { M.is_intact office.new → M.is_open office.new → M.is_open office.old }
     ensures at_end { AtEndIf (R.remaining reader.new) (Next.Ends result) }
 {
     let mut source = Source::new(reader);
@@ -55,13 +56,14 @@ pub fn talk_with<M: Machine, R: Read, W: Write>(
     out: &mut W,
 ) -> Result<(), Fault>
     ensures done { OnOk result ((end : Ended) × EndsWell end × AtEndIf (R.remaining reader.new) (Next.Ends end)
-        × Talks M.represents M.is_intact (R.remaining reader.old) (R.remaining reader.new)
+        × Talks M.represents M.is_intact M.is_open (R.remaining reader.old) (R.remaining reader.new)
         (W.contents out.old) (W.contents out.new) office.old end office.new) }
     ensures broken { IfErr result (λ f. (broken : Break) × (f ≡ Fault.Session broken)
         × AtEndIf (R.remaining reader.new) (Next.Ends (ended_by broken))
-        × Talks M.represents M.is_intact (R.remaining reader.old) (R.remaining reader.new)
+        × Talks M.represents M.is_intact M.is_open (R.remaining reader.old) (R.remaining reader.new)
         (W.contents out.old) (W.contents out.new) office.old (ended_by broken) office.new) }
     ensures intact { M.is_intact office.new → M.is_intact office.old }
+    ensures was_open { M.is_intact office.new → M.is_open office.new → M.is_open office.old }
 {
     after(hold_session(alloc, reader, out, office))
 }

@@ -11,8 +11,8 @@ use Rattle.http_desk.proofs.session.act.Goals as goal
 pub returns-in-Err-clause-turn : goal.returns-in-Err-clause-turn
 returns-in-Err-clause-turn g c =
     let items = c.args.buffer.now.items in
-    refused g.M.Machine.represents g.M.Machine.is_intact c.args.number _ _ items (leave_if c.args.head.waits) items (Fails c.args.head.waits false) false Busy _ _ _ c.refuse.ensures.sent
-    (may_fail_after items (take c.args.size items) (drop c.args.size items) (request_in (take c.args.size items) c.args.head) c.requires.accepted) tt (λ s. (refl, refl)) c.in-Err.ensures.busy
+    refused g.M.Machine.represents g.M.Machine.is_intact g.M.Machine.is_open c.args.number _ _ items (leave_if c.args.head.waits) items (Fails c.args.head.waits false) false Busy _ _ _ c.refuse.ensures.sent
+    (may_fail_after items (take c.args.size items) (drop c.args.size items) (request_in (take c.args.size items) c.args.head) c.requires.accepted) tt (λ s. (refl, refl)) c.in-Err.ensures.busy (λ s never. absurd never)
 
 pub returns-in-Ok-clause-turn : goal.returns-in-Ok-clause-turn
 returns-in-Ok-clause-turn g c =
@@ -20,9 +20,10 @@ returns-in-Ok-clause-turn g c =
     let size = c.args.size in
     let n = c.body_len.result in
     let answers = rw (c.deref-2.ensures.value, c.deref-3.ensures.value) at c.in-Ok.ensures.answers in
-    acted g.M.Machine.represents g.M.Machine.is_intact c.args.number _ _ items size n (request_in (take size items) c.args.head) (answer_in c.in-Ok.answer) c.is_bare-bare.result c.remove_front.new.buffer.items _ _ c.is_closing-closing.result _
+    let kept = rw c.deref-2.ensures.value at c.in-Ok.ensures.kept in
+    acted g.M.Machine.represents g.M.Machine.is_intact g.M.Machine.is_open c.args.number _ _ items size n (request_in (take size items) c.args.head) (answer_in c.in-Ok.answer) c.is_bare-bare.result c.remove_front.new.buffer.items _ _ c.is_closing-closing.result _
     c.requires.accepted (subst (λ k. size + k ≤ length items) (sym c.body_len.ensures) c.requires.whole) c.body_len.ensures c.remove_front.ensures
-    (rw c.deref.ensures.value at c.is_bare-bare.ensures) (sym c.is_closing-closing.ensures) c.reply-next.ensures.sent answers
+    (rw c.deref.ensures.value at c.is_bare-bare.ensures) (sym c.is_closing-closing.ensures) c.reply-next.ensures.sent answers kept
 
 pub returns-in-Ok-clause-no_end : goal.returns-in-Ok-clause-no_end
 returns-in-Ok-clause-no_end g c =

@@ -28,13 +28,14 @@ returns-in_default g c =
     let size = c.args.size in
     let block = take size items in
     let (turn, at_end) =
-    leave_broken g.M.Machine.represents g.M.Machine.is_intact c.args.number c.args.office.now items block
+    leave_broken g.M.Machine.represents g.M.Machine.is_intact g.M.Machine.is_open c.args.number c.args.office.now items block
     (drop size items) (request_in block c.args.head) c.args.reader.now.bytes _ _
     c.give_leave.result _ c.after.result c.in_default.not-All c.after.ensures c.requires.accepted
     c.give_leave.ensures.sends in
     record {
       turn = turn;
       intact = λ i. i;
+      was_open = λ i stays. stays;
       at_end = at_end;
       flushed = λ q. not_all_sent c.give_leave.new.writer c.give_leave.result _ c.after.result c.in_default.not-All c.after.ensures;
       reads =
@@ -65,7 +66,7 @@ returns-in-Whole-clause-turn g c =
       leave_if c.args.head.waits ++ written,
       consumed,
       Appends-trans _ _ _ _ _ c.in-All.ensures.sends appended,
-      subst (λ input. Through g.M.Machine.represents g.M.Machine.is_intact c.args.office.now c.act.new.office (λ s t. Turn c.args.number s input c.act.result (leave_if c.args.head.waits ++ written) t c.act.new.buffer.items)) e through,
+      subst (λ input. Through g.M.Machine.represents g.M.Machine.is_intact c.args.office.now c.act.new.office (λ s t. Turn (g.M.Machine.is_open c.args.office.now) (g.M.Machine.is_open c.act.new.office) c.args.number s input c.act.result (leave_if c.args.head.waits ++ written) t c.act.new.buffer.items)) e through,
     )
 
 pub returns-in-Cut-clause-turn : goal.returns-in-Cut-clause-turn
@@ -78,7 +79,7 @@ returns-in-Cut-clause-turn g c =
       leave_if c.args.head.waits,
       consumed,
       c.in-All.ensures.sends,
-      λ i s shown. (s, shown, stops_in_body c.args.number s items c.gather_body.new.buffer.items got size (request_in (take size items) c.args.head) Cut c.requires.within e short c.requires.accepted (inl refl)),
+      λ i s shown. (s, shown, stops_in_body (g.M.Machine.is_open c.args.office.now) c.args.number s items c.gather_body.new.buffer.items got size (request_in (take size items) c.args.head) Cut c.requires.within e short c.requires.accepted (inl refl)),
     )
 
 pub returns-in-Failed-clause-turn : goal.returns-in-Failed-clause-turn
@@ -91,7 +92,7 @@ returns-in-Failed-clause-turn g c =
       leave_if c.args.head.waits,
       consumed,
       c.in-All.ensures.sends,
-      λ i s shown. (s, shown, stops_in_body c.args.number s items c.gather_body.new.buffer.items got size (request_in (take size items) c.args.head) ReadFault c.requires.within e short c.requires.accepted (inr refl)),
+      λ i s shown. (s, shown, stops_in_body (g.M.Machine.is_open c.args.office.now) c.args.number s items c.gather_body.new.buffer.items got size (request_in (take size items) c.args.head) ReadFault c.requires.within e short c.requires.accepted (inr refl)),
     )
 
 pub returns-in-Bound-clause-turn : goal.returns-in-Bound-clause-turn
@@ -104,7 +105,7 @@ returns-in-Bound-clause-turn g c =
       leave_if c.args.head.waits,
       consumed,
       c.in-All.ensures.sends,
-      λ i s shown. (s, shown, bound_here c.args.number s (items ++ got) c.args.head.waits (may_fail_after (items ++ got) (take size items) (drop size items ++ got) (request_in (take size items) c.args.head) there)),
+      λ i s shown. (s, shown, bound_here (g.M.Machine.is_open c.args.office.now) c.args.number s (items ++ got) c.args.head.waits (may_fail_after (items ++ got) (take size items) (drop size items ++ got) (request_in (take size items) c.args.head) there)),
     )
 
 pub returns-in-NoMemory-clause-turn : goal.returns-in-NoMemory-clause-turn
@@ -113,6 +114,6 @@ returns-in-NoMemory-clause-turn g c =
     let size = c.args.size in
     let (got, consumed, e) = c.gather_body.ensures.got in
     let there = head_more items (take size items) (Accepted (request_in (take size items) c.args.head)) (drop size items) got c.requires.accepted in
-    let (written, appended, through) = refused g.M.Machine.represents g.M.Machine.is_intact c.args.number c.args.office.now c.args.office.now (items ++ got) (leave_if c.args.head.waits) c.gather_body.new.buffer.items (Fails c.args.head.waits false) false Busy _ _ _ c.refuse.ensures.sent
-    (may_fail_after (items ++ got) (take size items) (drop size items ++ got) (request_in (take size items) c.args.head) there) tt (λ s. (refl, refl)) (λ i s h. h) in
+    let (written, appended, through) = refused g.M.Machine.represents g.M.Machine.is_intact g.M.Machine.is_open c.args.number c.args.office.now c.args.office.now (items ++ got) (leave_if c.args.head.waits) c.gather_body.new.buffer.items (Fails c.args.head.waits false) false Busy _ _ _ c.refuse.ensures.sent
+    (may_fail_after (items ++ got) (take size items) (drop size items ++ got) (request_in (take size items) c.args.head) there) tt (λ s. (refl, refl)) (λ i s h. h) (λ s never. absurd never) in
     (got, leave_if c.args.head.waits ++ written, consumed, Appends-trans _ _ _ _ _ c.in-All.ensures.sends appended, through)

@@ -7,7 +7,8 @@ use Rattle.http_desk.proofs.session.talk_with.Goals as goal
 
 pub loop-number-init : goal.loop-number-init
 loop-number-init g c = record {
-  carried = carried_none g.M.Machine.represents g.M.Machine.is_intact _ _ c.args.office.now c.empty_buffer-buffer.result.items c.empty_buffer-buffer.ensures;
+  carried = carried_none g.M.Machine.represents g.M.Machine.is_intact g.M.Machine.is_open _ _ c.args.office.now c.empty_buffer-buffer.result.items c.empty_buffer-buffer.ensures;
+  was_open = λ i stays. stays;
   reads = refl;
   writes = refl;
   quiet = λ p q. (p, q);
@@ -18,7 +19,8 @@ loop-number-init g c = record {
 
 pub loop-number-preserved : goal.loop-number-preserved
 loop-number-preserved g c = record {
-  carried = carried_on g.M.Machine.represents g.M.Machine.is_intact _ _ _ _ _ _ c.args.office.now c.loop-number.office c.exchange.new.office c.loop-number.number c.loop-number.buffer.items _ _ c.in-Goes.is c.exchange.ensures.intact c.loop-number.invariant.carried c.exchange.ensures.turn;
+  carried = carried_on g.M.Machine.represents g.M.Machine.is_intact g.M.Machine.is_open _ _ _ _ _ _ c.args.office.now c.loop-number.office c.exchange.new.office c.loop-number.number c.loop-number.buffer.items _ _ c.in-Goes.is c.exchange.ensures.intact c.loop-number.invariant.carried c.exchange.ensures.turn;
+  was_open = λ i stays. c.loop-number.invariant.was_open (c.exchange.ensures.intact i) (c.exchange.ensures.was_open i stays);
   reads = c.exchange.ensures.reads ∙ ap (λ n. is_read_fault n || c.loop-number.reader.failed) c.in-Goes.is ∙ c.loop-number.invariant.reads;
   writes = c.exchange.ensures.writes ∙ ap (λ n. is_write_fault n || c.loop-number.writer.failed) c.in-Goes.is ∙ c.loop-number.invariant.writes;
   quiet = λ p q. let (r, w, here) = c.exchange.ensures.turns p q in c.loop-number.invariant.quiet r w;
@@ -44,13 +46,16 @@ returns-in-Ends-clause-flushed g c = λ q.
 
 pub returns-in-Ends-clause-session : goal.returns-in-Ends-clause-session
 returns-in-Ends-clause-session g c =
-    carried_to_end g.M.Machine.represents g.M.Machine.is_intact _ _ _ _ _ _ c.args.office.now c.loop-number.office c.exchange.new.office c.loop-number.number c.loop-number.buffer.items _ _ c.in-Ends.ended c.in-Ends.is c.exchange.ensures.intact c.loop-number.invariant.carried c.exchange.ensures.turn
+    carried_to_end g.M.Machine.represents g.M.Machine.is_intact g.M.Machine.is_open _ _ _ _ _ _ c.args.office.now c.loop-number.office c.exchange.new.office c.loop-number.number c.loop-number.buffer.items _ _ c.in-Ends.ended c.in-Ends.is c.exchange.ensures.intact c.loop-number.invariant.carried c.exchange.ensures.turn
 
 pub returns-in-Ends-clause-intact : goal.returns-in-Ends-clause-intact
 returns-in-Ends-clause-intact g c = λ i. c.loop-number.invariant.carried.4 (c.exchange.ensures.intact i)
 
+pub returns-in-Ends-clause-was_open : goal.returns-in-Ends-clause-was_open
+returns-in-Ends-clause-was_open g c = λ i stays. c.loop-number.invariant.was_open (c.exchange.ensures.intact i) (c.exchange.ensures.was_open i stays)
+
 pub returns-clause-session : goal.returns-clause-session
 returns-clause-session g c =
     let last : c.loop-number.number ≡ 10001 = omega arith in
-    carried_over g.M.Machine.represents g.M.Machine.is_intact _ _ _ _ c.args.office.now c.loop-number.office c.loop-number.buffer.items Closed
-    (subst (λ n. Carried g.M.Machine.represents g.M.Machine.is_intact c.args.reader.now.bytes c.loop-number.reader.bytes c.args.writer.now.bytes c.loop-number.writer.bytes c.args.office.now c.loop-number.office n c.loop-number.buffer.items) last c.loop-number.invariant.carried)
+    carried_over g.M.Machine.represents g.M.Machine.is_intact g.M.Machine.is_open _ _ _ _ c.args.office.now c.loop-number.office c.loop-number.buffer.items Closed
+    (subst (λ n. Carried g.M.Machine.represents g.M.Machine.is_intact g.M.Machine.is_open c.args.reader.now.bytes c.loop-number.reader.bytes c.args.writer.now.bytes c.loop-number.writer.bytes c.args.office.now c.loop-number.office n c.loop-number.buffer.items) last c.loop-number.invariant.carried)

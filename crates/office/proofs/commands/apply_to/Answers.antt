@@ -40,6 +40,15 @@ returns-clause-steps g c clean s sound is =
     steps_on (λ (r : Reply). r.done) g.P.Places.represents g.P.Places.version a b m z outcome c.settle.result s c.args.command.now (c.requires.office.rests at_a) begun is done.goes at_m
     (done.steps at_m s sound shown) c.settle.ensures.same (c.settle.ensures.committed clean) (c.settle.ensures.refused clean)
 
+pub returns-clause-was_open : goal.returns-clause-was_open
+returns-clause-was_open g c clean opened =
+    let b = state g.S.Store c.begin.new.conn in
+    let m = state g.S.Store c.reply_to-outcome.new.conn in
+    let z = state g.S.Store c.settle.new.conn in
+    let done = c.reply_to-outcome.ensures in
+    let at_m = early m z _ c.settle.ensures.crash clean in
+    (c.in_ok-begin.ensures.begun (early b m _ (went c.reply_to-outcome.result b m done.goes done.cut) at_m)).was_open
+
 pub returns-clause-crash : goal.returns-clause-crash
 returns-clause-crash g c =
     let a = state g.S.Store c.args.conn.now in
