@@ -127,20 +127,18 @@ module _ {M : Type 0} (represents : M → State → Type 0) (is_intact is_open :
 
   -- the body of a message in a buffer
   abbrev pub body_at : Bytes → ℕ → ℕ → Bytes
-  body_at items size n = take ((size + n) - size) (drop size items)
+  body_at items size n = take n (drop size items)
 
   message_at : (items : Bytes) (size n : ℕ) (request : Request) (rest : Bytes)
       → HasHead items (take size items) (Accepted request) (drop size items) → size + n ≤ length items → n ≡ body_length request → rest ≡ drop (size + n) items
       → Begins items (record { request = request; body = body_at items size n }) rest
   message_at items size n request rest h within e r =
-      let same : (size + n) - size ≡ n = omega arith in
       let split : drop size items ≡ body_at items size n ++ rest =
-      sym (take-append-drop n (drop size items)) ∙ ap (λ k. take k (drop size items) ++ drop n (drop size items)) (sym same)
-      ∙ ap (λ l. body_at items size n ++ l) (drop-drop n size items ∙ sym r) in
+      sym (take-append-drop n (drop size items)) ∙ ap (λ l. body_at items size n ++ l) (drop-drop n size items ∙ sym r) in
       record {
         block = take size items;
         head = subst (HasHead items (take size items) (Accepted request)) split h;
-        complete = omega (arith, length-take ((size + n) - size) (drop size items), length-drop size items);
+        complete = omega (arith, length-take n (drop size items), length-drop size items);
       }
 
   -- the same, where the answer closes

@@ -1,11 +1,13 @@
-//! Reads more bytes into a buffer.
-ghost use Rattle.std.specs.Prelude.{◌≡◌, ◌≢◌, ◌<◌, ◌≤◌, ◌||◌, [], length, take, false, IfOk, IfErr};
+//! Reads more bytes into a buffer, and takes messages off it.
+ghost use Rattle.std.specs.Prelude.{◌≡◌, ◌≢◌, ◌+◌, ◌<◌, ◌≤◌, ◌||◌, [], length, take, drop, false, IfOk, IfErr, OnOk};
 ghost use Rattle.std.specs.Io.KnownBytes.{Consumes, IsAtEnd};
 ghost use Rattle.http_desk.specs.Gathering.{Reads};
 ghost use Rattle.http_desk.specs.Quiet.{QuietRead, QuietFill, TakesTurns, once_failed, fill_failed};
 
 use crate::streams::{Source, Undone};
+use std::alloc::AllocError;
 use std::io::Read;
+use std::mem::replace;
 
 /// How a reading ended.
 #[derive(Clone, Copy, Debug, PartialEq, Eq, Drop)]
@@ -72,4 +74,33 @@ pub fn fill<R: Read>(reader: &mut Source<'_, R>, buffer: &mut Vec<u8>) -> Filled
         }
         Err(fault) => fault,
     }
+}
+
+/// Takes bytes off the front.
+fn remove_front(buffer: &mut Vec<u8>, n: usize)
+    requires { n ≤ length buffer.old.items }
+    ensures { buffer.new.items ≡ drop n buffer.old.items }
+{
+    let len = buffer.len();
+    buffer.as_mut_slice().copy_within(n..len, 0);
+    buffer.truncate(len - n);
+}
+
+/// Takes a message off the front: a copy of its head, and its body, for which no more memory is taken. What comes after
+/// the message is left.
+pub fn take_message(
+    buffer: &mut Vec<u8>,
+    size: usize,
+    len: usize,
+) -> Result<(Vec<u8>, Vec<u8>), AllocError>
+    requires { size + len ≤ length buffer.old.items }
+    ensures head { IfOk result (λ message. message.0.items ≡ take size buffer.old.items) }
+    ensures body { IfOk result (λ message. message.1.items ≡ take len (drop size buffer.old.items)) }
+    ensures left { OnOk result (buffer.new.items ≡ drop (size + len) buffer.old.items) }
+{
+    let block = Vec::from_slice(*buffer.allocator(), &buffer[..size])?;
+    let left = buffer.split_off(size + len)?;
+    let mut body = replace(buffer, left);
+    remove_front(&mut body, size);
+    Ok((block, body))
 }

@@ -119,12 +119,12 @@ fn done_if_read<M: Machine>(
     }
 }
 
-/// The command of an import.
-fn import_of(alloc: Global, source: &str, file: &[u8]) -> Result<Command, AllocError>
-    ensures { IfOk result (λ made. made ≡ commands.Import source.now file.now) }
+/// The command of an import. The file is the body's own bytes.
+fn import_of(alloc: Global, source: &str, body: Vec<u8>) -> Result<Command, AllocError>
+    ensures { IfOk result (λ made. made ≡ commands.Import source.now body.items) }
 {
     let source = Text::new(alloc, source)?;
-    let file = List(Vec::from_slice(alloc, file)?);
+    let file = List(body);
     Ok(Command::Import { source, file })
 }
 
@@ -145,7 +145,7 @@ fn lacks_length(post: bool, head: Head) -> bool
 fn carried_out<M: Machine>(
     alloc: Global,
     office: &mut M,
-    body: &[u8],
+    body: Vec<u8>,
     route: Route<'_>,
 ) -> Result<Answered, Busy>
     ensures intact { M.is_intact office.new → M.is_intact office.old }
@@ -153,8 +153,8 @@ fn carried_out<M: Machine>(
     ensures kept { routes.is_post (route_in route.entry) ≡ true
         → IfOk result (λ a. M.is_intact office.new → (answer_in a).status ≡ Fine → M.is_open office.new) }
     ensures answers { IfOk result (λ a. M.is_intact office.new → (s : State) → M.represents office.old s →
-        M.represents office.new (spec.carried_out s body.now (route_in route.entry)).1
-        × (answer_in a ≡ (spec.carried_out s body.now (route_in route.entry)).0)) }
+        M.represents office.new (spec.carried_out s body.items (route_in route.entry)).1
+        × (answer_in a ≡ (spec.carried_out s body.items (route_in route.entry)).0)) }
     ensures busy { OnErr result (M.is_intact office.new → (s : State) → M.represents office.old s
         → M.represents office.new s) }
 {
@@ -166,7 +166,7 @@ fn carried_out<M: Machine>(
             Ok(command) => done(alloc, office, command),
             Err(_) => Err(Busy::Memory),
         },
-        Route::TakesForm(form) => match command_in(alloc, form, body) {
+        Route::TakesForm(form) => match command_in(alloc, form, &body) {
             Ok(command) => done_if_read(alloc, office, command),
             Err(_) => Err(Busy::Memory),
         },
@@ -179,7 +179,7 @@ fn by_route<M: Machine>(
     office: &mut M,
     block: &[u8],
     head: Head,
-    body: &[u8],
+    body: Vec<u8>,
     route: Route<'_>,
 ) -> Result<Answered, Busy>
     requires { IsWithin (length block.now) head.method }
@@ -188,8 +188,8 @@ fn by_route<M: Machine>(
     ensures kept { (request_in block.now head).method ≡ codes "POST"
         → IfOk result (λ a. M.is_intact office.new → (answer_in a).status ≡ Fine → M.is_open office.new) }
     ensures answers { IfOk result (λ a. M.is_intact office.new → (s : State) → M.represents office.old s →
-        M.represents office.new (spec.by_route s (request_in block.now head) body.now (Some (route_in route.entry))).1
-        × (answer_in a ≡ (spec.by_route s (request_in block.now head) body.now (Some (route_in route.entry))).0)) }
+        M.represents office.new (spec.by_route s (request_in block.now head) body.items (Some (route_in route.entry))).1
+        × (answer_in a ≡ (spec.by_route s (request_in block.now head) body.items (Some (route_in route.entry))).0)) }
     ensures busy { OnErr result (M.is_intact office.new → (s : State) → M.represents office.old s
         → M.represents office.new s) }
 {
@@ -209,7 +209,7 @@ pub fn respond<M: Machine>(
     office: &mut M,
     block: &[u8],
     head: Head,
-    body: &[u8],
+    body: Vec<u8>,
 ) -> Result<Answered, Busy>
     requires method { IsWithin (length block.now) head.method }
     requires target { IsWithin (length block.now) head.target }
@@ -218,8 +218,8 @@ pub fn respond<M: Machine>(
     ensures kept { (request_in block.now head).method ≡ codes "POST"
         → IfOk result (λ a. M.is_intact office.new → (answer_in a).status ≡ Fine → M.is_open office.new) }
     ensures answers { IfOk result (λ a. M.is_intact office.new → (s : State) → M.represents office.old s →
-        M.represents office.new (spec.answered s (request_in block.now head) body.now).1
-        × (answer_in a ≡ (spec.answered s (request_in block.now head) body.now).0)) }
+        M.represents office.new (spec.answered s (request_in block.now head) body.items).1
+        × (answer_in a ≡ (spec.answered s (request_in block.now head) body.items).0)) }
     ensures busy { OnErr result (M.is_intact office.new → (s : State) → M.represents office.old s
         → M.represents office.new s) }
 {

@@ -1,13 +1,15 @@
 //! Talks with one peer.
 ghost use Rattle.std.specs.Prelude.{◌≢◌, ◌||◌, ◌<◌, true, false, ◌≡◌, ◌≤◌, ◌+◌, ◌*◌, ◌++◌};
-ghost use Rattle.std.specs.Prelude.{length, take, drop, unwrap_or, nat_eq};
+ghost use Rattle.std.specs.Prelude.{length, take, drop, unwrap_or, nat_eq, OnErr, OnOk, IfOk, codes};
 ghost use Rattle.std.specs.Io.KnownBytes.{Appends};
 ghost use Rattle.httparse.specs.Spans.{IsWithin, span_bytes};
 ghost use Rattle.isad_core.specs.Texts.{Bytes};
-ghost use Rattle.http_messages.specs.Answers.{answer_text};
+ghost use Rattle.office_core.specs.State.{State};
+ghost use Rattle.http_messages.specs.Answers.{answer_text, answered};
 ghost use Rattle.http_messages.specs.Heads.{Accepted, is_head};
 ghost use Rattle.http_messages.specs.Heard.{request_in};
 ghost use Rattle.http_messages.specs.Replies.{answer_in};
+ghost use Rattle.http_messages.specs.declared.status.Status.TheVariants.{Fine};
 ghost use Rattle.http_desk.specs.Laws.{HasEnded};
 ghost use Rattle.http_desk.specs.Messages.{HasHead};
 ghost use Rattle.http_desk.specs.Sending.{Sends};
@@ -19,6 +21,7 @@ ghost use Rattle.http_desk.specs.Quiet.{FlushesAll, IsFlushed, IsQuiet, NoBound,
 ghost use Rattle.http_desk.specs.Quiet.{TellsReadFault, TellsWriteFault};
 ghost use Rattle.http_desk.specs.Quiet.{TakesCalls, TakesTurns, send_failed};
 
+use crate::input_buffer::take_message;
 use crate::message_input::{FoundBody, FoundHead, gather_body, gather_head};
 use crate::output::Sent;
 use crate::reply::{send_answer, send_continue};
@@ -28,7 +31,7 @@ use crate::streams::{Sink, Source};
 use http_messages::answers::Answered;
 use http_messages::head_verdict::{Head, Judged, is_bare_method, judge};
 use http_messages::status::Status;
-use office_core::Machine;
+use office_core::{Busy, Machine};
 use std::alloc::Global;
 use std::io::{Read, Write};
 
@@ -116,14 +119,33 @@ fn body_len(head: Head) -> usize
     }
 }
 
-/// Takes bytes off the front.
-fn remove_front(buffer: &mut Vec<u8>, n: usize)
-    requires { n ≤ length buffer.old.items }
-    ensures { buffer.new.items ≡ drop n buffer.old.items }
+/// Takes the message off the front of the buffer, and has it answered.
+fn answer_first<M: Machine>(
+    means: &Means,
+    office: &mut M,
+    buffer: &mut Vec<u8>,
+    size: usize,
+    head: Head,
+) -> Result<Answered, Busy>
+    requires whole { size + unwrap_or head.length 0 ≤ length buffer.old.items }
+    requires method { IsWithin (length (take size buffer.old.items)) head.method }
+    requires target { IsWithin (length (take size buffer.old.items)) head.target }
+    ensures intact { M.is_intact office.new → M.is_intact office.old }
+    ensures was_open { M.is_intact office.new → M.is_open office.new → M.is_open office.old }
+    ensures kept { (request_in (take size buffer.old.items) head).method ≡ codes "POST"
+        → IfOk result (λ a. M.is_intact office.new → (answer_in a).status ≡ Fine → M.is_open office.new) }
+    ensures answers { IfOk result (λ a. M.is_intact office.new → (s : State) → M.represents office.old s →
+        let told = answered s (request_in (take size buffer.old.items) head)
+            (take (unwrap_or head.length 0) (drop size buffer.old.items)) in
+        M.represents office.new told.1 × (answer_in a ≡ told.0)) }
+    ensures left { OnOk result (buffer.new.items ≡ drop (size + unwrap_or head.length 0) buffer.old.items) }
+    ensures busy { OnErr result (M.is_intact office.new → (s : State) → M.represents office.old s
+        → M.represents office.new s) }
 {
-    let len = buffer.len();
-    buffer.as_mut_slice().copy_within(n..len, 0);
-    buffer.truncate(len - n);
+    match take_message(buffer, size, body_len(head)) {
+        Ok((block, body)) => respond(means, office, &block, head, body),
+        Err(_) => Err(Busy::Memory),
+    }
 }
 
 /// Has a whole message answered.
@@ -153,16 +175,11 @@ fn act<W: Write, M: Machine>(
     ensures turns { NoWriteBound writer.old writer.new result }
     ensures same { writer.new.name ≡ writer.old.name }
 {
-    let end = size + body_len(head);
     let closing = is_closing(head, number);
     let bare = is_bare(&buffer[..size], head);
-    match respond(means, office, &buffer[..size], head, &buffer[size..end]) {
+    match answer_first(means, office, buffer, size, head) {
         Err(_busy) => refuse(writer, false, Status::Busy),
-        Ok(answer) => {
-            let next = reply(writer, bare, closing, &answer);
-            remove_front(buffer, end);
-            next
-        }
+        Ok(answer) => reply(writer, bare, closing, &answer),
     }
 }
 

@@ -15,4 +15,4 @@ returns-in-Some-clause-answers g c =
     let found : Some (route_in c.in-Some.route) ≡ route_of (path_of request.target) =
     sym (ap (option_map route_in) c.in-Some.is) ∙ c.route_of.ensures ∙ ap route_of (c.path_of.ensures ∙ ap path_of c.of.ensures) in
     subst (λ o. IfOk c.by_route.result (λ a. g.M.Machine.is_intact c.by_route.new.office → (s : State) → g.M.Machine.represents c.args.office.now s →
-    g.M.Machine.represents c.by_route.new.office (by_route s request c.args.body.now o).1 × (answer_in a ≡ (by_route s request c.args.body.now o).0))) found c.by_route.ensures.answers
+    g.M.Machine.represents c.by_route.new.office (by_route s request c.args.body.items o).1 × (answer_in a ≡ (by_route s request c.args.body.items o).0))) found c.by_route.ensures.answers
