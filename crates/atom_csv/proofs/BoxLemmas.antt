@@ -20,7 +20,6 @@ use Rattle.isad_core.specs.declared.values.BoxKey.{BoxKey}
 use Rattle.isad_core.specs.Boxes.{distinct, is_same}
 use Rattle.atom_csv.specs.Values.{entry_at, is_named_box, triple, triples}
 use Rattle.atom_csv.specs.Known.{Holds, has, key}
-use Rattle.std.proofs.Math.Bool.{and_assoc}
 
 -- ---- the set in which the code keeps them
 
@@ -38,6 +37,10 @@ eq_then : (a b : Ordering) → is_eq (ordering_then a b) ≡ (is_eq a && is_eq b
 eq_then ord.Less b = refl
 eq_then ord.Equal b = refl
 eq_then ord.Greater b = refl
+
+and_assoc : (a b c : Bool) → ((a && b) && c) ≡ (a && (b && c))
+and_assoc true b c = refl
+and_assoc false b c = refl
 
 pub same_compared : (a b : Told) → is_eq (compared a b) ≡ is_same (key_of a) (key_of b)
 same_compared a b =

@@ -1,6 +1,6 @@
 -- What a loop over the records keeps.
 use Rattle.std.proofs.Common.{◌≡◌, ◌∙◌, ◌+◌, ◌++◌, ◌∷◌, [], ℕ, Bool, true, false, List, length, Option, Some, None, option_map, refl, sym, ap, ap₂, arith, cond, append_assoc, append-nil, zero-add}
-use Rattle.std.specs.Prelude.{if◌then◌else◌, filter_map, find, is_some, count_by, ◌||◌, codes, Err}
+use Rattle.std.specs.Prelude.{if◌then◌else◌, filter_map, find, is_some, count_by, ◌||◌, ◌&&◌, codes, Err}
 use Rattle.std.specs.List.{cons_option}
 use Rattle.std.specs.Str.{bytes_eq}
 use Rattle.std.proofs.lemmas.Bool.{eqb-true}
@@ -13,7 +13,6 @@ use Rattle.atom_csv.specs.Fields.{Fields, field_under, is_blank, is_empty, is_na
 use Rattle.atom_csv.specs.FileOf.{Fault, Line, below, causes, culture, fault_of, faults, first_culture, is_counted, is_translation, legacy, lines, lines_below, lowest, or_fault, row_causes, row_of, row_told, rows, stood_above, translations}
 use Rattle.atom_csv.specs.Reads.{Knows}
 use Rattle.atom_csv.specs.declared.cause.Cause.{Cause}
-use Rattle.atom_csv.proofs.TextLemmas.{both}
 
 -- the lines of records one after another
 lines_below-append : (above xs ys : List Fields) → lines_below above (xs ++ ys) ≡ lines_below above xs ++ lines_below (above ++ xs) ys
@@ -37,6 +36,11 @@ empty_nil [] e = refl
 empty_nil (b ∷ text) e =
     let some : length (b ∷ text) ≡ 0 = eqb-true _ _ e in
     absurd (omega arith)
+
+both : (a b : Bool) → (a && b) ≡ true → (a ≡ true) × (b ≡ true)
+both true true e = (refl, refl)
+both true false e = cc
+both false b e = cc
 
 blank_value : (name : Bytes) (header fields : Fields) → is_blank fields ≡ true → field_under name header fields ≡ []
 blank_value name [] fields e = refl

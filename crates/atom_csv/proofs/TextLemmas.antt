@@ -107,7 +107,7 @@ one_text act.EndField field c f small = IsUtf8-nil
 one_text act.Skip field c f small = f
 one_text act.EndRecord field c f small = IsUtf8-nil
 
-pub both : (a b : Bool) → (a && b) ≡ true → (a ≡ true) × (b ≡ true)
+both : (a b : Bool) → (a && b) ≡ true → (a ≡ true) × (b ≡ true)
 both true true e = (refl, refl)
 both true false e = cc
 both false b e = cc

@@ -18,7 +18,7 @@ const EXITS: &str =
     "Exit status: 0 done; 1 refused, not sound or old version; 2 invalid arguments, date or settings;
 3 a fault of a file, the store, a port, a session or memory. Details are on standard error.";
 
-// `--name <VALUE>`, which is required.
+// `--name <VALUE>`, which has to be there.
 fn option<'a>(alloc: Global, name: &'a str, value: &'a str, help: &'a str) -> Arg<'a>
     ensures rule { rule_of result ≡ wanted name.entry.now }
     ensures local { result.global ≡ false }
@@ -30,7 +30,7 @@ fn option<'a>(alloc: Global, name: &'a str, value: &'a str, help: &'a str) -> Ar
         .help(help)
 }
 
-// `--name <NUMBER>`, a number that fits 32 bits, which is required.
+// `--name <NUMBER>`, a number that fits 32 bits, which has to be there.
 fn number<'a>(alloc: Global, name: &'a str, help: &'a str) -> Arg<'a>
     ensures rule { rule_of result ≡ wanted_number name.entry.now }
     ensures local { result.global ≡ false }
@@ -38,7 +38,7 @@ fn number<'a>(alloc: Global, name: &'a str, help: &'a str) -> Arg<'a>
     option(alloc, name, "NUMBER", help).value_parser(value_parser!(u32))
 }
 
-// `--port <PORT>`, which is required.
+// `--port <PORT>`, which has to be there.
 fn port<'a>(alloc: Global) -> Arg<'a>
     ensures rule { rule_of result ≡ wanted_within (codes "port") 1 65535 }
     ensures local { result.global ≡ false }
@@ -48,7 +48,7 @@ fn port<'a>(alloc: Global) -> Arg<'a>
     ).range(1..))
 }
 
-// `--connections <NUMBER>`, which is required.
+// `--connections <NUMBER>`, which has to be there.
 fn connections<'a>(alloc: Global) -> Arg<'a>
     ensures rule { rule_of result ≡ wanted_within (codes "connections") 1 10000 }
     ensures local { result.global ≡ false }
@@ -62,7 +62,7 @@ fn connections<'a>(alloc: Global) -> Arg<'a>
     .value_parser(value_parser!(u32).range(1..=10_000))
 }
 
-// `--store <STORE>`, which is required.
+// `--store <STORE>`, which has to be there.
 fn store<'a>(alloc: Global) -> Arg<'a>
     ensures rule { rule_of result ≡ store_option }
     ensures local { result.global ≡ false }
@@ -80,7 +80,7 @@ fn file<'a>(alloc: Global) -> Arg<'a>
     )
 }
 
-// A file, which is required.
+// A file, which has to be there.
 fn given_file<'a>(alloc: Global) -> Arg<'a>
     ensures rule { rule_of result ≡ wanted_file }
     ensures local { result.global ≡ false }

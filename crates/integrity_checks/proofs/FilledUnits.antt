@@ -9,7 +9,6 @@ use Rattle.catalogue_core.specs.CatalogueRows.{HousingRow, housings_of}
 use Rattle.office_tables.proofs.ByNumber.{Up}
 use Rattle.integrity_checks.specs.Filled.{higher, are_filled}
 use Rattle.integrity_checks.proofs.Tested.{all_same}
-use Rattle.std.proofs.Math.Bool.{and_assoc}
 
 abbrev pub unit_of : HousingRow → ℕ
 unit_of row = row.unit
@@ -43,6 +42,10 @@ none_of u (row ∷ rows) h =
 and_true : (b : Bool) → b ≡ (b && true)
 and_true true = refl
 and_true false = refl
+
+three : (a b c : Bool) → ((a && b) && c) ≡ (a && (b && c))
+three true b c = refl
+three false b c = refl
 
 -- so many of the unit stood before these rows
 abbrev fits : ℕ → ℕ → List HousingRow → HousingRow → Bool
@@ -85,7 +88,7 @@ filled_from u k m (row ∷ rows) low up = at (filled_from u (suc k) (higher m ro
         same
         ∙ ap₂ ◌&&◌ (higher_is m row.ord (suc k + rows_of u rows) ∙ ap₂ ◌&&◌ (ap (nat_le m) all) (ap (nat_le row.ord) here))
         (all_same (fits u (suc k) rows) (fits u k (row ∷ rows)) rows (all_weaker (λ (other : HousingRow). u ≤ other.unit) (λ other. fits u (suc k) rows other ≡ fits u k (row ∷ rows) other) (λ other _. same_unit u k row rows is other) rows low.1))
-        ∙ and_assoc (nat_le m (k + rows_of u (row ∷ rows))) (fits u k (row ∷ rows) row) (list_all (fits u k (row ∷ rows)) rows)
+        ∙ three (nat_le m (k + rows_of u (row ∷ rows))) (fits u k (row ∷ rows) row) (list_all (fits u k (row ∷ rows)) rows)
     at same next false h =
         let not_it = eqb-false row.unit u h in
         let past : u < row.unit = above (low.0) not_it in

@@ -1,5 +1,5 @@
 -- Rows of typed records: what takes some out, and what puts them back changed.
-use Rattle.std.proofs.Common.{◌≡◌, inl, inr, ℤ, List, [], ◌∷◌, map, filter, Bool, true, false, not, ◌&&◌, if◌then◌else◌, cond, Ordering, Less, Equal, Greater, refl, sym, ap, ap₂, subst, ◌∙◌}
+use Rattle.std.proofs.Common.{◌≡◌, inl, inr, ℤ, List, [], ◌∷◌, map, filter, Bool, true, false, not, ◌&&◌, ◌||◌, if◌then◌else◌, cond, Ordering, Less, Equal, Greater, refl, sym, ap, ap₂, subst, ◌∙◌}
 use Rattle.std.specs.Cmp.{IsTotalOrder, on_total, int_cmp_total, tied_itself, tied_back, both_ways}
 use Rattle.std.specs.Ordering.{int_cmp, is_eq}
 use Rattle.std.specs.List.{list_any}
@@ -18,7 +18,6 @@ use Rattle.sqlite_trees.proofs.ListLemmas.{filter-map, filter_same, filter_all, 
 use Rattle.sqlite_trees.proofs.TreeLemmas.{IsTable-put_row, not_true}
 use Rattle.office_tables.specs.Order.{Rises}
 use Rattle.office_tables.proofs.Sorted.{same_rising}
-use Rattle.catalogue_core.proofs.Imported.{or_not}
 
 pub has_map : {A B : Type 0} (f : A → B) (xs : List A) (x : A) → Has xs x → Has (map f xs) (f x)
 has_map f (y ∷ xs) x (inl e) = inl (ap f e)
@@ -40,6 +39,10 @@ filters p q (x ∷ xs) = elim (p x) as (λ b. filter q (cond b (x ∷ filter p x
   | false ↦ filters p q xs
 ]
 
+pub neither : (a b : Bool) → (not a && not b) ≡ not (a || b)
+neither true b = refl
+neither false b = refl
+
 pub same_test : {A : Type 0} (p q : A → Bool) → ((x : A) → p x ≡ q x) → (xs : List A) → filter p xs ≡ filter q xs
 same_test p q e xs = filter_same p q xs (all_of (λ x. p x ≡ q x) e xs)
 
@@ -51,7 +54,7 @@ without_all_is [] rows = sym (kept_all rows)
 without_all_is (id ∷ ids) rows =
     without_all_is ids (without_rowid id rows)
     ∙ filters (λ r. not (has_rowid id r)) (λ r. not (list_any (λ id. has_rowid id r) ids)) rows
-    ∙ same_test _ _ (λ r. or_not (has_rowid id r) (list_any (λ id. has_rowid id r) ids)) rows
+    ∙ same_test _ _ (λ r. neither (has_rowid id r) (list_any (λ id. has_rowid id r) ids)) rows
 
 pub IsTable-put_all : (news rows : List Row) → IsTable rows → IsTable (put_all rows news)
 IsTable-put_all [] rows up = up

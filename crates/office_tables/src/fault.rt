@@ -3,8 +3,8 @@
 use sqlite::{Error, ErrorCode};
 use std::alloc::{AllocError, AllocFailed};
 
-/// After a fault the caller's transaction is to be rolled back: it goes on with what was done so far,
-/// or has been rolled back already.
+/// After a fault the caller's transaction is to be taken back: it goes on with what was done so far,
+/// or has been taken back already.
 #[derive(Clone, Copy, Debug, PartialEq, Eq)]
 pub enum StoreFault {
     /// A growth was refused: of memory, or of the store, where a row is too long for it (10^9 bytes)

@@ -5,16 +5,22 @@ use Rattle.std.proofs.lemmas.List.Folds.{list_any-append}
 use Rattle.sqlite.specs.Order.{Row}
 use Rattle.office_tables.specs.Cells.{has_unread}
 use Rattle.row_decoding.specs.Readings.{AreGathered}
-use Rattle.std.proofs.Math.Bool.{or-true}
-use Rattle.std.proofs.lemmas.List.{append-nil}
 
 or_false : (b : Bool) → (b || false) ≡ b
 or_false true = refl
 or_false false = refl
 
+or_true : (b : Bool) → (b || true) ≡ true
+or_true true = refl
+or_true false = refl
+
 map_more : {A B : Type 0} (f : A → B) (xs : List A) (x : A) → map f (xs ++ x ∷ []) ≡ map f xs ++ f x ∷ []
 map_more f [] x = refl
 map_more f (y ∷ ys) x = ap (λ l. f y ∷ l) (map_more f ys x)
+
+append_none : {A : Type 0} (xs : List A) → xs ++ [] ≡ xs
+append_none [] = refl
+append_none (x ∷ xs) = ap (λ l. x ∷ l) (append_none xs)
 
 module _ {Told : Type 0} (says : Row → Option Told) (row : Row) where
   filter_more : (rows : List Row) → filter_map says (rows ++ row ∷ []) ≡ filter_map says rows ++ cons_option (says row) []
@@ -37,6 +43,6 @@ module _ {Told : Type 0} (says : Row → Option Told) (row : Row) where
 
     pub one_unread : option_map told None ≡ says row → AreGathered told says (rows ++ row ∷ []) kept false
     one_unread said = record {
-      are = so_far.are ∙ sym (append-nil (filter_map says rows)) ∙ ap (λ o. filter_map says rows ++ cons_option o []) said ∙ sym (filter_more rows);
-      all = ap not (sym (unread_more rows ∙ ap (λ o. has_unread says rows || (is_none o || false)) (sym said) ∙ or-true (has_unread says rows)));
+      are = so_far.are ∙ sym (append_none (filter_map says rows)) ∙ ap (λ o. filter_map says rows ++ cons_option o []) said ∙ sym (filter_more rows);
+      all = ap not (sym (unread_more rows ∙ ap (λ o. has_unread says rows || (is_none o || false)) (sym said) ∙ or_true (has_unread says rows)));
     }

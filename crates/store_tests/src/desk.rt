@@ -266,7 +266,7 @@ fn show_desk<S: Alter>(alloc: Global, conn: &mut Connection<S>) -> Result<String
     Ok(text)
 }
 
-/// The transaction of calls of which one failed is rolled back: nothing is left of them in a new office.
+/// The transaction of calls of which one failed is taken back: nothing is left of them in a new office.
 fn taken_back<S: Alter>(
     alloc: Global,
     conn: &mut Connection<S>,
