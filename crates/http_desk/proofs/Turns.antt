@@ -1,6 +1,6 @@
 -- Lemmas on one message's place.
 use Rattle.std.proofs.Common.{◌≡◌, ◌<◌, ◌≤◌, ◌+◌, ◌⊎◌, inl, inr, ℕ, [], ◌++◌, length, take, drop, refl, sym, ap, ◌∙◌, subst, arith, true, false, Bool, codes, append_assoc, Option, length-take, length-drop, length-append, take-append-drop, drop-drop}
-use Rattle.std.specs.Prelude.{◌||◌, nat_eq}
+use Rattle.std.specs.Prelude.{◌||◌, nat_eq, Result, Ok, Err, IfOk, OnOk, OnErr, MatchResult}
 use Rattle.std.specs.Io.KnownBytes.{Appends}
 use Rattle.std.proofs.KnownBytes.{Consumes-nil}
 use Rattle.std.proofs.lemmas.List.{take-append-le, drop-append-le}
@@ -103,6 +103,11 @@ may_fail input = record { leave_due = λ e. never e; to_head = λ e. never e }
 pub may_fail_after : (input block more : Bytes) (r : Request) → HasHead input block (Accepted r) more → MayFail input r.waits false
 may_fail_after input block more r h = record { leave_due = λ e. (block, more, Accepted r, h, e); to_head = λ e. never e }
 
+-- what is left in a buffer once it is given back
+pub left_back : {A E : Type 0} (made : Result A E) (lent back rest : Bytes) → OnOk made (lent ≡ rest) → back ≡ lent → OnOk made (back ≡ rest)
+left_back (Ok x) lent back rest left same = same ∙ left
+left_back (Err why) lent back rest left same = left
+
 module _ {M : Type 0} (represents : M → State → Type 0) (is_intact is_open : M → Type 0) where
   -- what stands last changes nothing in the office
   abbrev pub AloneAt : ℕ → Last → Bytes → Type 0
@@ -203,6 +208,20 @@ module _ {M : Type 0} (represents : M → State → Type 0) (is_intact is_open :
       acted_closing number old new items size n request told bare rest a b sent next h within e r is_bare closes ends sends answers kept
   acted number old new items size n request told bare rest a b false next h within e r is_bare closes (sent, sends, ends) answers kept =
       acted_open number old new items size n request told bare rest a b sent next h within e r is_bare closes ends sends answers kept
+
+  -- what the office answered was sent, or that it is busy
+  pub answered_at : {A E : Type 0} (answer : A → Answer) (number : ℕ) (old new : M) (items : Bytes) (size n : ℕ) (request : Request) (made : Result A E) (bare : Bool) (rest : Bytes) (a b : Option Bytes) (closing : Bool) (next : Next)
+      → HasHead items (take size items) (Accepted request) (drop size items) → size + n ≤ length items → n ≡ body_length request → OnOk made (rest ≡ drop (size + n) items)
+      → bare ≡ is_head request.method → (request.closes || nat_eq number 10000) ≡ closing
+      → MatchResult made (λ x. Replies a b closing (answer_text bare closing (answer x)) next) (λ e. Refused a b false Busy next)
+      → IfOk made (λ x. is_intact new → (s : State) → represents old s → represents new (answered s request (body_at items size n)).1 × (answer x ≡ (answered s request (body_at items size n)).0))
+      → OnErr made (is_intact new → (s : State) → represents old s → represents new s)
+      → (request.method ≡ codes "POST" → IfOk made (λ x. is_intact new → (answer x).status ≡ Fine → is_open new))
+      → (written : Bytes) × Appends a b written × Through represents is_intact old new (λ s t. Turn (is_open old) (is_open new) number s items next (leave_if request.waits ++ written) t rest)
+  answered_at answer number old new items size n request (Ok x) bare rest a b closing next h within e r is_bare closes sent answers busy kept =
+      acted number old new items size n request (answer x) bare rest a b closing next h within e r is_bare closes sent answers kept
+  answered_at answer number old new items size n request (Err why) bare rest a b closing next h within e r is_bare closes sent answers busy kept =
+      refused number old new items (leave_if request.waits) rest (Fails request.waits false) false Busy a b next sent (may_fail_after items (take size items) (drop size items) request h) tt (λ s. (refl, refl)) busy (λ s never. absurd never)
 
   -- the leave to send a body was broken off
   pub leave_broken : (number : ℕ) (office : M) (items block more : Bytes) (request : Request) (a b c : Option Bytes) (sent : Sent) (next result : Next)

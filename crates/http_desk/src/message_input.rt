@@ -1,5 +1,5 @@
 //! Gathers a head, or a body, in a buffer.
-ghost use Rattle.std.specs.Prelude.{◌≡◌, ◌+◌, ◌≤◌, ◌||◌, length, take, false};
+ghost use Rattle.std.specs.Prelude.{◌≡◌, ◌+◌, ◌≤◌, ◌||◌, length, take, unwrap_or, false};
 ghost use Rattle.http_desk.specs.Quiet.{QuietHead, QuietBody, TakesTurns, head_failed, body_failed};
 ghost use Rattle.http_desk.specs.Gathering.{FindsHead, FindsBody, AtEndIfHead, AtEndIfBody, Reads};
 ghost use Rattle.http_messages.specs.Ending.{scan};
@@ -7,6 +7,7 @@ ghost use Rattle.http_messages.specs.Ending.{scan};
 use crate::input_buffer::{Filled, fill};
 use crate::streams::Source;
 use http_messages::head_scan::{HeadScanState, Scan, scan_on};
+use http_messages::head_verdict::Head;
 use std::io::Read;
 
 /// How many bytes a head may have, with the empty lines before it.
@@ -44,6 +45,16 @@ pub enum FoundBody {
     Bound,
     /// There was no memory.
     NoMemory,
+}
+
+/// How long the body of that head is.
+pub fn body_len(head: Head) -> usize
+    ensures { result ≡ unwrap_or head.length 0 }
+{
+    match head.length {
+        None => 0,
+        Some(n) => n as usize,
+    }
 }
 
 /// What the bytes so far say, where those seen before led to a place: no byte is looked at twice.

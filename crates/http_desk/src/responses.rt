@@ -1,5 +1,6 @@
 //! What is answered to a request.
-ghost use Rattle.std.specs.Prelude.{◌&&◌, ◌≡◌, [], length, IfOk, IsOk, OnErr, is_none, Some, true, codes};
+ghost use Rattle.std.specs.Prelude.{◌&&◌, ◌≡◌, ◌≤◌, ◌+◌, [], length, take, drop, unwrap_or, IfOk, OnOk, OnErr};
+ghost use Rattle.std.specs.Prelude.{IsOk, is_none, Some, true, codes};
 ghost use Rattle.httparse.specs.Spans.{IsWithin};
 ghost use Rattle.office_core.specs.State.{State};
 ghost use Rattle.office_core.specs.Rules as rules;
@@ -13,6 +14,8 @@ ghost use Rattle.http_messages.specs.Routing.{route_in};
 ghost use Rattle.http_messages.specs.declared.status.Status.TheVariants.{Fine};
 ghost use Rattle.office_core.specs.declared.command.Command.TheVariants as commands;
 
+use crate::input_buffer::take_message;
+use crate::message_input::body_len;
 use http_messages::answers::Answered;
 use http_messages::head_verdict::Head;
 use http_messages::members::command_in;
@@ -24,7 +27,7 @@ use office_core::{Answer, Busy, Command, Machine, Query, Reply};
 use std::alloc::{AllocError, Global};
 
 /// What a session answers with, beside its office: memory, and the routes that its paths are looked up in. Nothing outside
-/// this module can take of its memory but an empty buffer.
+/// this module can take of its memory but an empty buffer, and that only at the session's beginning.
 #[derive(Drop)]
 pub struct Means {
     alloc: Global,
@@ -37,8 +40,8 @@ impl Means {
         Ok(Means { alloc, routes })
     }
 
-    /// A buffer with nothing in it.
-    pub fn empty_buffer(&self) -> Vec<u8>
+    /// A buffer with nothing in it. A session makes one at its beginning; whoever is passed a `&Means` can make none.
+    pub fn empty_buffer(&mut self) -> Vec<u8>
         ensures { result.items ≡ [] }
     {
         Vec::new(self.alloc)
@@ -204,7 +207,7 @@ fn by_route<M: Machine>(
 }
 
 /// Answers a request whose body came whole.
-pub fn respond<M: Machine>(
+fn respond<M: Machine>(
     means: &Means,
     office: &mut M,
     block: &[u8],
@@ -227,4 +230,87 @@ pub fn respond<M: Machine>(
         None => Ok(Answered::Error(Status::NotFound)),
         Some(route) => by_route(means.alloc, office, block, head, body, route),
     }
+}
+
+/// Takes the message off the front of the buffer, and has it answered.
+fn answer_first<M: Machine>(
+    means: &Means,
+    office: &mut M,
+    buffer: &mut Vec<u8>,
+    size: usize,
+    head: Head,
+) -> Result<Answered, Busy>
+    requires whole { size + unwrap_or head.length 0 ≤ length buffer.old.items }
+    requires method { IsWithin (length (take size buffer.old.items)) head.method }
+    requires target { IsWithin (length (take size buffer.old.items)) head.target }
+    ensures intact { M.is_intact office.new → M.is_intact office.old }
+    ensures was_open { M.is_intact office.new → M.is_open office.new → M.is_open office.old }
+    ensures kept { (request_in (take size buffer.old.items) head).method ≡ codes "POST"
+        → IfOk result (λ a. M.is_intact office.new → (answer_in a).status ≡ Fine → M.is_open office.new) }
+    ensures answers { IfOk result (λ a. M.is_intact office.new → (s : State) → M.represents office.old s →
+        let told = spec.answered s (request_in (take size buffer.old.items) head)
+        (take (unwrap_or head.length 0) (drop size buffer.old.items)) in
+        M.represents office.new told.1 × (answer_in a ≡ told.0)) }
+    ensures left { OnOk result (buffer.new.items ≡ drop (size + unwrap_or head.length 0) buffer.old.items) }
+    ensures busy { OnErr result (M.is_intact office.new → (s : State) → M.represents office.old s
+        → M.represents office.new s) }
+{
+    match take_message(buffer, size, body_len(head)) {
+        Ok((block, body)) => respond(means, office, &block, head, body),
+        Err(_) => Err(Busy::Memory),
+    }
+}
+
+/// What was answered, while it waits to be written. The buffer that the message came from is lent to it until then.
+#[derive(Drop)]
+pub struct Prepared<'b> {
+    answered: Result<Answered, Busy>,
+    buffer: &'b mut Vec<u8>,
+}
+
+impl<'b> Prepared<'b> {
+    /// What was answered.
+    pub fn answered(&self) -> &Result<Answered, Busy>
+        ensures { result.now ≡ self.now.answered }
+    {
+        &self.answered
+    }
+
+    /// Gives the buffer back. What was answered is gone then.
+    pub fn into_buffer(self) -> &'b mut Vec<u8>
+        ensures same_reference { result.ghost_name ≡ self.entry.buffer.ghost_name }
+        ensures value { result.now ≡ self.entry.buffer.now }
+    {
+        let Prepared { buffer, .. } = self;
+        buffer
+    }
+}
+
+/// Takes the message off the front of the buffer, has it answered, and keeps the buffer until that is written.
+pub fn prepare<'b, M: Machine>(
+    means: &Means,
+    office: &mut M,
+    buffer: &'b mut Vec<u8>,
+    size: usize,
+    head: Head,
+) -> Prepared<'b>
+    requires whole { size + unwrap_or head.length 0 ≤ length buffer.old.items }
+    requires method { IsWithin (length (take size buffer.old.items)) head.method }
+    requires target { IsWithin (length (take size buffer.old.items)) head.target }
+    ensures intact { M.is_intact office.new → M.is_intact office.old }
+    ensures was_open { M.is_intact office.new → M.is_open office.new → M.is_open office.old }
+    ensures kept { (request_in (take size buffer.old.items) head).method ≡ codes "POST"
+        → IfOk result.answered (λ a. M.is_intact office.new → (answer_in a).status ≡ Fine → M.is_open office.new) }
+    ensures answers { IfOk result.answered (λ a. M.is_intact office.new → (s : State) → M.represents office.old s →
+        let told = spec.answered s (request_in (take size buffer.old.items) head)
+        (take (unwrap_or head.length 0) (drop size buffer.old.items)) in
+        M.represents office.new told.1 × (answer_in a ≡ told.0)) }
+    ensures busy { OnErr result.answered (M.is_intact office.new → (s : State) → M.represents office.old s
+        → M.represents office.new s) }
+    ensures left { OnOk result.answered
+        (result.buffer.now.items ≡ drop (size + unwrap_or head.length 0) buffer.old.items) }
+    ensures same_reference { result.buffer.ghost_name ≡ buffer.entry.ghost_name }
+{
+    let answered = answer_first(means, office, buffer, size, head);
+    Prepared { answered, buffer }
 }

@@ -1,15 +1,13 @@
 //! Talks with one peer.
 ghost use Rattle.std.specs.Prelude.{◌≢◌, ◌||◌, ◌<◌, true, false, ◌≡◌, ◌≤◌, ◌+◌, ◌*◌, ◌++◌};
-ghost use Rattle.std.specs.Prelude.{length, take, drop, unwrap_or, nat_eq, OnErr, OnOk, IfOk, codes};
+ghost use Rattle.std.specs.Prelude.{length, take, drop, unwrap_or, nat_eq, MatchResult};
 ghost use Rattle.std.specs.Io.KnownBytes.{Appends};
 ghost use Rattle.httparse.specs.Spans.{IsWithin, span_bytes};
 ghost use Rattle.isad_core.specs.Texts.{Bytes};
-ghost use Rattle.office_core.specs.State.{State};
-ghost use Rattle.http_messages.specs.Answers.{answer_text, answered};
+ghost use Rattle.http_messages.specs.Answers.{answer_text};
 ghost use Rattle.http_messages.specs.Heads.{Accepted, is_head};
 ghost use Rattle.http_messages.specs.Heard.{request_in};
 ghost use Rattle.http_messages.specs.Replies.{answer_in};
-ghost use Rattle.http_messages.specs.declared.status.Status.TheVariants.{Fine};
 ghost use Rattle.http_desk.specs.Laws.{HasEnded};
 ghost use Rattle.http_desk.specs.Messages.{HasHead};
 ghost use Rattle.http_desk.specs.Sending.{Sends};
@@ -21,11 +19,10 @@ ghost use Rattle.http_desk.specs.Quiet.{FlushesAll, IsFlushed, IsQuiet, NoBound,
 ghost use Rattle.http_desk.specs.Quiet.{TellsReadFault, TellsWriteFault};
 ghost use Rattle.http_desk.specs.Quiet.{TakesCalls, TakesTurns, send_failed};
 
-use crate::input_buffer::take_message;
-use crate::message_input::{FoundBody, FoundHead, gather_body, gather_head};
+use crate::message_input::{FoundBody, FoundHead, body_len, gather_body, gather_head};
 use crate::output::Sent;
 use crate::reply::{send_answer, send_continue};
-use crate::responses::{Means, respond};
+use crate::responses::{Means, prepare};
 use crate::session_end::{Ended, Next};
 use crate::streams::{Sink, Source};
 use http_messages::answers::Answered;
@@ -79,6 +76,29 @@ fn reply<W: Write>(writer: &mut Sink<'_, W>, bare: bool, closing: bool, answer: 
     }
 }
 
+/// Writes what was answered, all of it, or that the office is busy, and says what comes then. It is passed no allocator,
+/// and nothing that has one but the answer.
+fn reply_or_refuse<W: Write>(
+    writer: &mut Sink<'_, W>,
+    bare: bool,
+    closing: bool,
+    answered: &Result<Answered, Busy>,
+) -> Next
+    ensures sent { MatchResult answered.now
+        (λ a. Replies writer.old.bytes writer.new.bytes closing (answer_text bare closing (answer_in a)) result)
+        (λ _. Refused writer.old.bytes writer.new.bytes false Status.Busy result) }
+    ensures no_end { IsNoEnd result }
+    ensures flushed { IsFlushed writer.new result }
+    ensures writes { TellsWriteFault writer.old writer.new result }
+    ensures turns { NoWriteBound writer.old writer.new result }
+    ensures same { writer.new.name ≡ writer.old.name }
+{
+    match answered {
+        Ok(answer) => reply(writer, bare, closing, answer),
+        Err(_busy) => refuse(writer, false, Status::Busy),
+    }
+}
+
 /// Gives leave to send a body, where the head waits for it.
 fn give_leave<W: Write>(writer: &mut Sink<'_, W>, head: Head) -> Sent
     ensures writes { writer.new.failed ≡ (send_failed result || writer.old.failed) }
@@ -109,46 +129,8 @@ fn is_bare(block: &[u8], head: Head) -> bool
     is_bare_method(head.method.of(block))
 }
 
-/// How long the body is.
-fn body_len(head: Head) -> usize
-    ensures { result ≡ unwrap_or head.length 0 }
-{
-    match head.length {
-        None => 0,
-        Some(n) => n as usize,
-    }
-}
-
-/// Takes the message off the front of the buffer, and has it answered.
-fn answer_first<M: Machine>(
-    means: &Means,
-    office: &mut M,
-    buffer: &mut Vec<u8>,
-    size: usize,
-    head: Head,
-) -> Result<Answered, Busy>
-    requires whole { size + unwrap_or head.length 0 ≤ length buffer.old.items }
-    requires method { IsWithin (length (take size buffer.old.items)) head.method }
-    requires target { IsWithin (length (take size buffer.old.items)) head.target }
-    ensures intact { M.is_intact office.new → M.is_intact office.old }
-    ensures was_open { M.is_intact office.new → M.is_open office.new → M.is_open office.old }
-    ensures kept { (request_in (take size buffer.old.items) head).method ≡ codes "POST"
-        → IfOk result (λ a. M.is_intact office.new → (answer_in a).status ≡ Fine → M.is_open office.new) }
-    ensures answers { IfOk result (λ a. M.is_intact office.new → (s : State) → M.represents office.old s →
-        let told = answered s (request_in (take size buffer.old.items) head)
-            (take (unwrap_or head.length 0) (drop size buffer.old.items)) in
-        M.represents office.new told.1 × (answer_in a ≡ told.0)) }
-    ensures left { OnOk result (buffer.new.items ≡ drop (size + unwrap_or head.length 0) buffer.old.items) }
-    ensures busy { OnErr result (M.is_intact office.new → (s : State) → M.represents office.old s
-        → M.represents office.new s) }
-{
-    match take_message(buffer, size, body_len(head)) {
-        Ok((block, body)) => respond(means, office, &block, head, body),
-        Err(_) => Err(Busy::Memory),
-    }
-}
-
-/// Has a whole message answered.
+/// Has a whole message answered. While the answer is written the buffer is lent to it, so nothing is at hand that takes
+/// memory.
 fn act<W: Write, M: Machine>(
     means: &Means,
     writer: &mut Sink<'_, W>,
@@ -177,10 +159,10 @@ fn act<W: Write, M: Machine>(
 {
     let closing = is_closing(head, number);
     let bare = is_bare(&buffer[..size], head);
-    match answer_first(means, office, buffer, size, head) {
-        Err(_busy) => refuse(writer, false, Status::Busy),
-        Ok(answer) => reply(writer, bare, closing, &answer),
-    }
+    let prepared = prepare(means, office, buffer, size, head);
+    let next = reply_or_refuse(writer, bare, closing, prepared.answered());
+    let _buffer = prepared.into_buffer();
+    next
 }
 
 /// Receives the body of an accepted head, and has the message answered.
@@ -267,7 +249,7 @@ fn exchange<R: Read, W: Write, M: Machine>(
 
 /// Answers the requests of one peer, one after the other.
 fn talk_with<R: Read, W: Write, M: Machine>(
-    means: &Means,
+    means: &mut Means,
     reader: &mut Source<'_, R>,
     writer: &mut Sink<'_, W>,
     office: &mut M,
@@ -321,7 +303,7 @@ pub fn talk<R: Read, W: Write, M: Machine>(
     ensures same { writer.new.name ≡ writer.old.name }
 {
     match Means::new(alloc) {
-        Ok(means) => talk_with(&means, reader, writer, office),
+        Ok(mut means) => talk_with(&mut means, reader, writer, office),
         Err(_) => match refuse(writer, false, Status::Busy) {
             Next::Ends(ended) => ended,
             Next::Goes => unreachable!(),
