@@ -1,9 +1,24 @@
-use Rattle.std.proofs.Common.{[], ◌∷◌, rules}
+use Rattle.std.proofs.Common.{[], ◌∷◌, rules, subst, sym}
+use Rattle.std.specs.Prelude.{IfOk}
 use Rattle.sqlite.specs.Held.{state}
 use Rattle.office_core.proofs.Texts.{always_sound_office}
+use Rattle.office_core.specs.declared.machine.Reply.{Reply}
 use Rattle.office_tables.proofs.Calls.{early}
+use Rattle.office.specs.Applying.{TakesStep}
+use Rattle.office.specs.Resting.{IsIn}
 use Rattle.office.proofs.Machines.{applied_call}
 use Rattle.office.proofs.offices.Office.apply.Goals as goal
+use Rattle.office.proofs.offices.Office.apply.Goals.{in-Ok, in-Err}
+
+pub returns-clause-steps : goal.returns-clause-steps
+returns-clause-steps g c clean s sound is =
+    let there = subst (λ h. IsIn g.P.Places.represents g.P.Places.version s (state g.S.Store h)) (sym c.self.view_is) is in
+    let takes : Reply → Type 0 = λ reply. TakesStep g.P.Places.represents g.P.Places.version s c.args.command.now reply.done (state g.S.Store c.apply_to.new.conn) in
+    let it = c.apply_to.ensures.steps clean s sound there in
+    elim c.match-apply_to.branch [
+      | in-Ok w ↦ subst (λ r. IfOk r takes) (sym w.result-is) (subst (λ r. IfOk r takes) w.in-Ok.is it)
+      | in-Err w ↦ subst (λ r. IfOk r takes) (sym w.result-is) tt
+    ]
 
 pub returns-clause-sound : goal.returns-clause-sound
 returns-clause-sound g c s sound =
