@@ -131,7 +131,7 @@ pub(crate) fn plan<P: Places, S: Alter>(
         (λ _ c told. AreGoodUnits c → TellsUnits c source.now rows.now (get_by_text catalogued.now)
         → told ≡ plan_of c.forest source.now rows.now) }
 {
-    let mut depths = depths_below_many::<P, S>(alloc, conn, source, rows)?;
+    let mut depths = depths_below_many::<P, S>(alloc, conn, source, rows, catalogued)?;
     let mut new = 0;
     for row in rows {
         match place::<P, S>(alloc, conn, source, catalogued, &mut depths, row)? {

@@ -64,32 +64,36 @@ begun_on was now number s t u read written buffer more out rest b g kept =
     let before = state_after_all s b.messages in
     let one : out ≡ message_text false before g.message = g.says ∙ ap (λ x. message_text false x g.message) b.leaves in
     let len = length-append b.messages (g.message ∷ []) in
-    let few : suc (length b.messages) < most_answers = still_few (length b.messages) number b.few b.count (not_last g.message.request.closes (nat_eq number most_answers) g.stays) in
-    (record {
-      messages = b.messages ++ g.message ∷ [];
-      cut = cuts_more (read ++ more) b.messages (buffer ++ more) g.message rest (cuts_longer read b.messages buffer more b.cut) g.begins;
-      stay = all_and_one StaysOpen b.messages g.message b.stay (open_is g.message.request.closes (nat_eq number most_answers) g.stays);
-      few = omega arith;
-      count = omega (arith, b.count);
-      says = (λ i. b.says i ++ one i) ∙ ap (λ l. text_after_all s b.messages ++ l) (sym (append-nil (message_text false before g.message))) ∙ sym (text_append b.messages (g.message ∷ []) s);
-      leaves = g.leaves ∙ ap (λ x. state_after x g.message) b.leaves ∙ sym (state_append b.messages g.message s);
-    }, λ h. kept (subst (λ x. IsAccepted x g.message) (sym b.leaves) (last_accepted b.messages g.message s was h)))
+    let few : suc (length b.messages) < most_answers = still_few (length b.messages) number b.few b.count (not_last g.message.request.closes (nat_eq number most_answers) g.stays) in (
+      record {
+        messages = b.messages ++ g.message ∷ [];
+        cut = cuts_more (read ++ more) b.messages (buffer ++ more) g.message rest (cuts_longer read b.messages buffer more b.cut) g.begins;
+        stay = all_and_one StaysOpen b.messages g.message b.stay (open_is g.message.request.closes (nat_eq number most_answers) g.stays);
+        few = omega arith;
+        count = omega (arith, b.count);
+        says = (λ i. b.says i ++ one i) ∙ ap (λ l. text_after_all s b.messages ++ l) (sym (append-nil (message_text false before g.message))) ∙ sym (text_append b.messages (g.message ∷ []) s);
+        leaves = g.leaves ∙ ap (λ x. state_after x g.message) b.leaves ∙ sym (state_append b.messages g.message s);
+      },
+      λ h. kept (subst (λ x. IsAccepted x g.message) (sym b.leaves) (last_accepted b.messages g.message s was h)),
+    )
 
 begun_ends : (was between now : Type 0) (number : ℕ) (s t u : State) (read written buffer more out : Bytes) (end : Ended) → (b : Begun number s read written t buffer)
     → (AllLeaveOpen was s b.messages → between) → LastTurn between now number t (buffer ++ more) out end u → Keeps was now s (read ++ more) (written ++ out) end u
 begun_ends was between now number s t u read written buffer more out end b stays g =
     let there : LastTurn between now number (state_after_all s b.messages) (buffer ++ more) out end u = subst (λ x. LastTurn between now number x (buffer ++ more) out end u) b.leaves g in
-    let (stops, kept) = subst (λ n. LastTurn between now n (state_after_all s b.messages) (buffer ++ more) out end u) (sym b.count) there in
-    (record {
-      messages = b.messages;
-      rest = buffer ++ more;
-      out = out;
-      cut = cuts_longer read b.messages buffer more b.cut;
-      stay = b.stay;
-      few = b.few;
-      stops = stops;
-      says = ap (λ l. l ++ out) b.says;
-    }, λ h. kept (last_open (AllLeaveOpen was s b.messages) between stays (state_after_all s b.messages) stops.last h))
+    let (stops, kept) = subst (λ n. LastTurn between now n (state_after_all s b.messages) (buffer ++ more) out end u) (sym b.count) there in (
+      record {
+        messages = b.messages;
+        rest = buffer ++ more;
+        out = out;
+        cut = cuts_longer read b.messages buffer more b.cut;
+        stay = b.stay;
+        few = b.few;
+        stops = stops;
+        says = ap (λ l. l ++ out) b.says;
+      },
+      λ h. kept (last_open (AllLeaveOpen was s b.messages) between stays (state_after_all s b.messages) stops.last h),
+    )
 
 pub not_over : (s t : State) (read written buffer : Bytes) → Begun 10001 s read written t buffer → ⊥
 not_over s t read written buffer b = omega (arith, b.few, b.count)

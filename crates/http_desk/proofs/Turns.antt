@@ -238,13 +238,16 @@ module _ {M : Type 0} (represents : M → State → Type 0) (is_intact is_open :
           λ i x shown. (
             x,
             shown,
-            subst (λ r. Turn (is_open office) (is_open office) number x (items ++ []) r front x items) (sym e) (record {
-              last = Fails request.waits false;
-              stands = may_fail_after (items ++ []) block (more ++ []) request there;
-              ends = tt;
-              written = (others ++ refusal false (error Busy), ap (λ l. l ++ refusal false (error Busy)) f ∙ append_assoc front others (refusal false (error Busy)));
-              leaves = refl;
-            }, λ never. absurd never),
+            subst (λ r. Turn (is_open office) (is_open office) number x (items ++ []) r front x items) (sym e) (
+              record {
+                last = Fails request.waits false;
+                stands = may_fail_after (items ++ []) block (more ++ []) request there;
+                ends = tt;
+                written = (others ++ refusal false (error Busy), ap (λ l. l ++ refusal false (error Busy)) f ∙ append_assoc front others (refusal false (error Busy)));
+                leaves = refl;
+              },
+              λ never. absurd never,
+            ),
           ),
         ),
         subst (AtEndIf a) (sym e) tt,
@@ -259,13 +262,16 @@ module _ {M : Type 0} (represents : M → State → Type 0) (is_intact is_open :
           λ i x shown. (
             x,
             shown,
-            subst (λ r. Turn (is_open office) (is_open office) number x (items ++ []) r front x items) (sym e) (record {
-              last = Fails request.waits false;
-              stands = may_fail_after (items ++ []) block (more ++ []) request there;
-              ends = tt;
-              written = (others ++ refusal false (error Busy), ap (λ l. l ++ refusal false (error Busy)) f ∙ append_assoc front others (refusal false (error Busy)));
-              leaves = refl;
-            }, λ never. absurd never),
+            subst (λ r. Turn (is_open office) (is_open office) number x (items ++ []) r front x items) (sym e) (
+              record {
+                last = Fails request.waits false;
+                stands = may_fail_after (items ++ []) block (more ++ []) request there;
+                ends = tt;
+                written = (others ++ refusal false (error Busy), ap (λ l. l ++ refusal false (error Busy)) f ∙ append_assoc front others (refusal false (error Busy)));
+                leaves = refl;
+              },
+              λ never. absurd never,
+            ),
           ),
         ),
         subst (AtEndIf a) (sym e) tt,

@@ -35,22 +35,25 @@ stands_more number input more (Fails leave bare) c x = record {
 
 -- what follows a closing answer means nothing
 pub nothing_follows : (was now : Type 0) (s : State) (input out more : Bytes) (new : State) → Keeps was now s input out Closed new → Keeps was now s (input ++ more) out Closed new
-nothing_follows was now s input out more new (a, kept) = (record {
-  messages = a.messages;
-  rest = a.rest ++ more;
-  out = a.out;
-  cut = cuts_longer input a.messages a.rest more a.cut;
-  stay = a.stay;
-  few = a.few;
-  stops = record {
-    last = a.stops.last;
-    stands = stands_more (suc (length a.messages)) a.rest more a.stops.last a.stops.ends a.stops.stands;
-    ends = a.stops.ends;
-    written = a.stops.written;
-    leaves = a.stops.leaves;
-  };
-  says = a.says;
-}, kept)
+nothing_follows was now s input out more new (a, kept) = (
+  record {
+    messages = a.messages;
+    rest = a.rest ++ more;
+    out = a.out;
+    cut = cuts_longer input a.messages a.rest more a.cut;
+    stay = a.stay;
+    few = a.few;
+    stops = record {
+      last = a.stops.last;
+      stands = stands_more (suc (length a.messages)) a.rest more a.stops.last a.stops.ends a.stops.stands;
+      ends = a.stops.ends;
+      written = a.stops.written;
+      leaves = a.stops.leaves;
+    };
+    says = a.says;
+  },
+  kept,
+)
 
 all_read : (xs ys read : Bytes) → xs ≡ read ++ ys → ys ≡ [] → read ≡ xs
 all_read xs ys read e f = sym (e ∙ ap (λ l. read ++ l) f ∙ append-nil read)

@@ -148,7 +148,7 @@ fn act<W: Write, M: Machine>(
     ensures turn { (written : Bytes) × Appends writer.old.bytes writer.new.bytes written
         × Through M.represents M.is_intact office.old office.new (λ s t.
         Turn (M.is_open office.old) (M.is_open office.new) number s buffer.old.items result
-            (leave_if head.waits ++ written) t buffer.new.items) }
+        (leave_if head.waits ++ written) t buffer.new.items) }
     ensures intact { M.is_intact office.new → M.is_intact office.old }
     ensures was_open { M.is_intact office.new → M.is_open office.new → M.is_open office.old }
     ensures no_end { IsNoEnd result }

@@ -28,7 +28,7 @@ TheHeadlineInMemory =
     (founding : Founding) (visits : List Visit) (old new : Held MemStore)
     → is_shown over_memory RepresentsSpanRows Spans old (founded founding)
     → AreVisits (is_shown over_memory RepresentsSpanRows Spans) (is_clean over_memory) (is_still_open over_memory)
-        old new visits
+    old new visits
     → AllByRecursion CallsNameDays visits
     → (t : State) × is_shown over_memory RepresentsSpanRows Spans new t × IsOneRun (founded founding) visits t
 
@@ -41,7 +41,7 @@ module _ {D : Type 0} (g : Ghosts D) (image : Image) where
       (s : State) (visits : List Visit) (old new : Held (FileStore D g)) (files : Files D)
       → (HasCleanDisk (file_state old) → IsFound image (file_state old)) → HoldsOffice image s → IsSoundOffice s
       → AreVisits (is_shown over_files RepresentsSpanRows Spans) (is_clean over_files) (is_still_open over_files)
-        old new visits
+      old new visits
       → AllByRecursion CallsNameDays visits
       → HasLeft new files → HaveCleanDisk g files
       → (t : State) × IsOneRun s visits t × ((all : AllHappen s visits t)
