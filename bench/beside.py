@@ -7,8 +7,9 @@ own, and prints tables of markdown with the ratio of what they took:
 UNITS is 2000, 20000, 60000 or 200000; without words the last three. Offices are made as real ones are: files of 20,000
 rows that come by POST, parents first, so that numbers do not rise along the walk, and then some branches are moved.
 Requests go to one program, then the same to the other, one after another: each waits for the answer before. Times are
-the mean of an answer by the clock. --cpu binds both programs to one processor. With several sizes a last table tells how
-many times as long an answer takes in the largest office as in the smallest.
+the mean of an answer, of the processor and by the clock. The ratios and the growth are of processor time, which tells most on
+a busy machine; the last column has the ratio by the clock. --cpu binds both programs to one processor. With several sizes
+a last table tells how many times as long an answer takes in the largest office as in the smallest.
 """
 import argparse
 import datetime
@@ -25,6 +26,13 @@ PAST = 1000
 FIRST_DAY = datetime.date(2024, 3, 1)
 
 
+class Took:
+    """What something took in the mean: seconds of the processor and by the clock."""
+
+    def __init__(self, processor, wall):
+        self.processor, self.wall = processor, wall
+
+
 class Side:
     """One of the two programs, with its office and its session."""
 
@@ -34,20 +42,25 @@ class Side:
         self.office.begin()
         self.session = Session(self.office.program, self.office.store, words[:-1])
 
+    def processor(self):
+        """Seconds of the processor that the session has taken."""
+        return int(self.session.told("schedstat").split()[0]) / 1e9
+
     def ask(self, requests):
-        """The mean seconds of an answer."""
-        start = time.perf_counter()
+        """The mean of an answer."""
+        before, start = self.processor(), time.perf_counter()
         for request in requests:
             self.session.send(request)
             self.session.take_answer()
-        return (time.perf_counter() - start) / len(requests)
+        wall = time.perf_counter() - start
+        return Took((self.processor() - before) / len(requests), wall / len(requests))
 
     def reopen(self):
-        """The seconds from the start to the first answer."""
+        """From the start to the first answer."""
         self.session.__exit__(None)
         start = time.perf_counter()
         self.session = Session(self.office.program, self.office.store, self.words[:-1])
-        return time.perf_counter() - start
+        return Took(self.processor(), time.perf_counter() - start)
 
 
 class Bench:
@@ -58,8 +71,9 @@ class Bench:
 
     def say(self, stage, wanted, ours, other):
         self.took[stage] = ours
-        said = f"{1000 * ours:.2f} ms", f"{1000 * other:.2f} ms", f"{ours / other:.1f}"
-        measure.say(stage, *said, "" if wanted is None else f"{wanted}")
+        said = milliseconds(ours.processor), milliseconds(other.processor), f"{ours.processor / other.processor:.1f}"
+        by_clock = milliseconds(ours.wall), milliseconds(other.wall), f"{ours.wall / other.wall:.1f}"
+        measure.say(stage, *said, "" if wanted is None else f"{wanted}", *by_clock)
 
     def quietly(self, requests):
         for side in (self.ours, self.other):
@@ -70,6 +84,10 @@ class Bench:
 
     def opening(self, wanted):
         self.say("opening", wanted, self.ours.reopen(), self.other.reopen())
+
+
+def milliseconds(seconds):
+    return f"{1000 * seconds:.2f} ms"
 
 
 def file_of(archive, file, room):
@@ -156,8 +174,9 @@ def beside(ours, other, room, units):
         for it in rooms:
             os.mkdir(it)
         bench = Bench(Side(ours, rooms[0]), Side(other, rooms[1]))
-        measure.say("What", "Ours", "Other", "Ratio", "Wanted")
-        measure.say(*["---"] * 5)
+        by_clock = "Ours by the clock", "Other by the clock", "Ratio by the clock"
+        measure.say("What", "Ours", "Other", "Ratio", "Wanted", *by_clock)
+        measure.say(*["---"] * 8)
         take_in(bench, archive, folder)
         bench.opening(None)
         questions(bench, archive)
@@ -166,6 +185,7 @@ def beside(ours, other, room, units):
         for side in (bench.ours, bench.other):
             side.session.__exit__(None)
         bench.ours.office.check()
+        print(f"\n{time.strftime('%H:%M')}, load {os.getloadavg()[0]:.1f}")
     return bench.took
 
 
@@ -174,8 +194,8 @@ def tell_growth(first, last, few, many):
     measure.say("What", f"{few:,}", f"{many:,}", "Times")
     measure.say(*["---"] * 4)
     for stage in [it for it in first if it in last]:
-        ours = f"{1000 * first[stage]:.2f} ms", f"{1000 * last[stage]:.2f} ms"
-        measure.say(stage, *ours, f"{last[stage] / first[stage]:.1f}")
+        ours = [it[stage].processor for it in (first, last)]
+        measure.say(stage, *map(milliseconds, ours), f"{ours[1] / ours[0]:.1f}")
 
 
 def main():
