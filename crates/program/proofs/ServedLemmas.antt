@@ -1,9 +1,9 @@
 -- Connections that were served, one after the other.
-use Rattle.std.proofs.Common.{◌≡◌, ◌∙◌, ◌||◌, ◌+◌, ℕ, Bool, true, false, [], ◌∷◌, Option, ap, refl, arith}
+use Rattle.std.proofs.Common.{◌≡◌, ◌∙◌, ◌||◌, ◌+◌, ◌≤◌, ℕ, Bool, true, false, [], ◌∷◌, Option, ap, refl, sym, subst, arith}
 use Rattle.office_core.specs.State.{State}
 use Rattle.http_desk.specs.Talking.{Keeps, Through}
 use Rattle.http_desk.proofs.Openings.{session_open}
-use Rattle.program.specs.Served.{Connection, History, IsHeard, Serves, after_one}
+use Rattle.program.specs.Served.{AreSessions, Connection, History, IsHeard, Serves, SessionsLeaveOpen, after_one}
 
 -- what has not failed before has failed where this call did
 pub failed_so : (new fault old : Bool) → new ≡ (fault || old) → old ≡ false → new ≡ fault
@@ -26,6 +26,21 @@ and_one represents is_intact is_open n told told_mid told_after first mid last s
       let (t, then, talked) = through intact between there in
       (t, then, ((between, before.0, talked.0), λ h. talked.1 (session_open _ (is_open mid) before.1 between t it.input it.output it.end talked.0 h)));
 }
+
+-- after so many connections, none could be taken
+pub and_none : {M : Type 0} (represents : M → State → Type 0) (is_intact is_open : M → Type 0) (n most : ℕ) (told told_mid told_after : Option History) (first mid last : M)
+    → Serves represents is_intact is_open n told told_mid first mid true → n ≤ most → told_after ≡ told_mid → last ≡ mid
+    → Serves represents is_intact is_open most told told_after first last false
+and_none {M} represents is_intact is_open n most told told_mid told_after first mid last so_far within tells same =
+    let few = so_far.few in
+    record {
+      connections = so_far.connections;
+      heard = so_far.heard;
+      tells = tells ∙ so_far.tells;
+      few = omega (arith, few, within);
+      whole = λ all. absurd cc;
+      sessions = subst (λ (m : M). Through represents is_intact first m (λ s t. (are : AreSessions so_far.connections s t) × (SessionsLeaveOpen (is_open first) so_far.connections s t are → is_open m))) (sym same) so_far.sessions;
+    }
 
 -- nobody was served
 pub unserved : {M : Type 0} (represents : M → State → Type 0) (is_intact is_open : M → Type 0) (most : ℕ) (told : Option History) (office : M)

@@ -85,14 +85,13 @@ Answers represents is_intact is_open left held told told_after old new =
     × (told_after ≡ after_leaving told it.reader it.writer it.end)
     × Through represents is_intact old new (λ s t. Keeps (is_open old) (is_open new) s it.input it.output it.end t)
 
--- One connection was taken, heard and left; or none could be taken.
+-- One connection was taken, heard and left; or none could be taken, and the office is as it was.
 abbrev pub ServesOne : {M : Type 0} → (M → State → Type 0) → (M → Type 0) → (M → Type 0) → Option History
     → Option History → M → M → Bool → Type 0
 ServesOne represents is_intact is_open told told_after old new true =
     (it : Connection) × IsHeard it × (told_after ≡ after_one told it)
     × Through represents is_intact old new (λ s t. Keeps (is_open old) (is_open new) s it.input it.output it.end t)
-ServesOne represents is_intact is_open told told_after old new false =
-    (told_after ≡ told) × Through represents is_intact old new (λ s t. s ≡ t)
+ServesOne represents is_intact is_open told told_after old new false = (told_after ≡ told) × (new ≡ old)
 
 -- Connections were taken, heard and left: at most so many, and all of them where that is said. Their sessions lead the
 -- office from one state to another, while its store has returned what was written. An office that they leave open is

@@ -1,4 +1,5 @@
-use Rattle.program.proofs.ServedLemmas.{and_one}
+use Rattle.std.proofs.Common.{arith}
+use Rattle.program.proofs.ServedLemmas.{and_none, and_one}
 use Rattle.program.proofs.server.serve.Goals as goal
 
 pub loop-connection-preserved : goal.loop-connection-preserved
@@ -7,3 +8,8 @@ loop-connection-preserved g c =
       λ intact. c.loop-connection.invariant.0 (c.if-not-serve_one.ensures.intact intact),
       and_one _ _ _ c.loop-connection.connection _ _ _ _ _ _ c.loop-connection.invariant.1 c.if-not-serve_one.ensures.intact it heard tells through,
     )
+
+pub returns-then-not-serve_one-clause-served : goal.returns-then-not-serve_one-clause-served
+returns-then-not-serve_one-clause-served g c =
+    let (tells, same) = c.if-not-serve_one.ensures.served in
+    and_none _ _ _ c.loop-connection.connection c.args.connections _ _ _ _ _ _ c.loop-connection.invariant.1 (omega (arith, c.loop-connection-test.true)) tells same
