@@ -13,6 +13,7 @@ use Rattle.std.proofs.lemmas.List.{append-nil, length-map}
 use Rattle.std.proofs.Math.ListN.{get_or-map}
 use Rattle.std.proofs.lemmas.List.FromFn.{get_or-enumerate_from, length-enumerate_from}
 use Rattle.std.proofs.Math.Seq.{take-suc}
+use Rattle.std.proofs.Math.Bool.{and_assoc}
 use Rattle.isad_core.specs.Texts.{Bytes}
 use Rattle.isad_core.proofs.BoxLemmas.{distinct_more, stood_more}
 use Rattle.atom_csv.specs.Fields.{is_empty, seen}
@@ -37,10 +38,6 @@ eq_then : (a b : Ordering) → is_eq (ordering_then a b) ≡ (is_eq a && is_eq b
 eq_then ord.Less b = refl
 eq_then ord.Equal b = refl
 eq_then ord.Greater b = refl
-
-and_assoc : (a b c : Bool) → ((a && b) && c) ≡ (a && (b && c))
-and_assoc true b c = refl
-and_assoc false b c = refl
 
 pub same_compared : (a b : Told) → is_eq (compared a b) ≡ is_same (key_of a) (key_of b)
 same_compared a b =

@@ -1,9 +1,9 @@
 -- What a loop over the records keeps.
 use Rattle.std.proofs.Common.{◌≡◌, ◌∙◌, ◌+◌, ◌++◌, ◌∷◌, [], ℕ, Bool, true, false, List, length, Option, Some, None, option_map, refl, sym, ap, ap₂, arith, cond, append_assoc, append-nil, zero-add}
-use Rattle.std.specs.Prelude.{if◌then◌else◌, filter_map, find, is_some, count_by, ◌||◌, ◌&&◌, codes, Err}
+use Rattle.std.specs.Prelude.{if◌then◌else◌, filter_map, find, is_some, count_by, ◌||◌, codes, Err}
 use Rattle.std.specs.List.{cons_option}
 use Rattle.std.specs.Str.{bytes_eq}
-use Rattle.std.proofs.lemmas.Bool.{eqb-true}
+use Rattle.std.proofs.lemmas.Bool.{and_parts, eqb-true}
 use Rattle.std.proofs.lemmas.List.Elements.{filter_map-append}
 use Rattle.std.proofs.lemmas.List.Sums.{sum_by-append}
 use Rattle.std.proofs.lemmas.Slice.Eq.{bytes_eq-Decides}
@@ -37,16 +37,11 @@ empty_nil (b ∷ text) e =
     let some : length (b ∷ text) ≡ 0 = eqb-true _ _ e in
     absurd (omega arith)
 
-both : (a b : Bool) → (a && b) ≡ true → (a ≡ true) × (b ≡ true)
-both true true e = (refl, refl)
-both true false e = cc
-both false b e = cc
-
 blank_value : (name : Bytes) (header fields : Fields) → is_blank fields ≡ true → field_under name header fields ≡ []
 blank_value name [] fields e = refl
 blank_value name (h ∷ hs) [] e = refl
 blank_value name (h ∷ hs) (f ∷ fs) e =
-    let parts = both (is_empty f) (is_blank fs) e in
+    let parts = and_parts (is_empty f) (is_blank fs) e in
     go (is_named name h) (empty_nil f parts.0) (blank_value name hs fs parts.1)
   where
     go : (b : Bool) → f ≡ [] → field_under name hs fs ≡ [] → (if b then f else field_under name hs fs) ≡ []

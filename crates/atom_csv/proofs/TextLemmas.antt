@@ -1,7 +1,7 @@
 -- The records of a text are texts.
 use Rattle.std.proofs.Common.{◌≡◌, ◌∙◌, ◌+◌, ◌≤◌, ◌<◌, ◌++◌, ℕ, zero, suc, Bool, true, false, List, [], ◌∷◌, Option, Some, None, refl, sym, ap, subst, arith, append_assoc, append-nil, cond, ◌/◌, ◌%◌, nat_lt}
 use Rattle.std.specs.List.{AllByRecursion}
-use Rattle.std.proofs.lemmas.Bool.{le-ltb, eqb-true, ne_eqb, ltb-true}
+use Rattle.std.proofs.lemmas.Bool.{and_parts, le-ltb, eqb-true, ne_eqb, ltb-true}
 use lib.Utf8.{encode, encodes, scalars}
 use Rattle.std.specs.Str.{IsUtf8}
 use Rattle.std.specs.Prelude.{slice_index, if◌then◌else◌, ◌==◌, ◌&&◌}
@@ -107,14 +107,9 @@ one_text act.EndField field c f small = IsUtf8-nil
 one_text act.Skip field c f small = f
 one_text act.EndRecord field c f small = IsUtf8-nil
 
-both : (a b : Bool) → (a && b) ≡ true → (a ≡ true) × (b ≡ true)
-both true true e = (refl, refl)
-both true false e = cc
-both false b e = cc
-
 scalar_high : (c : ℕ) (cs : List ℕ) → scalars (c ∷ cs) ≡ true → (IsUtf8 (encode c)) × (scalars cs ≡ true)
 scalar_high c cs e =
-    let parts = both _ _ e in
+    let parts = and_parts _ _ e in
     ((c ∷ [], (ap (λ b. b && true) parts.0, append-nil (encode c))), parts.1)
 
 comment_is : (s : State) → is_comment s ≡ true → s ≡ st.InComment
@@ -188,8 +183,8 @@ unmarked_text (a ∷ b ∷ c ∷ rest) text = go (is_bom a b c) refl
     go : (m : Bool) → is_bom a b c ≡ m → IsUtf8 (if m then rest else a ∷ b ∷ c ∷ rest)
     go false e = text
     go true e =
-        let parts = both (((a == 0xEF) && (b == 0xBB))) (c == 0xBF) e in
-        let first = both (a == 0xEF) (b == 0xBB) parts.0 in
+        let parts = and_parts (((a == 0xEF) && (b == 0xBB))) (c == 0xBF) e in
+        let first = and_parts (a == 0xEF) (b == 0xBB) parts.0 in
         let is : a ∷ b ∷ c ∷ rest ≡ encode 0xFEFF ++ rest =
         ap (λ (x : ℕ). x ∷ b ∷ c ∷ rest) (eqb-true a 0xEF first.0)
         ∙ (ap (λ (y : ℕ). 0xEF ∷ y ∷ c ∷ rest) (eqb-true b 0xBB first.1) ∙ ap (λ (z : ℕ). 0xEF ∷ 0xBB ∷ z ∷ rest) (eqb-true c 0xBF parts.1)) in

@@ -60,7 +60,7 @@ filter_both p q r h (x ∷ xs) = at (p x) (q x) (r x) refl (h x) (filter_both p 
     at false true c pa e ih = subst (λ d. filter p (x ∷ filter q xs) ≡ cond d (x ∷ filter r xs) (filter r xs)) e (ap (λ d. cond d (x ∷ filter p (filter q xs)) (filter p (filter q xs))) pa ∙ ih)
     at false false c pa e ih = subst (λ d. filter p (filter q xs) ≡ cond d (x ∷ filter r xs) (filter r xs)) e ih
 
-or_not : (a b : Bool) → (not a && not b) ≡ not (a || b)
+pub or_not : (a b : Bool) → (not a && not b) ≡ not (a || b)
 or_not true b = refl
 or_not false b = refl
 

@@ -3,7 +3,7 @@ use Rattle.std.proofs.Common.{◌≡◌, ◌≢◌, ℕ, ◌+◌, ◌≤◌, pos
 use Rattle.std.specs.List.{AllByRecursion, list_any, list_all}
 use Rattle.std.specs.List.Sorted.{IsPermutation}
 use Rattle.std.specs.Ordering.{int_cmp, is_eq}
-use Rattle.std.specs.Cmp.{IsTotalOrder, on_total, int_cmp_total, tied_itself}
+use Rattle.std.specs.Cmp.{int_cmp_total, tied_itself}
 use Rattle.std.proofs.lemmas.Bool.{cases_Bool, eqb-true, false≢true, or_left, or_right}
 use Rattle.std.proofs.lemmas.List.Sorted.{IsPermutation-trans, IsPermutation-sym, IsPermutation-cons, length_permutation}
 use Rattle.sqlite.specs.Edit.{is_taken}
@@ -30,13 +30,11 @@ use Rattle.catalogue_statements.proofs.HousingLemmas.{same_cells}
 use Rattle.catalogue_core.proofs.NodeLemmas.{nodes_add}
 use Rattle.office_tables.specs.Schema as tables
 use Rattle.catalogue_statements.proofs.Parts.{own_cells, others_cells, all_theirs, without_none}
+use Rattle.catalogue_statements.proofs.UnitQueries.{by_number_total}
 use Rattle.office_tables.proofs.Puts.{put_rows, put_rises, put_more, fresh_key}
 use Rattle.office_tables.proofs.Rows.{had, same_test}
 use Rattle.office_tables.proofs.Sorted.{once}
 use Rattle.office_tables.proofs.Tests.{same_nat}
-
-by_number_total : IsTotalOrder by_number
-by_number_total = on_total (λ (u : Unit). pos u.id) int_cmp_total
 
 -- what stands in one order stands in the other
 pub any_in : {X : Type 0} (p : X → Bool) (xs ys : List X) → IsPermutation xs ys → list_any p ys ≡ true → list_any p xs ≡ true

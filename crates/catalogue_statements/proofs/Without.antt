@@ -4,7 +4,8 @@ use Rattle.std.specs.List.{list_any}
 use Rattle.std.proofs.lemmas.List.Folds.{list_any-append}
 use Rattle.tree_core.proofs.Lists.{eqb_comm}
 use Rattle.catalogue_statements.specs.Removals.{without}
-use Rattle.office_tables.proofs.Rows.{same_test, filters, kept_all, neither}
+use Rattle.office_tables.proofs.Rows.{same_test, filters, kept_all}
+use Rattle.catalogue_core.proofs.Imported.{or_not}
 use Rattle.catalogue_statements.proofs.Statuses.{any_more}
 
 module _ {A : Type 0} (key : A → ℕ) where
@@ -16,11 +17,11 @@ module _ {A : Type 0} (key : A → ℕ) where
       filters (λ x. not (list_any (nat_eq (key x)) ids)) (λ x. not (nat_eq id (key x))) xs
       ∙ same_test (λ x. not (list_any (nat_eq (key x)) ids) && not (nat_eq id (key x))) (λ x. not (list_any (nat_eq (key x)) (ids ++ id ∷ []))) (λ x.
       ap (λ b. not (list_any (nat_eq (key x)) ids) && not b) (eqb_comm id (key x))
-      ∙ neither (list_any (nat_eq (key x)) ids) (nat_eq (key x) id)
+      ∙ or_not (list_any (nat_eq (key x)) ids) (nat_eq (key x) id)
       ∙ ap not (sym (any_more (nat_eq (key x)) ids id))) xs
 
   any_both : (p : ℕ → Bool) (xs ys : List ℕ) → (not (list_any p xs) && not (list_any p ys)) ≡ not (list_any p (xs ++ ys))
-  any_both p xs ys = neither (list_any p xs) (list_any p ys) ∙ ap not (sym (list_any-append p xs ys))
+  any_both p xs ys = or_not (list_any p xs) (list_any p ys) ∙ ap not (sym (list_any-append p xs ys))
 
   -- some, and then others
   pub without_then : (a b : List ℕ) (xs : List A) → without key b (without key a xs) ≡ without key (a ++ b) xs

@@ -10,6 +10,7 @@ use Rattle.std.proofs.lemmas.List.Folds.{list_any-append}
 use Rattle.std.proofs.Math.Bool.{or_assoc}
 use Rattle.std.proofs.lemmas.Bool.{lt-ltb}
 use Rattle.sqlite_rules.proofs.ListLemmas.{all_has}
+use Rattle.desk_core.proofs.Tests.{not_or}
 use Rattle.office_tables.proofs.Puts.{has_at}
 use Rattle.office_tables.proofs.numbered.Counted.{less_below}
 use Rattle.desk_store.specs.Picking.{is_earliest, is_new}
@@ -98,16 +99,12 @@ before q (x ∷ xs) (suc i) d up low =
     as_is true = refl
     as_is false = refl
 
-neither : (a b : Bool) → not (a || b) ≡ (not a && not b)
-neither true b = refl
-neither false b = refl
-
 pub is_picked : (known0 now : List ℕ) (orders : List FirstOrder) (i : ℕ) (d : FirstOrder) → AreByNumber (λ (o : FirstOrder). o.order) orders → i < length orders
     → list_any (nat_eq (get_or orders i d).container) now ≡ (list_any (λ (o : FirstOrder). nat_eq (get_or orders i d).container o.container) (take i orders) || list_any (nat_eq (get_or orders i d).container) known0)
     → not (list_any (nat_eq (get_or orders i d).container) now) ≡ (is_earliest (get_or orders i d) orders && is_new known0 (get_or orders i d))
 is_picked known0 now orders i d up low met =
     let x = get_or orders i d in
-    ap not met ∙ neither _ _ ∙ ap (λ b. not b && is_new known0 x) (sym (before (λ (o : FirstOrder). nat_eq x.container o.container) orders i d up low))
+    ap not met ∙ not_or _ _ ∙ ap (λ b. not b && is_new known0 x) (sym (before (λ (o : FirstOrder). nat_eq x.container o.container) orders i d up low))
 
 -- what is kept of one order more
 pub kept_more : (p : FirstOrder → Bool) (orders : List FirstOrder) (i : ℕ) (d : FirstOrder) (done : List FirstOrder) → i < length orders → done ≡ filter p (take i orders)

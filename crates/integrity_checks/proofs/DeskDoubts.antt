@@ -1,6 +1,7 @@
 -- The first doubt of the desk, part by part.
 use Rattle.std.proofs.Common.{◌≡◌, ℕ, List, length, Bool, true, false, cond, not, ◌&&◌, ◌||◌, nat_le, Some, None, refl, sym, ap, ◌∙◌}
 use Rattle.std.specs.List.{list_all}
+use Rattle.std.proofs.Math.Bool.{not-not}
 use Rattle.sqlite.specs.Tree.{Trees}
 use Rattle.isad_core.specs.Limits.{most_tickets}
 use Rattle.isad_core.specs.Words.{are_numbered_from}
@@ -16,15 +17,11 @@ use Rattle.integrity_checks.specs.ReaderRows.{number_registered}
 use Rattle.integrity_checks.specs.declared.desk_doubt.DeskDoubt.TheVariants.{Readers, Orders, Holdings, Runs}
 use Rattle.integrity_checks.proofs.Surroundings.{not_doubtful, all_read_well}
 
-not_not : (b : Bool) → not (not b) ≡ b
-not_not true = refl
-not_not false = refl
-
 pub was_good : (good bad : Bool) → good ≡ not bad → good ≡ true → bad ≡ false
-was_good good bad is h = sym (not_not bad) ∙ ap not (sym is ∙ h)
+was_good good bad is h = sym (not-not bad) ∙ ap not (sym is ∙ h)
 
 pub was_bad : (good bad : Bool) → good ≡ not bad → good ≡ false → bad ≡ true
-was_bad good bad is h = sym (not_not bad) ∙ ap not (sym is ∙ h)
+was_bad good bad is h = sym (not-not bad) ∙ ap not (sym is ∙ h)
 
 turned : {X : Type 0} (b : Bool) (x y : X) → cond (not b) x y ≡ cond b y x
 turned true x y = refl

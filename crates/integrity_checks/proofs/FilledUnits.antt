@@ -3,6 +3,7 @@ use Rattle.std.proofs.Common.{inl, inr, ◌≡◌, ℕ, suc, ◌+◌, ◌<◌, �
 use Rattle.std.specs.Cmp.{both_ways}
 use Rattle.std.specs.List.{list_all, AllByRecursion}
 use Rattle.std.proofs.lemmas.Bool.{and_parts, and_from, cases_lt, eq-eqb, eqb-true, eqb-false, ne_eqb, le-leb, leb-true, leb-false}
+use Rattle.std.proofs.Math.Bool.{and_assoc, and-true}
 use Rattle.sqlite_trees.proofs.ListLemmas.{all_weaker}
 use Rattle.tree_core.proofs.Lists.{eqb_comm}
 use Rattle.catalogue_core.specs.CatalogueRows.{HousingRow, housings_of}
@@ -39,14 +40,6 @@ none_of u (row ∷ rows) h =
     none_left : rows_of u rows ≡ 0 → 0 + rows_of u rows ≡ 0
     none_left h = omega (arith, h)
 
-and_true : (b : Bool) → b ≡ (b && true)
-and_true true = refl
-and_true false = refl
-
-three : (a b c : Bool) → ((a && b) && c) ≡ (a && (b && c))
-three true b c = refl
-three false b c = refl
-
 -- so many of the unit stood before these rows
 abbrev fits : ℕ → ℕ → List HousingRow → HousingRow → Bool
 fits u k rows row = nat_le row.ord (cond (nat_eq row.unit u) k 0 + rows_of row.unit rows)
@@ -73,7 +66,7 @@ next_unit u k row rows past other after =
 
 filled_from : (u k m : ℕ) (rows : List HousingRow) → AllByRecursion (λ (row : HousingRow). u ≤ row.unit) rows → Up unit_of rows
     → are_filled u k m rows ≡ (nat_le m (k + rows_of u rows) && list_all (fits u k rows) rows)
-filled_from u k m [] low up = ap (nat_le m) (let same : k ≡ k + 0 = omega arith in same) ∙ and_true (nat_le m (k + 0))
+filled_from u k m [] low up = ap (nat_le m) (let same : k ≡ k + 0 = omega arith in same) ∙ sym (and-true (nat_le m (k + 0)))
 filled_from u k m (row ∷ rows) low up = at (filled_from u (suc k) (higher m row.ord) rows low.1 up.1) (filled_from row.unit 1 row.ord rows up.0 up.1) (nat_eq row.unit u) refl
   where
     at : are_filled u (suc k) (higher m row.ord) rows ≡ (nat_le (higher m row.ord) (suc k + rows_of u rows) && list_all (fits u (suc k) rows) rows)
@@ -88,7 +81,7 @@ filled_from u k m (row ∷ rows) low up = at (filled_from u (suc k) (higher m ro
         same
         ∙ ap₂ ◌&&◌ (higher_is m row.ord (suc k + rows_of u rows) ∙ ap₂ ◌&&◌ (ap (nat_le m) all) (ap (nat_le row.ord) here))
         (all_same (fits u (suc k) rows) (fits u k (row ∷ rows)) rows (all_weaker (λ (other : HousingRow). u ≤ other.unit) (λ other. fits u (suc k) rows other ≡ fits u k (row ∷ rows) other) (λ other _. same_unit u k row rows is other) rows low.1))
-        ∙ three (nat_le m (k + rows_of u (row ∷ rows))) (fits u k (row ∷ rows) row) (list_all (fits u k (row ∷ rows)) rows)
+        ∙ and_assoc (nat_le m (k + rows_of u (row ∷ rows))) (fits u k (row ∷ rows) row) (list_all (fits u k (row ∷ rows)) rows)
     at same next false h =
         let not_it = eqb-false row.unit u h in
         let past : u < row.unit = above (low.0) not_it in

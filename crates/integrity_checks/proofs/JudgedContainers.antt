@@ -7,6 +7,7 @@ use Rattle.std.specs.List.Sorted.{IsSorted, IsPermutation}
 use Rattle.std.proofs.lemmas.List.{length-map}
 use Rattle.std.proofs.lemmas.List.Sorted.{list_any-IsPermutation, length_permutation}
 use Rattle.std.proofs.lemmas.Bool.{cases_Bool}
+use Rattle.std.proofs.Math.Bool.{and_assoc, and-true, and-false}
 use Rattle.sqlite.specs.declared.types.Value.TheVariants.{Int}
 use Rattle.sqlite.specs.Collation.TheVariants.{Binary}
 use Rattle.sqlite.specs.Command.TheVariants.{Select}
@@ -37,18 +38,10 @@ use Rattle.row_decoding.proofs.Alike.{all_alike, alike_then, ordered_alike, read
 use Rattle.integrity_checks.proofs.Scans.{show}
 use Rattle.row_decoding.proofs.ToldCells.{is_number}
 
-and_true : (b : Bool) → (b && true) ≡ b
-and_true true = refl
-and_true false = refl
-
-and_false : (b : Bool) → (b && false) ≡ false
-and_false true = refl
-and_false false = refl
-
 -- ---- one row more
 
 one_more : (n : ℕ) (rows : List Row) (row : Row) → are_container_answers n (rows ++ row ∷ []) ≡ (are_container_answers n rows && is_container_answer (n + length rows) row)
-one_more n [] row = and_true (is_container_answer n row) ∙ ap (λ k. is_container_answer k row) (let same : n ≡ n + 0 = omega arith in same)
+one_more n [] row = and-true (is_container_answer n row) ∙ ap (λ k. is_container_answer k row) (let same : n ≡ n + 0 = omega arith in same)
 one_more n (r ∷ rows) row =
     elim (is_container_answer n r) as (λ b. (b && are_container_answers (suc n) (rows ++ row ∷ [])) ≡ ((b && are_container_answers (suc n) rows) && is_container_answer (n + suc (length rows)) row)) [
       | true ↦ one_more (suc n) rows row ∙ ap (λ k. are_container_answers (suc n) rows && is_container_answer k row) (omega arith)
@@ -62,11 +55,11 @@ taken count good answer rows row counted so_far is =
 
 pub taken_bad : (count : ℕ) (good answer : Bool) (rows : List Row) (row : Row) → answer ≡ false → count ≡ length rows → good ≡ are_container_answers 1 rows → answer ≡ is_container_answer (count + 1) row
     → (count + 1 ≡ length (rows ++ row ∷ [])) × (false ≡ are_container_answers 1 (rows ++ row ∷ []))
-taken_bad count good answer rows row fails counted so_far is = let all = taken count good answer rows row counted so_far is in (all.0, sym (and_false good) ∙ ap (λ b. good && b) (sym fails) ∙ all.1)
+taken_bad count good answer rows row fails counted so_far is = let all = taken count good answer rows row counted so_far is in (all.0, sym (and-false good) ∙ ap (λ b. good && b) (sym fails) ∙ all.1)
 
 pub taken_good : (count : ℕ) (good answer : Bool) (rows : List Row) (row : Row) → answer ≡ true → count ≡ length rows → good ≡ are_container_answers 1 rows → answer ≡ is_container_answer (count + 1) row
     → (count + 1 ≡ length (rows ++ row ∷ [])) × (good ≡ are_container_answers 1 (rows ++ row ∷ []))
-taken_good count good answer rows row passes counted so_far is = let all = taken count good answer rows row counted so_far is in (all.0, sym (and_true good) ∙ ap (λ b. good && b) (sym passes) ∙ all.1)
+taken_good count good answer rows row passes counted so_far is = let all = taken count good answer rows row counted so_far is in (all.0, sym (and-true good) ∙ ap (λ b. good && b) (sym passes) ∙ all.1)
 
 -- ---- the text
 
@@ -107,7 +100,7 @@ keyed row x h =
     let made : a.0 ≡ x.id = ap (λ (o : Option ContainerRow). option_map_or id_of o 0) d.2 in
     is_number (column row 0) a.0 a.1 ∙ ap (λ n. Int (pos n)) made
 
-mixed : (a m u n l : Bool) → ((a && m) && (u && (n && l))) ≡ (u && ((a && n) && (m && l)))
+pub mixed : (a m u n l : Bool) → ((a && m) && (u && (n && l))) ≡ (u && ((a && n) && (m && l)))
 mixed true true true n l = refl
 mixed true true false n l = refl
 mixed true false true true l = refl
@@ -127,10 +120,6 @@ answers_read n (y ∷ ys) = at (answers_read (suc n) ys) (read_container y)
     at more None = refl
     at more (Some c) = ap (λ b. is_numbered n c && b) more
         ∙ mixed (nat_eq c.id n) (named c) (not (has_unread read_container ys)) (are_numbered_from id_of (suc n) (filter_map read_container ys)) (list_all named (filter_map read_container ys))
-
-three : (a b c : Bool) → ((a && b) && c) ≡ (a && (b && c))
-three true b c = refl
-three false b c = refl
 
 module _ (db : Trees) (ys rows : List Row) (count : ℕ) (good : Bool) (same : IsPermutation (db tables.container.tree) ys) (sorted : IsSorted by_rowid ys) (shown : rows ≡ map show_container ys)
     (counted : count ≡ length rows) (is : good ≡ are_container_answers 1 rows) where
@@ -161,7 +150,7 @@ module _ (db : Trees) (ys rows : List Row) (count : ℕ) (good : Bool) (same : I
     | inr none ↦
         ap (λ b. b && nat_le count 100000) (all_told ∙ ap (λ u. not u && (are_numbered_from id_of 1 (filter_map read_container ys) && list_all named (filter_map read_container ys))) none)
         ∙ ap₂ ◌&&◌ (ap₂ ◌&&◌ (read_by_number read_container id_of keyed table ys same sorted none) same_named) (ap (λ n. nat_le n 100000) (as_many none))
-        ∙ three (are_numbered_from id_of 1 (containers_in db)) (list_all named (containers_in db)) (nat_le (length (containers_in db)) 100000)
+        ∙ and_assoc (are_numbered_from id_of 1 (containers_in db)) (list_all named (containers_in db)) (nat_le (length (containers_in db)) 100000)
         ∙ sym (ap (λ u. not u && are_good_container_rows (containers_in db)) none)
   ]
 

@@ -5,6 +5,7 @@ use Rattle.std.specs.List.{list_all, AllByRecursion}
 use Rattle.std.specs.Option.{option_map_or}
 use Rattle.std.specs.List.Sorted.{IsPermutation}
 use Rattle.std.proofs.lemmas.List.Folds.{list_all-map}
+use Rattle.std.proofs.Math.Bool.{not-not}
 use Rattle.sqlite.specs.Command.TheVariants.{Select}
 use Rattle.sqlite.specs.Listing.{understood}
 use Rattle.sqlite.specs.Order.{Row}
@@ -48,10 +49,6 @@ elements_mean Spans = record { is = refl; plain = (refl, refl); whole = (le_refl
 
 -- ---- what the rows tell
 
-not_not : (b : Bool) → not (not b) ≡ b
-not_not true = refl
-not_not false = refl
-
 and_true : (a b c d : Bool) → d ≡ true → (a && (b && (c && d))) ≡ (a && (b && c))
 and_true true true true d h = h
 and_true true true false d h = refl
@@ -84,5 +81,5 @@ module _ (v : Version) (db : Trees) (units_read : has_unread read_unit (db table
       ap (list_all is_element_answer) shown
       ∙ list_all-map is_element_answer (show tables.element elements_terms [] elements_names elements_text elements_mean) ys
       ∙ sym (all_alike fits table ys (permuted table ys same)) ∙ sym (all_same (passes read_element good) fits table (same_tests table kept))
-      ∙ sym (not_not (list_all (passes read_element good) table)) ∙ ap not (sym (judged read_element good table))
+      ∙ sym (not-not (list_all (passes read_element good) table)) ∙ ap not (sym (judged read_element good table))
       ∙ ap (λ b. not (has_unread read_element table || not b)) (sym (all_alike good (in_order by_key (filter_map read_element table)) (filter_map read_element table) (ordered_alike by_key (filter_map read_element table))))

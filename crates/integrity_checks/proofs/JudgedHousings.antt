@@ -6,7 +6,7 @@ use Rattle.std.specs.Option.{option_map_or}
 use Rattle.std.specs.Ordering.{is_lt, ordering_then}
 use Rattle.std.specs.List.Sorted.{IsSorted, IsPermutation}
 use Rattle.std.proofs.lemmas.Bool.{cases_Bool, eq-eqb, ne_eqb}
-use Rattle.std.proofs.lemmas.List.{length-map, get_or-map}
+use Rattle.std.proofs.lemmas.List.{append-nil, length-map, get_or-map}
 use Rattle.std.proofs.lemmas.List.Elements.{filter_map-append}
 use Rattle.std.proofs.lemmas.List.Folds.{list_all-append, list_any-append}
 use Rattle.sqlite.specs.declared.types.Value.TheVariants.{Int, Null}
@@ -55,10 +55,6 @@ or_true : (b : Bool) → (b || (true || false)) ≡ true
 or_true true = refl
 or_true false = refl
 
-append_none : {A : Type 0} (xs : List A) → xs ++ [] ≡ xs
-append_none [] = refl
-append_none (x ∷ xs) = ap (λ l. x ∷ l) (append_none xs)
-
 put_last : {A : Type 0} (xs : List A) (x : A) (ys : List A) → (xs ++ x ∷ []) ++ ys ≡ xs ++ x ∷ ys
 put_last [] x ys = refl
 put_last (z ∷ xs) x ys = ap (λ l. z ∷ l) (put_last xs x ys)
@@ -77,7 +73,7 @@ module _ (rows : List Row) (row : Row) where
     pub one_unread : said_placed row ≡ None → AreHoused (rows ++ row ∷ []) false unit count highest last
     one_unread none = record {
       filled = λ more. ap (λ b. not b && are_filled 0 0 0 (filter_map said_placed (rows ++ row ∷ []) ++ more)) (unread_more ∙ ap (λ o. has_unread said_placed rows || (is_none o || false)) none ∙ or_true (has_unread said_placed rows));
-      contained = λ n. so_far.contained n ∙ ap (list_all (within n)) (sym (said_more ∙ ap (λ o. filter_map said_placed rows ++ cons_option o []) none ∙ append_none (filter_map said_placed rows)));
+      contained = λ n. so_far.contained n ∙ ap (list_all (within n)) (sym (said_more ∙ ap (λ o. filter_map said_placed rows ++ cons_option o []) none ∙ append-nil (filter_map said_placed rows)));
     }
 
     module _ (it : HousingRow) (is : said_placed row ≡ Some it) (last_now : ℕ) (last_is : last_now ≡ higher last it.container) where
@@ -313,7 +309,7 @@ module _ (v : Version) (db : Trees) (units_read : has_unread read_unit (db table
         let is = told none in
         ends (has_unread said_placed rows) (has_unread read_housing ys) (list_all is_placed housings) (list_all (within containers) housings) (list_all lies_low housings) good (nat_le highest count) (nat_le last containers)
         untold
-        (sym (held.filled []) ∙ ap (λ l. not (has_unread said_placed rows) && are_filled 0 0 0 l) (append_none said)
+        (sym (held.filled []) ∙ ap (λ l. not (has_unread said_placed rows) && are_filled 0 0 0 l) (append-nil said)
         ∙ ap (λ b. not (has_unread said_placed rows) && b) (filled_judged said up ∙ ap (λ l. list_all (λ (row : HousingRow). nat_le row.ord (rows_of row.unit l)) l) is))
         (held.contained containers ∙ ap (list_all (within containers)) is)
         ∙ sym judged_so

@@ -7,6 +7,7 @@ use Rattle.std.specs.List.Sorted.{IsSorted, IsPermutation}
 use Rattle.std.proofs.lemmas.List.{length-map}
 use Rattle.std.proofs.lemmas.List.Sorted.{list_any-IsPermutation, length_permutation}
 use Rattle.std.proofs.lemmas.Bool.{cases_Bool, both_ways, or_parts}
+use Rattle.std.proofs.Math.Bool.{and-true, and-false}
 use Rattle.sqlite.specs.declared.types.Value.TheVariants.{Int}
 use Rattle.sqlite.specs.declared.error.Error.{Error}
 use Rattle.sqlite.specs.Order.{Row, column}
@@ -41,20 +42,13 @@ use Rattle.row_decoding.proofs.TableReads.{same_rows}
 use Rattle.row_decoding.proofs.ToldCells.{is_number}
 use Rattle.row_decoding.specs.TableRows.{readers_in}
 use Rattle.integrity_checks.specs.ReaderRows.{is_reader_with, is_reader_answer, are_reader_answers, are_registered_well, readers_are_doubtful, number_registered}
+use Rattle.integrity_checks.proofs.JudgedContainers.{mixed}
 use Rattle.office_tables.proofs.ByNumber.{by, by_key, read_by_number, any_read, any_ordered, length_read, length_ordered}
-
-and_true : (b : Bool) → (b && true) ≡ b
-and_true true = refl
-and_true false = refl
-
-and_false : (b : Bool) → (b && false) ≡ false
-and_false true = refl
-and_false false = refl
 
 -- ---- one row more
 
 pub one_more : (n : ℕ) (rows : List Row) (row : Row) → are_reader_answers n (rows ++ row ∷ []) ≡ (are_reader_answers n rows && is_reader_answer (n + length rows) row)
-one_more n [] row = and_true (is_reader_answer n row) ∙ ap (λ k. is_reader_answer k row) (let same : n ≡ n + 0 = omega arith in same)
+one_more n [] row = and-true (is_reader_answer n row) ∙ ap (λ k. is_reader_answer k row) (let same : n ≡ n + 0 = omega arith in same)
 one_more n (r ∷ rows) row =
     elim (is_reader_answer n r) as (λ b. (b && are_reader_answers (suc n) (rows ++ row ∷ [])) ≡ ((b && are_reader_answers (suc n) rows) && is_reader_answer (n + suc (length rows)) row)) [
       | true ↦ one_more (suc n) rows row ∙ ap (λ k. are_reader_answers (suc n) rows && is_reader_answer k row) (omega arith)
@@ -68,11 +62,11 @@ taken count good answer rows row counted so_far is =
 
 pub taken_bad : (count : ℕ) (good answer : Bool) (rows : List Row) (row : Row) → answer ≡ false → count ≡ length rows → good ≡ are_reader_answers 1 rows → answer ≡ is_reader_answer (count + 1) row
     → (count + 1 ≡ length (rows ++ row ∷ [])) × (false ≡ are_reader_answers 1 (rows ++ row ∷ []))
-taken_bad count good answer rows row fails counted so_far is = let all = taken count good answer rows row counted so_far is in (all.0, sym (and_false good) ∙ ap (λ b. good && b) (sym fails) ∙ all.1)
+taken_bad count good answer rows row fails counted so_far is = let all = taken count good answer rows row counted so_far is in (all.0, sym (and-false good) ∙ ap (λ b. good && b) (sym fails) ∙ all.1)
 
 pub taken_good : (count : ℕ) (good answer : Bool) (rows : List Row) (row : Row) → answer ≡ true → count ≡ length rows → good ≡ are_reader_answers 1 rows → answer ≡ is_reader_answer (count + 1) row
     → (count + 1 ≡ length (rows ++ row ∷ [])) × (good ≡ are_reader_answers 1 (rows ++ row ∷ []))
-taken_good count good answer rows row passes counted so_far is = let all = taken count good answer rows row counted so_far is in (all.0, sym (and_true good) ∙ ap (λ b. good && b) (sym passes) ∙ all.1)
+taken_good count good answer rows row passes counted so_far is = let all = taken count good answer rows row counted so_far is in (all.0, sym (and-true good) ∙ ap (λ b. good && b) (sym passes) ∙ all.1)
 
 -- ---- the text
 
@@ -125,15 +119,6 @@ scanned_readers old new rows v has shown =
     (got.0, subst (λ l. IsPermutation l got.0) (kept_all table) got.1.0, got.1.1, got.2)
 
 -- ---- what the rows that are shown tell
-
-mixed : (a m u n l : Bool) → ((a && m) && (u && (n && l))) ≡ (u && ((a && n) && (m && l)))
-mixed true true true n l = refl
-mixed true true false n l = refl
-mixed true false true true l = refl
-mixed true false true false l = refl
-mixed true false false n l = refl
-mixed false m true n l = refl
-mixed false m false n l = refl
 
 answers_read : (n : ℕ) (ys : List Row) → are_reader_answers n (map shown_reader ys)
     ≡ (not (has_unread read_reader ys) && (are_numbered_from ticket_of n (filter_map read_reader ys) && list_all is_good_reader (filter_map read_reader ys)))

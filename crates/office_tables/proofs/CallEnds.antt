@@ -1,5 +1,5 @@
 -- How a call of one step or several ends, by how its steps ended.
-use Rattle.std.proofs.Common.{◌≡◌, ◌≢◌, inl, ℕ, List, Ok, Err, Result, sym, ap, subst, IfErr, OnErr, OnOk, refl}
+use Rattle.std.proofs.Common.{◌≡◌, inl, ℕ, List, Ok, Err, Result, sym, ap, subst, IfErr, OnErr, OnOk, refl}
 use Rattle.std.specs.Prelude.{IsErr, IsErrAnd}
 use Rattle.sqlite_trees.specs.declared.store.Store as store
 use Rattle.sqlite.specs.Effect.{Database}
@@ -13,7 +13,7 @@ use Rattle.office_tables.specs.declared.fault.StoreFault.TheVariants as fault
 use Rattle.office_tables.proofs.Causes.{still_unlimited}
 use Rattle.office_tables.proofs.LaterCauses.{last_cause, next_cause}
 use Rattle.office_tables.specs.Changing.{Leaves, LeavesOr}
-use Rattle.office_tables.proofs.Sparing.{spares_own, untouched_last, looked_spares, touched_spares}
+use Rattle.office_tables.proofs.Sparing.{untouched_last, looked_spares, touched_spares}
 use Rattle.office_tables.specs.Creation.{LeavesMaking}
 use Rattle.office_tables.proofs.Calls.{early, continues_then, cut_after, cut_then, on_err_then, on_ok_then, goes_then}
 use Rattle.office_tables.proofs.WriteCauses.{disk_then, last_disk}
@@ -103,11 +103,6 @@ making_last a b c on r goes cut blames why = record {
 -- it ends with what was read
 pub read_well : {X : Type 0} (a b : State) → LeavesUnchanged a b → {x : X} → Reads a b (Ok x)
 read_well a b looked = record { crash = looked.goes.on.crash; looks = looked; cut = tt; spares = λ clean. tt }
-
--- all its steps read, and what they told cannot be taken over for a reason that is not the disk's
-pub read_only : {X : Type 0} (a b : State) (r : Result X StoreFault) → LeavesUnchanged a b → IfErr r (λ e. e ≢ fault.Disk) → Reads a b r
-read_only a b (Ok x) looked other = read_well a b looked
-read_only a b (Err e) looked other = record { crash = looked.goes.on.crash; looks = tt; cut = cut_after a b looked.goes.on; spares = λ clean. spares_own a b looked clean e other }
 
 -- it ends with a fault
 pub read_not : {X : Type 0} (a b : State) (r : Result X StoreFault) (e : StoreFault) → r ≡ Err e → IsAborted a b → (HasCleanDisk b → Spares IsSame a b e) → Reads a b r

@@ -1,5 +1,5 @@
 -- Rows of typed records: what takes some out, and what puts them back changed.
-use Rattle.std.proofs.Common.{◌≡◌, inl, inr, ℤ, List, [], ◌∷◌, map, filter, Bool, true, false, not, ◌&&◌, ◌||◌, if◌then◌else◌, cond, Ordering, Less, Equal, Greater, refl, sym, ap, ap₂, subst, ◌∙◌}
+use Rattle.std.proofs.Common.{◌≡◌, inl, inr, ℤ, List, [], ◌∷◌, map, filter, Bool, true, false, not, ◌&&◌, if◌then◌else◌, cond, Ordering, Less, Equal, Greater, refl, sym, ap, ap₂, subst, ◌∙◌}
 use Rattle.std.specs.Cmp.{IsTotalOrder, on_total, int_cmp_total, tied_itself, tied_back, both_ways}
 use Rattle.std.specs.Ordering.{int_cmp, is_eq}
 use Rattle.std.specs.List.{list_any}
@@ -16,6 +16,7 @@ use Rattle.sqlite_rules.proofs.ListLemmas.{all_has, all_from, some_has, some_fro
 use Rattle.sqlite_rules.proofs.TableLemmas.{put_all_has, put_all_keeps, put_all_adds}
 use Rattle.sqlite_trees.proofs.ListLemmas.{filter-map, filter_same, filter_all, all_of, all-permutation, ascending-filter, ascending-map, ascending_weaker}
 use Rattle.sqlite_trees.proofs.TreeLemmas.{IsTable-put_row, not_true}
+use Rattle.catalogue_core.proofs.Imported.{or_not}
 use Rattle.office_tables.specs.Order.{Rises}
 use Rattle.office_tables.proofs.Sorted.{same_rising}
 
@@ -39,10 +40,6 @@ filters p q (x ∷ xs) = elim (p x) as (λ b. filter q (cond b (x ∷ filter p x
   | false ↦ filters p q xs
 ]
 
-pub neither : (a b : Bool) → (not a && not b) ≡ not (a || b)
-neither true b = refl
-neither false b = refl
-
 pub same_test : {A : Type 0} (p q : A → Bool) → ((x : A) → p x ≡ q x) → (xs : List A) → filter p xs ≡ filter q xs
 same_test p q e xs = filter_same p q xs (all_of (λ x. p x ≡ q x) e xs)
 
@@ -54,7 +51,7 @@ without_all_is [] rows = sym (kept_all rows)
 without_all_is (id ∷ ids) rows =
     without_all_is ids (without_rowid id rows)
     ∙ filters (λ r. not (has_rowid id r)) (λ r. not (list_any (λ id. has_rowid id r) ids)) rows
-    ∙ same_test _ _ (λ r. neither (has_rowid id r) (list_any (λ id. has_rowid id r) ids)) rows
+    ∙ same_test _ _ (λ r. or_not (has_rowid id r) (list_any (λ id. has_rowid id r) ids)) rows
 
 pub IsTable-put_all : (news rows : List Row) → IsTable rows → IsTable (put_all rows news)
 IsTable-put_all [] rows up = up

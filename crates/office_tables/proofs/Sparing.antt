@@ -1,5 +1,5 @@
 -- What a failing call spares, by how its steps ended.
-use Rattle.std.proofs.Common.{◌≡◌, ◌≢◌, ◌⊎◌, inl, inr, ℕ, List, true, nat_eq, Ok, Err, Result, Option, IfErr, OnErr, refl, ap, subst, ◌∙◌}
+use Rattle.std.proofs.Common.{◌≡◌, ◌≢◌, ◌⊎◌, inl, inr, ℕ, List, true, nat_eq, Ok, Err, Result, Option, IfErr, OnErr, refl, ap, subst}
 use Rattle.std.specs.List.{list_any, list_all}
 use Rattle.sqlite.specs.Order.{Row}
 use Rattle.sqlite.specs.Command.{Command}
@@ -105,10 +105,6 @@ spares_known a b looked clean = record { disk = tt; rows = inl (looked.same clea
 
 -- ---- the last call of a function, whose result is the function's
 
-pub if_err_from : {X : Type 0} (r : Result X StoreFault) (P : StoreFault → Type 0) → ((e : StoreFault) → r ≡ Err e → P e) → IfErr r P
-if_err_from (Ok x) P p = tt
-if_err_from (Err e) P p = p e refl
-
 pub if_err_then : {X : Type 0} (r : Result X StoreFault) (P Q : StoreFault → Type 0) → ((e : StoreFault) → P e → Q e) → IfErr r P → IfErr r Q
 if_err_then (Ok x) P Q f p = tt
 if_err_then (Err e) P Q f p = f e p
@@ -144,7 +140,3 @@ wider_spares few many a b e all = spares_as a b e (touched_wider few many a.now 
 pub wider_last : {X : Type 0} (few many : List ℕ) (a b : State) (r : Result X StoreFault) → list_all (λ t. list_any (nat_eq t) many) few ≡ true → IfErr r (Spares (OnlyTouches few) a b) → IfErr r (Spares (OnlyTouches many) a b)
 wider_last few many a b (Ok x) all h = tt
 wider_last few many a b (Err e) all h = wider_spares few many a b e all h
-
--- what the function itself found wrong after it had touched these tables
-pub touched_own : (touched : List ℕ) (a b : State) → OnlyTouches touched a.now b.now → (e : StoreFault) → e ≢ fault.Disk → Spares (OnlyTouches touched) a b e
-touched_own touched a b only e other = record { disk = own_fault a b e other; rows = inl only }

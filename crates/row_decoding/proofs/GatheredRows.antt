@@ -1,26 +1,16 @@
 -- One row more is gathered.
-use Rattle.std.proofs.Common.{◌≡◌, List, [], ◌∷◌, ◌++◌, map, Bool, true, false, not, ◌||◌, Option, Some, None, option_map, is_none, filter_map, refl, sym, ap, ap₂, ◌∙◌}
+use Rattle.std.proofs.Common.{◌≡◌, List, [], ◌∷◌, ◌++◌, map, Bool, false, not, ◌||◌, Option, Some, None, option_map, is_none, filter_map, refl, sym, ap, ap₂, ◌∙◌}
 use Rattle.std.specs.List.{cons_option}
 use Rattle.std.proofs.lemmas.List.Folds.{list_any-append}
+use Rattle.std.proofs.lemmas.List.{append-nil}
+use Rattle.std.proofs.Math.Bool.{or-true, or-false}
 use Rattle.sqlite.specs.Order.{Row}
 use Rattle.office_tables.specs.Cells.{has_unread}
 use Rattle.row_decoding.specs.Readings.{AreGathered}
 
-or_false : (b : Bool) → (b || false) ≡ b
-or_false true = refl
-or_false false = refl
-
-or_true : (b : Bool) → (b || true) ≡ true
-or_true true = refl
-or_true false = refl
-
 map_more : {A B : Type 0} (f : A → B) (xs : List A) (x : A) → map f (xs ++ x ∷ []) ≡ map f xs ++ f x ∷ []
 map_more f [] x = refl
 map_more f (y ∷ ys) x = ap (λ l. f y ∷ l) (map_more f ys x)
-
-append_none : {A : Type 0} (xs : List A) → xs ++ [] ≡ xs
-append_none [] = refl
-append_none (x ∷ xs) = ap (λ l. x ∷ l) (append_none xs)
 
 module _ {Told : Type 0} (says : Row → Option Told) (row : Row) where
   filter_more : (rows : List Row) → filter_map says (rows ++ row ∷ []) ≡ filter_map says rows ++ cons_option (says row) []
@@ -38,11 +28,11 @@ module _ {Told : Type 0} (says : Row → Option Told) (row : Row) where
     pub one_read : (x : X) (more : List X) → more ≡ kept ++ x ∷ [] → option_map told (Some x) ≡ says row → AreGathered told says (rows ++ row ∷ []) more all
     one_read x more is said = record {
       are = ap (map told) is ∙ map_more told kept x ∙ ap₂ ◌++◌ so_far.are (ap (λ o. cons_option o []) said) ∙ sym (filter_more rows);
-      all = so_far.all ∙ ap not (sym (unread_more rows ∙ ap (λ o. has_unread says rows || (is_none o || false)) (sym said) ∙ or_false (has_unread says rows)));
+      all = so_far.all ∙ ap not (sym (unread_more rows ∙ ap (λ o. has_unread says rows || (is_none o || false)) (sym said) ∙ or-false (has_unread says rows)));
     }
 
     pub one_unread : option_map told None ≡ says row → AreGathered told says (rows ++ row ∷ []) kept false
     one_unread said = record {
-      are = so_far.are ∙ sym (append_none (filter_map says rows)) ∙ ap (λ o. filter_map says rows ++ cons_option o []) said ∙ sym (filter_more rows);
-      all = ap not (sym (unread_more rows ∙ ap (λ o. has_unread says rows || (is_none o || false)) (sym said) ∙ or_true (has_unread says rows)));
+      are = so_far.are ∙ sym (append-nil (filter_map says rows)) ∙ ap (λ o. filter_map says rows ++ cons_option o []) said ∙ sym (filter_more rows);
+      all = ap not (sym (unread_more rows ∙ ap (λ o. has_unread says rows || (is_none o || false)) (sym said) ∙ or-true (has_unread says rows)));
     }
