@@ -11,7 +11,7 @@ import sys
 from measure import BELOW, Archive
 
 FEW, STRETCH, SHORTER = 4, 64, 8
-HEAD, VALUES, MARK = 3, 4, 2
+HEAD, VALUES, MARK = 2, 4, 2
 
 
 class Places:

@@ -1,5 +1,5 @@
 -- The statements on the texts of the units: what their texts mean, what they leave or tell, and why they fail.
-use Rattle.std.proofs.Common.{◌≡◌, ℕ, ℤ, pos, List, [], ◌∷◌, map, filter, codes, true, false, not, ◌&&◌, Result, OnOk, IfOk, IfErr, nat_eq, refl, sym, ap, ◌∙◌}
+use Rattle.std.proofs.Common.{◌≡◌, ℕ, ℤ, pos, List, [], ◌∷◌, map, filter, codes, true, false, not, ◌&&◌, Result, OnOk, IfOk, IfErr, nat_eq, nat_le, refl, sym, ap, ◌∙◌}
 use Rattle.std.proofs.Math.Nat.{le_refl}
 use Rattle.std.proofs.lemmas.Bool.{or_right}
 use Rattle.std.specs.List.{AllByRecursion, list_any, list_all}
@@ -22,7 +22,7 @@ use Rattle.sqlite.specs.Tree.{Trees}
 use Rattle.sqlite_schema.specs.Names.{same_name}
 use Rattle.sqlite_schema.specs.Rules.{agree, has_null, has_parent, is_key_of, references_fit}
 use Rattle.sqlite_sql.specs.declared.ops.BinaryOp.TheVariants.{Compare}
-use Rattle.sqlite_sql.specs.declared.ops.CompareOp.TheVariants.{Eq}
+use Rattle.sqlite_sql.specs.declared.ops.CompareOp.TheVariants.{Eq, Le}
 use Rattle.sqlite_tied.specs.Compute.{everything}
 use Rattle.sqlite_value.specs.declared.keys.Key.{Key}
 use Rattle.sqlite_value.specs.Keys.{ascending, joined, first_key, plain}
@@ -54,6 +54,7 @@ use Rattle.office_tables.proofs.statements.SelectOf.{select_finds, select_faults
 use Rattle.office_tables.proofs.Steps.{is_referred_to}
 use Rattle.office_tables.proofs.Tests.{only, both, same_number, by_two_ints}
 use Rattle.office_tables.proofs.statements.WelcomeOf.{next_welcome, none_agrees}
+use Rattle.catalogue_statements.proofs.NumberTests.{at_most}
 
 -- ---- rows that go with a unit
 
@@ -213,47 +214,38 @@ module _ (old new : State) (unit_id : ℕ) (v : Version) (has : old.now.schema �
       (λ x y. by_element x.1 y.1) (λ _. refl) (λ x y. by_two_ints (pos x.1.unit) (pos y.1.unit) (pos x.1.k) (pos y.1.k)) cells items told_of (λ _. refl) (λ (e : Element). IsUtf8 e.value) refl free
       (all_numbered element_row (old.now.trees element.tree) xs at (λ (e : ElementRow). IsUtf8 e.value) legible) r
 
--- ---- one text of a unit
+-- ---- the first texts of a unit
 
-abbrev pub one_text : List ℕ
-one_text = codes "SELECT value FROM element WHERE unit = ?1 AND k = ?2 ORDER BY unit, k"
+abbrev pub first_text : List ℕ
+first_text = codes "SELECT k, value FROM element WHERE unit = ?1 AND k <= ?2 ORDER BY unit, k"
 
-abbrev that_element : List Term
-that_element = op2 (Compare Eq Binary) (col 1 1) (col 0 0) ∷ op2 (Compare Eq Binary) (col 1 2) (col 0 1) ∷ []
+abbrev first_of_unit : List Term
+first_of_unit = op2 (Compare Eq Binary) (col 1 1) (col 0 0) ∷ op2 (Compare Le Binary) (col 1 2) (col 0 1) ∷ []
 
-abbrev one_names : List (List ℕ)
-one_names = codes "value" ∷ []
+abbrev pub first_command : Command
+first_command = Select (asking element first_of_unit elements_columns by_unit) elements_names
 
-abbrev pub one_command : Command
-one_command = Select (asking element that_element (col 1 3 ∷ []) by_unit) one_names
-
-pub one_means : (v : Version) → Means v one_text 2 one_command
+pub first_means : (v : Version) → Means v first_text 2 first_command
 unfolding understood everything
-one_means Links = record { is = refl; plain = (refl, refl); whole = (le_refl _, refl, refl); unlisted = refl }
-one_means Spans = record { is = refl; plain = (refl, refl); whole = (le_refl _, refl, refl); unlisted = refl }
+first_means Links = record { is = refl; plain = (refl, refl); whole = (le_refl _, refl, refl); unlisted = refl }
+first_means Spans = record { is = refl; plain = (refl, refl); whole = (le_refl _, refl, refl); unlisted = refl }
 
-abbrev text_cells : Bytes → Row
-text_cells t = Text t ∷ []
-
-abbrev value_of : ℤ × ElementRow → Bytes
-value_of x = x.1.value
-
-module _ (old new : State) (unit_id k : ℕ) (v : Version) (has : old.now.schema ≡ schema v) (xs : List ElementRow) (at : HoldsNumbered element element_row old xs) {X : Type 0} (items : X → List Bytes) (r : Result X StoreFault) where
-  pub one_found : IfOk r (λ found. Finds text_cells one_text (Int (pos unit_id) ∷ Int (pos k) ∷ []) old new (items found))
-      → IfOk r (λ found. (ys : List ElementRow) × IsOrdered by_element (filter (λ (e : ElementRow). nat_eq unit_id e.unit && nat_eq k e.k) xs) ys × (items found ≡ map (λ (e : ElementRow). e.value) ys))
-  one_found finds =
+module _ (old new : State) (unit_id most : ℕ) (v : Version) (has : old.now.schema ≡ schema v) (xs : List ElementRow) (at : HoldsNumbered element element_row old xs) {X : Type 0} (items : X → List Element) (r : Result X StoreFault) where
+  pub first_found : IfOk r (λ found. Finds cells first_text (Int (pos unit_id) ∷ Int (pos most) ∷ []) old new (items found))
+      → IfOk r (λ found. (ys : List ElementRow) × IsOrdered by_element (filter (λ (e : ElementRow). nat_eq unit_id e.unit && nat_le e.k most) xs) ys × (items found ≡ map told ys))
+  first_found finds =
       IfOk-weaker r _ _ (λ found it. (
         map (λ x. x.1) it.0,
-        kept_ordered element_row by_element (old.now.trees element.tree) xs at (λ (e : ElementRow). nat_eq unit_id e.unit && nat_eq k e.k) it.0 it.1,
-        it.2 ∙ sym (map-map (λ (e : ElementRow). e.value) (λ (x : ℤ × ElementRow). x.1) it.0),
+        kept_ordered element_row by_element (old.now.trees element.tree) xs at (λ (e : ElementRow). nat_eq unit_id e.unit && nat_le e.k most) it.0 it.1,
+        it.2 ∙ sym (map-map told (λ (x : ℤ × ElementRow). x.1) it.0),
       ))
-      (select_finds v element one_text that_element (col 1 3 ∷ []) by_unit one_names (Int (pos unit_id) ∷ Int (pos k) ∷ []) (one_means v) old new has element_row at.numbered at.are
-      (λ (x : ℤ × ElementRow). nat_eq unit_id x.1.unit && nat_eq k x.1.k) (λ x. both (same_number x.1.unit unit_id) (same_number x.1.k k)) (λ x. text_cells (value_of x)) (λ (x : ℤ × ElementRow). Int (pos x.1.unit) ∷ Int (pos x.1.k) ∷ []) (λ _. refl)
-      (λ x y. by_element x.1 y.1) (λ _. refl) (λ x y. by_two_ints (pos x.1.unit) (pos y.1.unit) (pos x.1.k) (pos y.1.k)) text_cells items value_of (λ _. refl) r finds)
+      (select_finds v element first_text first_of_unit elements_columns by_unit elements_names (Int (pos unit_id) ∷ Int (pos most) ∷ []) (first_means v) old new has element_row at.numbered at.are
+      (λ (x : ℤ × ElementRow). nat_eq unit_id x.1.unit && nat_le x.1.k most) (λ x. both (same_number x.1.unit unit_id) (at_most x.1.k most)) (λ x. cells (told_of x)) (λ (x : ℤ × ElementRow). Int (pos x.1.unit) ∷ Int (pos x.1.k) ∷ []) (λ _. refl)
+      (λ x y. by_element x.1 y.1) (λ _. refl) (λ x y. by_two_ints (pos x.1.unit) (pos y.1.unit) (pos x.1.k) (pos y.1.k)) cells items told_of (λ _. refl) r finds)
 
-  pub one_faults : AllByRecursion (λ (e : ElementRow). IsUtf8 e.value) xs → IsUnlimited old → IfErr r (Misses text_cells IsUtf8 one_text (Int (pos unit_id) ∷ Int (pos k) ∷ []) old new) → IfErr r (HasCause old new)
-  one_faults legible free =
-      select_faults v element one_text that_element (col 1 3 ∷ []) by_unit one_names (Int (pos unit_id) ∷ Int (pos k) ∷ []) (one_means v) old new has element_row at.numbered at.are
-      (λ (x : ℤ × ElementRow). nat_eq unit_id x.1.unit && nat_eq k x.1.k) (λ x. both (same_number x.1.unit unit_id) (same_number x.1.k k)) (λ x. text_cells (value_of x)) (λ (x : ℤ × ElementRow). Int (pos x.1.unit) ∷ Int (pos x.1.k) ∷ []) (λ _. refl)
-      (λ x y. by_element x.1 y.1) (λ _. refl) (λ x y. by_two_ints (pos x.1.unit) (pos y.1.unit) (pos x.1.k) (pos y.1.k)) text_cells items value_of (λ _. refl) IsUtf8 refl free
+  pub first_faults : AllByRecursion (λ (e : ElementRow). IsUtf8 e.value) xs → IsUnlimited old → IfErr r (Misses cells (λ (e : Element). IsUtf8 e.value) first_text (Int (pos unit_id) ∷ Int (pos most) ∷ []) old new) → IfErr r (HasCause old new)
+  first_faults legible free =
+      select_faults v element first_text first_of_unit elements_columns by_unit elements_names (Int (pos unit_id) ∷ Int (pos most) ∷ []) (first_means v) old new has element_row at.numbered at.are
+      (λ (x : ℤ × ElementRow). nat_eq unit_id x.1.unit && nat_le x.1.k most) (λ x. both (same_number x.1.unit unit_id) (at_most x.1.k most)) (λ x. cells (told_of x)) (λ (x : ℤ × ElementRow). Int (pos x.1.unit) ∷ Int (pos x.1.k) ∷ []) (λ _. refl)
+      (λ x y. by_element x.1 y.1) (λ _. refl) (λ x y. by_two_ints (pos x.1.unit) (pos y.1.unit) (pos x.1.k) (pos y.1.k)) cells items told_of (λ _. refl) (λ (e : Element). IsUtf8 e.value) refl free
       (all_numbered element_row (old.now.trees element.tree) xs at (λ (e : ElementRow). IsUtf8 e.value) legible) r

@@ -30,4 +30,5 @@ pub mod LinkQueries
 pub mod InsertFaults
 pub mod UnitFaults
 pub mod Untold
-pub mod OneText
+pub mod NumberTests
+pub mod FirstTexts

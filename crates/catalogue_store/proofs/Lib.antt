@@ -19,3 +19,4 @@ pub mod UnitsThere
 pub mod HeadForests
 pub mod Joiners
 pub mod Entered
+pub mod MarkPaths

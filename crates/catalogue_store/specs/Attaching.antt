@@ -1,5 +1,5 @@
 -- What a container is attached to, and the marks that are told of it.
-use Rattle.std.specs.Prelude.{ℕ, List, [], ◌∷◌, map, filter, IsPermutation, ⊤}
+use Rattle.std.specs.Prelude.{ℕ, List, [], ◌∷◌, map, filter, Option, Some, None, IsPermutation, ⊤}
 use Rattle.tree_core.specs.Forest.{Forest, nodes, path, tree}
 use Rattle.catalogue_core.specs.Merging.{Catalogue}
 use Rattle.office_tables.specs.Order.{Rises}
@@ -12,6 +12,11 @@ use Rattle.catalogue_core.specs.Marking.{AreMarks, AreWalkMarks, names}
 pub record AreAttached (c : Catalogue) (container : ℕ) (units : List Unit) : Type 0 where
   pub are : IsPermutation (filter (names c.containers container) (nodes c.forest)) units
   pub rise : Rises by_number units
+
+-- the units from a top down to this one; above a top there are none
+abbrev pub way_to : Option ℕ → Forest Unit → List Unit
+way_to None f = []
+way_to (Some id) f = path (has_id id) f
 
 -- of each of these units the marks of its path and of its branch
 abbrev pub AreMarksOfEach : Forest Unit → List ℕ → List Attached → Type 0

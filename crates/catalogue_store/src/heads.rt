@@ -1,36 +1,29 @@
 //! What a unit is shown by in a line of its own.
 
-ghost use Rattle.std.specs.Prelude.{◌≡◌, ⊤, ℕ, List, [], Some, find, map, option_map, true, unwrap_or, IfOk, IfSome};
-ghost use Rattle.std.specs.Prelude.{IsPermutation, IsUtf8};
+ghost use Rattle.std.specs.Prelude.{◌≡◌, ⊤, [], Some, find, map, nat_eq, option_map, true, unwrap_or, IfOk, IfSome};
 ghost use Rattle.std.specs.List.{AllByRecursion};
 ghost use Rattle.sqlite.specs.Held.{state};
-ghost use Rattle.sqlite.specs.State.{HasCleanDisk};
 ghost use Rattle.isad_core.specs.Limits.{IsNumber};
-ghost use Rattle.isad_core.specs.Values.{text_at};
-ghost use Rattle.isad_core.specs.declared.values.Values.{«Values» as Description};
 ghost use Rattle.tree_core.specs.Forest.{nodes, path};
 ghost use Rattle.tree_core.specs.Tops.{part_below, tops};
 ghost use Rattle.catalogue_core.specs.Bounds.{IsKept};
 ghost use Rattle.catalogue_core.specs.Finding.{has_unit};
 ghost use Rattle.catalogue_core.specs.Units.{has_id};
-ghost use Rattle.office_tables.specs.Asking.{Reads};
 ghost use Rattle.office_tables.specs.Calls.{Tells};
-ghost use Rattle.office_tables.specs.Faults.{FaultsHaveCause};
-ghost use Rattle.office_tables.specs.Numbered.{HoldsNumbered};
-ghost use Rattle.office_tables.specs.Schema as tables;
-ghost use Rattle.office_tables.specs.Step.{InOffice, InTransaction};
-ghost use Rattle.catalogue_statements.specs.Rows.{ElementRow, element_row};
-ghost use Rattle.catalogue_statements.specs.Represents.{Represents, element_cells, element_number, elements_of};
+ghost use Rattle.office_tables.specs.Step.{InTransaction};
+ghost use Rattle.catalogue_statements.specs.Represents.{Represents};
+ghost use Rattle.catalogue_statements.specs.declared.row_types.Element.{Element};
 ghost use Rattle.catalogue_store.specs.Heads.{head_at, head_of};
 
 use crate::places::Places;
-use catalogue_statements::elements::texts_at;
+use catalogue_statements::elements::first_elements;
+use catalogue_statements::row_types::Element;
 use catalogue_statements::units::standings_of;
 use isad_core::{Day, Text};
 use office_tables::StoreFault;
 use office_tables::value::NO_NUMBER;
 use sqlite::{Alter, Connection};
-use std::alloc::Global;
+use std::alloc::{AllocError, Global};
 
 /// A unit as its head line tells it. A text that it lacks is empty.
 #[derive(Debug, PartialEq, Drop)]
@@ -50,29 +43,13 @@ const REFERENCE_CODE: u64 = 1;
 /// The number of the element that tells its title.
 const TITLE: u64 = 2;
 
-/// The text of a unit's element with this number. One that it lacks is empty.
-fn text_of<S: Alter>(
-    alloc: Global,
-    conn: &mut Connection<S>,
-    unit: u64,
-    element: u64,
-) -> Result<Text, StoreFault>
-    requires inside { InOffice (state S.Store conn.old) }
-    requires small { IsNumber unit }
-    requires few { IsNumber element }
-    ensures reads { Reads (state S.Store conn.old) (state S.Store conn.new) result }
-    ensures text { HasCleanDisk (state S.Store conn.new) → (values : Description) (xs : List ElementRow)
-        → HoldsNumbered tables.element element_row (state S.Store conn.old) xs
-        → IsPermutation (element_cells values) (elements_of unit xs)
-        → (place : ℕ) → element ≡ element_number place
-        → IfOk result (λ text. text ≡ unwrap_or (text_at (Some place) values) []) }
-    ensures faults { (xs : List ElementRow) → HoldsNumbered tables.element element_row (state S.Store conn.old) xs
-        → AllByRecursion (λ e. IsUtf8 e.value) xs
-        → FaultsHaveCause (state S.Store conn.old) (state S.Store conn.new) result }
+/// The text of the element with this number among these, or an empty one.
+fn text_among(alloc: Global, elements: &[Element], element: u64) -> Result<Text, AllocError>
+    ensures { IfOk result (λ text. text ≡ unwrap_or (option_map (λ (e : Element). e.value)
+        (find (λ (e : Element). nat_eq e.k element) elements.now)) []) }
 {
-    let mut found = texts_at(alloc, conn, unit, element)?;
-    match found.pop() {
-        Some(text) => Ok(text),
+    match elements.iter().find(|found| found.k == element) {
+        Some(found) => Ok(found.value.clone()?),
         None => Ok(Text(String::new(alloc))),
     }
 }
@@ -92,8 +69,9 @@ pub fn find_head<P: Places, S: Alter>(
     let Some(standing) = found.pop() else {
         return Ok(None);
     };
-    let identifier = text_of(alloc, conn, unit, REFERENCE_CODE)?;
-    let title = text_of(alloc, conn, unit, TITLE)?;
+    let elements = first_elements(alloc, conn, unit, TITLE)?;
+    let identifier = text_among(alloc, &elements, REFERENCE_CODE)?;
+    let title = text_among(alloc, &elements, TITLE)?;
     Ok(Some(Head {
         id: unit,
         level: standing.level,

@@ -1,5 +1,5 @@
-use Rattle.std.proofs.Common.{◌≡◌, filter, length, refl, sym, ap, subst, ◌∙◌, arith}
-use Rattle.std.specs.Prelude.{⊤, find, option_map}
+use Rattle.std.proofs.Common.{◌≡◌, ℕ, List, [], filter, length, nat_eq, sym, ap, subst, ◌∙◌, arith}
+use Rattle.std.specs.Prelude.{⊤, find, option_map, unwrap_or}
 use Rattle.std.specs.List.Sorted.{IsPermutation}
 use Rattle.std.proofs.lemmas.List.{length-map}
 use Rattle.std.proofs.lemmas.List.Sorted.{IsPermutation-refl}
@@ -10,14 +10,18 @@ use Rattle.tree_core.specs.Forest.{nodes}
 use Rattle.catalogue_core.specs.Bounds.{IsKept}
 use Rattle.catalogue_core.specs.Units.{Unit, has_id}
 use Rattle.office_tables.specs.Schema as tables
+use Rattle.office_tables.specs.declared.fault.StoreFault.TheVariants as fault
 use Rattle.catalogue_statements.specs.Rows.{element_row}
 use Rattle.catalogue_statements.specs.Represents.{Represents, element_cells, elements_of}
 use Rattle.catalogue_statements.specs.Standings.{standing_of}
+use Rattle.catalogue_statements.specs.declared.row_types.Element.{Element}
 use Rattle.catalogue_store.specs.Heads.{head_of}
 use Rattle.office_tables.proofs.CallEnds.{same_fault}
 use Rattle.office_tables.proofs.StoreCalls.{tells_not, tells_cut}
-use Rattle.office_tables.proofs.Calls.{early, goes_then, looks_then, office_of, still_office}
+use Rattle.office_tables.proofs.Calls.{cut_after, early, looks_then, office_of, still_office}
 use Rattle.office_tables.proofs.numbered.OwnNumbers.{still_numbered}
+use Rattle.office_tables.proofs.Sparing.{spares_full}
+use Rattle.catalogue_statements.proofs.FirstTexts.{text_among_first}
 use Rattle.catalogue_statements.proofs.FoundUnits.{none_found, one_told}
 use Rattle.catalogue_store.proofs.HeadForests.{head_told}
 use Rattle.catalogue_store.proofs.MarkCauses.{legible_units}
@@ -56,74 +60,74 @@ returns-in_default g c =
       };
     }
 
-pub text_of-requires-clause-inside : goal.text_of-requires-clause-inside
-text_of-requires-clause-inside g c =
+pub first_elements-requires-clause-inside : goal.first_elements-requires-clause-inside
+first_elements-requires-clause-inside g c =
     let a = state g.S.Store c.args.conn.now in
     let b = state g.S.Store c.standings_of.new.conn in
     still_office a b (office_of g.P.Places.version a c.requires.inside) c.in_ok-found.ensures.reads.looks.goes
 
+pub returns-in_err-elements : goal.returns-in_err-elements
+returns-in_err-elements g c =
+    let a = state g.S.Store c.args.conn.now in
+    let handed = c.from_residual-in_err-elements.ensures in
+    let e = c.in_err-elements.field-0.0 in
+    let looked = c.in_ok-found.ensures.reads.looks in
+    record {
+      tells = tells_cut g.S.Store (Represents g.P.Places.represents g.P.Places.version) IsKept (λ _. ⊤) c.args.conn.now c.standings_of.new.conn c.first_elements.new.conn c.from_residual-in_err-elements.result (λ _ k head. head ≡ option_map head_of (find (has_id c.args.unit) (nodes k.forest))) e
+          (same_fault c.from_residual-in_err-elements.result e handed.0 handed.1) looked c.in_err-elements.ensures.reads.cut c.in_err-elements.ensures.reads.spares
+          (λ o k it may kept at_b clean free.
+          let at = it.catalogue.elements in
+          c.in_err-elements.ensures.faults at.elements (still_numbered element_row _ _ at.elements (ap (λ (db : Database). db.trees tables.element.tree) (looked.same at_b)) at.rows) (legible_elements a.now.trees k.forest at kept.units) clean free);
+    }
+
 pub returns-in_err-identifier : goal.returns-in_err-identifier
 returns-in_err-identifier g c =
     let a = state g.S.Store c.args.conn.now in
-    let handed = c.from_residual-in_err-identifier.ensures in
-    let e = c.in_err-identifier.field-0.0 in
-    let looked = c.in_ok-found.ensures.reads.looks in
-    record {
-      tells = tells_cut g.S.Store (Represents g.P.Places.represents g.P.Places.version) IsKept (λ _. ⊤) c.args.conn.now c.standings_of.new.conn c.text_of.new.conn c.from_residual-in_err-identifier.result (λ _ k head. head ≡ option_map head_of (find (has_id c.args.unit) (nodes k.forest))) e
-          (same_fault c.from_residual-in_err-identifier.result e handed.0 handed.1) looked c.in_err-identifier.ensures.reads.cut c.in_err-identifier.ensures.reads.spares
-          (λ o k it may kept at_b clean free.
-          let at = it.catalogue.elements in
-          c.in_err-identifier.ensures.faults at.elements (still_numbered element_row _ _ at.elements (ap (λ (db : Database). db.trees tables.element.tree) (looked.same at_b)) at.rows) (legible_elements a.now.trees k.forest at kept.units) clean free);
-    }
-
-pub text_of-requires-2-clause-inside : goal.text_of-requires-2-clause-inside
-text_of-requires-2-clause-inside g c =
-    let a = state g.S.Store c.args.conn.now in
     let b = state g.S.Store c.standings_of.new.conn in
-    let d = state g.S.Store c.text_of.new.conn in
-    still_office a d (office_of g.P.Places.version a c.requires.inside) (goes_then a b d c.in_ok-found.ensures.reads.looks.goes c.in_ok-identifier.ensures.reads.looks.goes)
+    let d = state g.S.Store c.first_elements.new.conn in
+    let handed = c.from_residual-in_err-identifier.ensures in
+    let looked = looks_then a b d c.in_ok-found.ensures.reads.looks c.in_ok-elements.ensures.reads.looks in
+    record {
+      tells = tells_not g.S.Store (Represents g.P.Places.represents g.P.Places.version) IsKept (λ _. ⊤) c.args.conn.now c.first_elements.new.conn c.from_residual-in_err-identifier.result (λ _ k head. head ≡ option_map head_of (find (has_id c.args.unit) (nodes k.forest))) fault.Memory
+          (same_fault c.from_residual-in_err-identifier.result fault.Memory handed.0 handed.1) (cut_after a d looked.goes.on) (spares_full a d looked) (λ o k it may kept clean free. tt);
+    }
 
 pub returns-in_err-title : goal.returns-in_err-title
 returns-in_err-title g c =
     let a = state g.S.Store c.args.conn.now in
     let b = state g.S.Store c.standings_of.new.conn in
-    let d = state g.S.Store c.text_of.new.conn in
+    let d = state g.S.Store c.first_elements.new.conn in
     let handed = c.from_residual-in_err-title.ensures in
-    let e = c.in_err-title.field-0.0 in
-    let looked = looks_then a b d c.in_ok-found.ensures.reads.looks c.in_ok-identifier.ensures.reads.looks in
+    let looked = looks_then a b d c.in_ok-found.ensures.reads.looks c.in_ok-elements.ensures.reads.looks in
     record {
-      tells = tells_cut g.S.Store (Represents g.P.Places.represents g.P.Places.version) IsKept (λ _. ⊤) c.args.conn.now c.text_of.new.conn c.text_of-2.new.conn c.from_residual-in_err-title.result (λ _ k head. head ≡ option_map head_of (find (has_id c.args.unit) (nodes k.forest))) e
-          (same_fault c.from_residual-in_err-title.result e handed.0 handed.1) looked c.in_err-title.ensures.reads.cut c.in_err-title.ensures.reads.spares
-          (λ o k it may kept at_d clean free.
-          let at = it.catalogue.elements in
-          c.in_err-title.ensures.faults at.elements (still_numbered element_row _ _ at.elements (ap (λ (db : Database). db.trees tables.element.tree) (looked.same at_d)) at.rows) (legible_elements a.now.trees k.forest at kept.units) clean free);
+      tells = tells_not g.S.Store (Represents g.P.Places.represents g.P.Places.version) IsKept (λ _. ⊤) c.args.conn.now c.first_elements.new.conn c.from_residual-in_err-title.result (λ _ k head. head ≡ option_map head_of (find (has_id c.args.unit) (nodes k.forest))) fault.Memory
+          (same_fault c.from_residual-in_err-title.result fault.Memory handed.0 handed.1) (cut_after a d looked.goes.on) (spares_full a d looked) (λ o k it may kept clean free. tt);
     }
 
 pub returns : goal.returns
 returns g c =
     let a = state g.S.Store c.args.conn.now in
     let b = state g.S.Store c.standings_of.new.conn in
-    let d = state g.S.Store c.text_of.new.conn in
-    let e = state g.S.Store c.text_of-2.new.conn in
-    let looked_b = c.in_ok-found.ensures.reads.looks in
-    let looked_d = looks_then a b d looked_b c.in_ok-identifier.ensures.reads.looks in
+    let d = state g.S.Store c.first_elements.new.conn in
+    let looked = c.in_ok-found.ensures.reads.looks in
+    let among = λ (n : ℕ) (elements : List Element). unwrap_or (option_map (λ (e : Element). e.value) (find (λ (e : Element). nat_eq e.k n) elements)) [] in
     record {
       tells = record {
         answers = λ clean o k it.
             let at = it.catalogue.units in
             let texts = it.catalogue.elements in
-            let at_d = early d e _ c.in_ok-title.ensures.reads.looks.goes.on.crash clean in
-            let at_b = early b d _ c.in_ok-identifier.ensures.reads.looks.goes.on.crash at_d in
+            let at_b = early b d _ c.in_ok-elements.ensures.reads.looks.goes.on.crash clean in
             let rows = filter (has_id c.args.unit) at.units in
             let got = c.in_ok-found.ensures.rows at_b at.units at.rows at.rise in
             let found = one_told a.now.trees k.forest at c.args.unit rows (IsPermutation-refl rows) standing_of c.pop.new.self.items c.in-Some.standing (sym got ∙ c.in-Some.ensures.items) in
             let u = found.0 in
             let told = subst (λ n. IsPermutation (element_cells u.values) (elements_of n texts.elements)) (sym found.2)
             (all_has (λ (u : Unit). IsPermutation (element_cells u.values) (elements_of u.id texts.elements)) (nodes k.forest) u texts.are found.1) in
-            let identifier = c.in_ok-identifier.ensures.text at_d u.values texts.elements (still_numbered element_row _ _ texts.elements (ap (λ (db : Database). db.trees tables.element.tree) (looked_b.same at_b)) texts.rows) told 0 refl in
-            let title = c.in_ok-title.ensures.text clean u.values texts.elements (still_numbered element_row _ _ texts.elements (ap (λ (db : Database). db.trees tables.element.tree) (looked_d.same at_d)) texts.rows) told 1 refl in
+            let read = c.in_ok-elements.ensures.rows clean texts.elements (still_numbered element_row _ _ texts.elements (ap (λ (db : Database). db.trees tables.element.tree) (looked.same at_b)) texts.rows) in
+            let identifier = c.in_ok-identifier.ensures ∙ ap (among 1) (c.deref.ensures.value ∙ read.2) ∙ ap (λ t. unwrap_or t []) (text_among_first c.args.unit 0 2 u.values texts.elements read.0 (omega arith) told read.1.0) in
+            let title = c.in_ok-title.ensures ∙ ap (among 2) (c.deref-2.ensures.value ∙ read.2) ∙ ap (λ t. unwrap_or t []) (text_among_first c.args.unit 1 2 u.values texts.elements read.0 (omega arith) told read.1.0) in
             head_told k.forest c.args.unit u c.in-Some.standing c.in_ok-identifier.identifier c.in_ok-title.title found.2 found.3 found.4 identifier title;
-        looks = looks_then a d e looked_d c.in_ok-title.ensures.reads.looks;
+        looks = looks_then a b d looked c.in_ok-elements.ensures.reads.looks;
         cut = tt;
         spares = λ clean. tt;
         faults = λ o k it may kept clean free. tt;
