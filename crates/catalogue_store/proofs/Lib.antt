@@ -20,3 +20,5 @@ pub mod HeadForests
 pub mod Joiners
 pub mod Entered
 pub mod MarkPaths
+pub mod OutsideBranch
+pub mod Accepted

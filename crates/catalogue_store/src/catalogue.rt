@@ -1,6 +1,6 @@
 //! The calls on the whole catalogue.
 
-ghost use Rattle.std.specs.Prelude.{◌≡◌, true, [], IfOk, OnOk, ⊤};
+ghost use Rattle.std.specs.Prelude.{[], OnOk, ⊤};
 ghost use Rattle.sqlite.specs.Held.{state};
 ghost use Rattle.sqlite.specs.State.{HasCleanDisk};
 ghost use Rattle.sqlite.specs.Effect.{Database};
@@ -9,21 +9,19 @@ ghost use Rattle.isad_core.specs.Limits.{IsNumber};
 ghost use Rattle.tree_core.specs.Forest.{Empty};
 ghost use Rattle.office_tables.specs.Calls.{RepresentsAlone, Tells};
 ghost use Rattle.office_tables.specs.Creation.{IsMaking, LeavesMaking};
-ghost use Rattle.catalogue_core.specs.Bounds.{IsKept};
-ghost use Rattle.catalogue_core.specs.Finding.{Finds, has_unit};
+ghost use Rattle.catalogue_core.specs.Finding.{Finds};
 ghost use Rattle.office_tables.specs.Schema.{desk_schema, desk_tables};
 ghost use Rattle.catalogue_statements.specs.Represents.{Represents, RepresentsUnits};
-ghost use Rattle.office_tables.specs.Step.{InOffice, InTransaction};
+ghost use Rattle.office_tables.specs.Step.{InOffice};
 ghost use Rattle.catalogue_core.specs.Units.{is_from};
 
 use crate::office::insert_office;
 use crate::places::Places;
 use catalogue_statements::OfficeRow;
-use catalogue_statements::units::{statuses_of, units_from};
+use catalogue_statements::units::units_from;
 use isad_core::Text;
 use office_tables::StoreFault;
 use office_tables::table_creation::{create_containers, create_units};
-use office_tables::value::NO_NUMBER;
 use sqlite::{Alter, Connection};
 use std::alloc::Global;
 
@@ -62,22 +60,4 @@ pub fn known<S: Alter>(
 {
     let found = units_from(alloc, conn, source, legacy)?;
     Ok(found.first().copied())
-}
-
-/// Whether there is a unit with this number. It is looked up by its number.
-pub fn is_unit<P: Places, S: Alter>(
-    alloc: Global,
-    conn: &mut Connection<S>,
-    unit: u64,
-) -> Result<bool, StoreFault>
-    requires inside { InTransaction P.version (state S.Store conn.old) }
-    ensures tells { Tells S.Store (Represents P.represents P.version) IsKept conn.old conn.new result (λ _. ⊤)
-        (λ _ c there. IsKept c → there ≡ has_unit c.forest unit) }
-    ensures small { IfOk result (λ there. there ≡ true → IsNumber unit) }
-{
-    if unit >= NO_NUMBER {
-        return Ok(false);
-    }
-    let found = statuses_of(alloc, conn, unit)?;
-    Ok(!found.is_empty())
 }

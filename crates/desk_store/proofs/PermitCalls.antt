@@ -30,7 +30,7 @@ use Rattle.office_tables.proofs.Causes.{still_unlimited}
 use Rattle.office_tables.proofs.LaterCauses.{last_cause}
 use Rattle.office_tables.proofs.Puts.{has_at}
 use Rattle.office_tables.proofs.Rows.{had}
-use Rattle.desk_store.specs.Permits.{by_unit, is_permit, without_permit, with_permit, permits_of, revoked, HasUnitRow, MayHave}
+use Rattle.desk_store.specs.Permits.{by_unit, is_permit, without_permit, with_permit, granted, permits_of, revoked, HasUnitRow, MayHave}
 use Rattle.office_tables.specs.Permits.{permit_cells}
 use Rattle.desk_store.specs.Represents.{RepresentsDesk, RepresentsDeskAlone, IsLegible, IsNumberOf}
 use Rattle.office_tables.specs.Numbered.{HasNumbered}
@@ -142,10 +142,18 @@ module _ {S : Type 0} (g : store.Ghosts S) (before mid after : Held S) (t u : �
     still_there : HasCleanDisk b → HasUnitRow u a.now.trees → HasUnitRow u b.now.trees
     still_there clean known = subst (λ rows. (row : Row) × Has rows row × (rowid row ≡ Int (pos u))) (sym (only clean tables.unit.tree refl refl)) known
 
+    row_put : HasCleanDisk b → PutsRow tables.permit.tree (permit_cells (next_rowid (b.now.trees tables.permit.tree), row)) b.now c.now → (ps : List PermitRow) → HasNumbered permit_cells (a.now.trees tables.permit.tree) ps → HasNumbered permit_cells (c.now.trees tables.permit.tree) (granted t u until ps)
+    row_put clean puts ps stored =
+        one_more permit_cells (λ _. refl) (b.now.trees tables.permit.tree) (c.now.trees tables.permit.tree) (without_permit t u ps) (next_rowid (b.now.trees tables.permit.tree)) row (left clean ps stored) puts.rows puts.fresh
+
+    pub rows_granted : Leaves b c r → (HasCleanDisk c → OnOk r (PutsRow tables.permit.tree (permit_cells (next_rowid (b.now.trees tables.permit.tree), row)) b.now c.now))
+        → HasCleanDisk c → (ps : List PermitRow) → HasNumbered permit_cells (a.now.trees tables.permit.tree) ps → OnOk r (HasNumbered permit_cells (c.now.trees tables.permit.tree) (granted t u until ps))
+    rows_granted leaves puts clean ps stored = on_ok_then r _ _ (λ at. row_put (early b c _ leaves.crash clean) at ps stored) (puts clean)
+
     put : HasCleanDisk b → PutsRow tables.permit.tree (permit_cells (next_rowid (b.now.trees tables.permit.tree), row)) b.now c.now → (d : Desk) → RepresentsDesk a.now.trees d → IsNumberOf d.readers t → RepresentsDesk c.now.trees (with_permit t u until d)
     put clean puts d shown given =
-        with_permits a.now c.now d shown (row ∷ without_permit t u d.permits) (λ tree known other. puts.only tree known other ∙ only clean tree known other)
-        (one_more permit_cells (λ _. refl) (b.now.trees tables.permit.tree) (c.now.trees tables.permit.tree) (without_permit t u d.permits) (next_rowid (b.now.trees tables.permit.tree)) row (left clean d.permits shown.permits) puts.rows puts.fresh) (given, tickets_left t u d a.now.trees shown)
+        with_permits a.now c.now d shown (granted t u until d.permits) (λ tree known other. puts.only tree known other ∙ only clean tree known other)
+        (row_put clean puts d.permits shown.permits) (given, tickets_left t u d a.now.trees shown)
 
     pub grants : Leaves b c r → (HasCleanDisk c → OnOk r (PutsRow tables.permit.tree (permit_cells (next_rowid (b.now.trees tables.permit.tree), row)) b.now c.now))
         → ((ps : List PermitRow) → HasNumbered permit_cells (b.now.trees tables.permit.tree) ps → list_any (is_permit t u) ps ≡ false → HasUnitRow u b.now.trees → FaultsHaveCause b c r)

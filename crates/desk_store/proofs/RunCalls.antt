@@ -1,6 +1,6 @@
 -- A run and its lines, on the whole desk: first the next number is read, then the run is put, and then a line for each container.
 use Rattle.std.proofs.Common.{◌≡◌, ℕ, zero, suc, ◌+◌, ◌<◌, ℤ, pos, Bool, false, ◌&&◌, cond, nat_eq, List, [], ◌∷◌, ◌++◌, map, filter, take, get_or, length, Option, Some, None, Result, Ok, Err, OnOk, OnErr, inl, inr, refl, sym, ap, subst, ◌∙◌, arith}
-use Rattle.std.specs.Prelude.{nat_lt}
+use Rattle.std.specs.Prelude.{nat_lt, ⊤}
 use Rattle.std.specs.List.{AllByRecursion, IsDistinct, list_any}
 use Rattle.std.proofs.lemmas.Bool.{cases_Bool, ltb-true, or_from, and_right}
 use Rattle.std.proofs.lemmas.List.{length-append, append_assoc, map_more}
@@ -141,7 +141,7 @@ module _ {S : Type 0} (g : store.Ghosts S) (before mid after : Held S) (on : ℤ
     still_shown clean d shown = subst (λ (db : Database). RepresentsDesk db.trees d) (sym (looked.same clean)) shown
 
     pub recorded : Goes b c → (HasCleanDisk c → (d : Desk) → RepresentsDesk b.now.trees d → Some run ≡ next_run d → RepresentsDesk c.now.trees (with_run (Some run) on taken d)) → (HasCleanDisk c → OnlyTouches (tables.run.tree ∷ tables.run_line.tree ∷ []) b.now c.now)
-        → Makes g RepresentsDeskAlone IsLegible before after (Ok (Some run)) (λ _. TakesEachOnce taken) (λ d. with_run (next_run d) on taken d) (tables.run.tree ∷ tables.run_line.tree ∷ [])
+        → Makes g RepresentsDeskAlone (λ d. IsLegible d × TakesEachOnce taken) before after (Ok (Some run)) (λ _. ⊤) (λ d. with_run (next_run d) on taken d) (tables.run.tree ∷ tables.run_line.tree ∷ [])
     recorded goes represents only =
         let back = early b c _ goes.on.crash in
         record {
@@ -156,12 +156,12 @@ module _ {S : Type 0} (g : store.Ghosts S) (before mid after : Held S) (on : ℤ
         }
 
     pub not_recorded : (e : StoreFault) → IsAborted b c → (HasCleanDisk c → Spares (OnlyTouches (tables.run.tree ∷ tables.run_line.tree ∷ [])) b c e) → ((d : Desk) → RepresentsDesk b.now.trees d → Some run ≡ next_run d → TakesEachOnce taken → HasCleanDisk c → IsUnlimited b → HasCause b c e)
-        → Makes {X = Option ℕ} g RepresentsDeskAlone IsLegible before after (Err e) (λ _. TakesEachOnce taken) (λ d. with_run (next_run d) on taken d) (tables.run.tree ∷ tables.run_line.tree ∷ [])
+        → Makes {X = Option ℕ} g RepresentsDeskAlone (λ d. IsLegible d × TakesEachOnce taken) before after (Err e) (λ _. ⊤) (λ d. with_run (next_run d) on taken d) (tables.run.tree ∷ tables.run_line.tree ∷ [])
     not_recorded e cut spares why = record {
       represents_updated = λ clean beside d shown may. tt;
       only = λ clean. tt;
       goes = tt;
       cut = cut_then a b c looked.goes.on cut;
       spares = λ clean. looked_spares a b c looked (early b c _ cut.crash clean) e (spares clean);
-      faults = λ beside d shown may kept clean free. next_cause a b c looked.goes.on cut clean e (λ cleaner. why d (still_shown cleaner d shown) (is cleaner d shown) may clean (still_unlimited a b looked.goes.on free));
+      faults = λ beside d shown may kept clean free. next_cause a b c looked.goes.on cut clean e (λ cleaner. why d (still_shown cleaner d shown) (is cleaner d shown) kept.1 clean (still_unlimited a b looked.goes.on free));
     }

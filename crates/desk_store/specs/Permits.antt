@@ -27,8 +27,11 @@ abbrev pub without_permit : ℕ → ℕ → List PermitRow → List PermitRow
 without_permit t u permits = filter (λ p. not (is_permit t u p)) permits
 
 -- the ticket has a permit for the unit to this day, and no other for it
+abbrev pub granted : ℕ → ℕ → ℤ → List PermitRow → List PermitRow
+granted t u until permits = record { ticket = t; unit = u; until = until } ∷ without_permit t u permits
+
 abbrev pub with_permit : ℕ → ℕ → ℤ → Desk → Desk
-with_permit t u until d = record d { permits = record { ticket = t; unit = u; until = until } ∷ without_permit t u d.permits }
+with_permit t u until d = record d { permits = granted t u until d.permits }
 
 abbrev pub revoked : ℕ → ℕ → Desk → Desk
 revoked t u d = record d { permits = without_permit t u d.permits }

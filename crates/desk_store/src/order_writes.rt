@@ -50,7 +50,7 @@ fn insert_order<S: Alter>(
     )
 }
 
-/// Places an order, under the number after the last.
+/// Places an order, under the number after the last. It adds this one row, whatever the number.
 pub fn append_order<S: Alter>(
     conn: &mut Connection<S>,
     order: u64,
@@ -64,6 +64,10 @@ pub fn append_order<S: Alter>(
     requires known { IsNumber container }
     ensures makes { Makes S.Store RepresentsDeskAlone IsLegible conn.old conn.new result (IsNextOrder order)
         (with_order ticket container on) (tables.orders.tree ∷ []) }
+    ensures puts { HasCleanDisk (state S.Store conn.new)
+        → OnOk result (PutsRow tables.orders.tree
+        (order_cells (record { id = order; ticket = ticket; container = container; day = on; state = 1 }))
+        (state S.Store conn.old).now (state S.Store conn.new).now) }
 {
     insert_order(conn, order, ticket, container, on)
 }

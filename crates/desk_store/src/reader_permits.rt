@@ -13,8 +13,8 @@ ghost use Rattle.office_tables.specs.Faults.{FaultsHaveCause};
 ghost use Rattle.office_tables.specs.Order.{IsOrdered};
 ghost use Rattle.office_tables.specs.Schema as tables;
 ghost use Rattle.office_tables.specs.Step.{InOffice, OnlyTouches, PutsRow};
-ghost use Rattle.desk_store.specs.Permits.{permits_of, by_unit, is_permit, without_permit, with_permit, revoked};
-ghost use Rattle.desk_store.specs.Permits.{HasUnitRow, MayHave};
+ghost use Rattle.desk_store.specs.Permits.{permits_of, by_unit, is_permit, without_permit, with_permit, granted};
+ghost use Rattle.desk_store.specs.Permits.{revoked, HasUnitRow, MayHave};
 ghost use Rattle.office_tables.specs.Permits.{permit_cells};
 ghost use Rattle.desk_store.specs.Represents.{RepresentsDeskAlone, IsLegible};
 ghost use Rattle.office_tables.specs.Numbered.{HasNumbered};
@@ -146,7 +146,8 @@ fn clear_permit<S: Alter>(
     )
 }
 
-/// Gives a ticket a permit for a unit to a day, in place of the one that it has.
+/// Gives a ticket a permit for a unit to a day, in place of the one that it has. No other permit is touched, whatever the
+/// ticket and the unit; the table refuses a unit that is not catalogued.
 pub fn grant<S: Alter>(
     conn: &mut Connection<S>,
     ticket: u64,
@@ -159,6 +160,10 @@ pub fn grant<S: Alter>(
     ensures makes { Makes S.Store RepresentsDeskAlone IsLegible conn.old conn.new result
         (MayHave ticket unit (state S.Store conn.old).now.trees) (with_permit ticket unit until)
         (tables.permit.tree ∷ []) }
+    ensures rows { HasCleanDisk (state S.Store conn.new) → (ps : List PermitRow)
+        → HasNumbered permit_cells ((state S.Store conn.old).now.trees tables.permit.tree) ps
+        → OnOk result (HasNumbered permit_cells ((state S.Store conn.new).now.trees tables.permit.tree)
+        (granted ticket unit until ps)) }
 {
     clear_permit(conn, ticket, unit)?;
     insert_permit(conn, ticket, unit, until)

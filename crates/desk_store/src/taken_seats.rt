@@ -127,7 +127,7 @@ fn clear_seat<S: Alter>(conn: &mut Connection<S>, seat: u64) -> Result<(), Store
     change(conn, "DELETE FROM seat WHERE seat = ?1", &[number(seat)])
 }
 
-/// Gives a seat to a ticket, or frees it.
+/// Gives a free seat to a ticket, or frees it. The table refuses a seat that is taken, and a ticket that has one.
 pub fn set_seat<S: Alter>(
     conn: &mut Connection<S>,
     seat: u32,
@@ -137,6 +137,10 @@ pub fn set_seat<S: Alter>(
     requires small { IfSome who IsNumber }
     ensures makes { Makes S.Store RepresentsDeskAlone IsLegible conn.old conn.new result (MayTake seat who)
         (with_seat seat who) (tables.seat.tree ∷ []) }
+    ensures puts { HasCleanDisk (state S.Store conn.new)
+        → IfSome who (λ ticket. OnOk result (PutsRow tables.seat.tree
+        (seat_cells (record { seat = seat; ticket = ticket })) (state S.Store conn.old).now
+        (state S.Store conn.new).now)) }
 {
     match who {
         Some(ticket) => insert_seat(conn, u64::from(seat), ticket),

@@ -42,7 +42,7 @@ use Rattle.program.specs.declared.tasks.TaskFault.TheVariants as tasks
 abbrev pub Known : Type 0
 Known = Option (List ℕ)
 
--- standard input read to its end, or the bytes of the file of that name, while standard input stays
+-- standard input read to its end; or some bytes, as of a file, while standard input stays
 abbrev pub Reads : Option Text → Known → Known → List ℕ → Type 0
 Reads None left left_after bytes = Consumes left left_after bytes × IsAtEnd left_after
 Reads (Some path) left left_after bytes = Consumes left left_after []
@@ -60,13 +60,13 @@ PrintsNothing left left_after held held_after =
 abbrev pub previewed : Text → Text → List ℕ → Result Text (ℕ × ℕ)
 previewed country repo file = preview_of (record { country = country; repo = repo }) file
 
--- a preview that is done: the finding aids of what it read were printed
+-- a preview that is done: the finding aids of these bytes were printed
 abbrev pub PreviewDone : Text → Text → Option Text → Known → Known → Known → Known → Type 0
 PreviewDone country repo path left left_after held held_after =
     (file aids : List ℕ) × Reads path left left_after file × (previewed country repo file ≡ Ok aids)
     × Appends held held_after aids
 
--- a preview that a fault ended: what it read is refused with that line, or a front of the finding aids was
+-- a preview that a fault ended: these bytes are refused with that line, or a front of the finding aids was
 -- printed, or nothing
 abbrev pub PreviewFails : Text → Text → Option Text → Known → Known → Known → Known → Fault → Type 0
 PreviewFails country repo path left left_after held held_after (Refused line) =

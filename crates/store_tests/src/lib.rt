@@ -8,4 +8,6 @@ mod desk;
 #[cfg(test)]
 mod reading_room;
 #[cfg(test)]
+mod refusals;
+#[cfg(test)]
 mod tests;

@@ -68,7 +68,7 @@ pub(crate) fn new_office<P: Places, S: Alter>(
 }
 
 /// A description by its level and title, a creator and a container.
-type Described = (
+pub(crate) type Described = (
     &'static str,
     &'static str,
     Option<&'static str>,
@@ -81,9 +81,9 @@ const MINUTES: Described = ("Series", "Minutes", None, None);
 
 const PLANS: Described = ("Series", "Plans", None, Some("Box 2"));
 
-const MAPS: Described = ("Fonds", "Maps", None, Some("Box 1"));
+pub(crate) const MAPS: Described = ("Fonds", "Maps", None, Some("Box 1"));
 
-const LATER: Described = ("Collection", "Docks", None, Some("Box 2"));
+pub(crate) const LATER: Described = ("Collection", "Docks", None, Some("Box 2"));
 
 fn optional(alloc: Global, text: Option<&str>) -> Result<Option<Text>, AllocError> {
     match text {
@@ -117,7 +117,7 @@ fn boxes(alloc: Global, container: Option<&str>) -> Result<List<BoxKey>, AllocEr
     Ok(boxes)
 }
 
-fn described(alloc: Global, unit: Described) -> Result<Values, AllocError> {
+pub(crate) fn described(alloc: Global, unit: Described) -> Result<Values, AllocError> {
     let (level, title, creator, container) = unit;
     Ok(Values {
         level: Text::new(alloc, level)?,
@@ -128,7 +128,7 @@ fn described(alloc: Global, unit: Described) -> Result<Values, AllocError> {
 
 /// Adds a published unit, which has the same number in source `a`.
 #[tactic(auto, using(crate::proofs::Going::went_on))]
-fn add<P: Places, S: Alter>(
+pub(crate) fn add<P: Places, S: Alter>(
     alloc: Global,
     conn: &mut Connection<S>,
     id: u64,
@@ -166,7 +166,7 @@ pub(crate) fn two_units<P: Places, S: Alter>(
 }
 
 /// These with unit 3, in Box 2, below unit 1 too, and unit 4, in Box 1, at the top.
-fn four_units<P: Places, S: Alter>(
+pub(crate) fn four_units<P: Places, S: Alter>(
     alloc: Global,
     conn: &mut Connection<S>,
 ) -> Result<(), StoreFault>
@@ -443,7 +443,7 @@ fn made_again<P: Places, S: Alter>(
 
 /// What is done in a new office.
 #[derive(Clone, Copy)]
-enum Act {
+pub(crate) enum Act {
     Add,
     MoveUp,
     MoveBack,
@@ -537,22 +537,22 @@ fn told_in_memory<P: Places>(
     told::<P, _>(alloc, &mut conn, done, queries, places)
 }
 
-const LINKS: Query = ("SELECT id, parent, ord FROM link ORDER BY id", 3);
+pub(crate) const LINKS: Query = ("SELECT id, parent, ord FROM link ORDER BY id", 3);
 
-const SPANS: Query = ("SELECT id, lft, rgt FROM span ORDER BY id", 3);
+pub(crate) const SPANS: Query = ("SELECT id, lft, rgt FROM span ORDER BY id", 3);
 
 /// What is wanted, in either version.
 #[derive(Clone, Copy)]
-struct Case {
-    done: Act,
+pub(crate) struct Case {
+    pub(crate) done: Act,
     /// What is asked of the tables then.
-    queries: &'static [Query],
+    pub(crate) queries: &'static [Query],
     /// What the calls and these queries tell.
-    told: &'static str,
+    pub(crate) told: &'static str,
     /// The rows of the places in version 1.
-    links: &'static str,
+    pub(crate) links: &'static str,
     /// The rows of the places in version 2.
-    spans: &'static str,
+    pub(crate) spans: &'static str,
 }
 
 /// What is told in this version is what is wanted in either, and then these rows of the places.
@@ -577,9 +577,9 @@ fn see(rt: &impl Abort, alloc: Global, cases: &[Case]) -> Result<(), Fail> {
     Ok(())
 }
 
-const ELEMENTS: Query = ("SELECT unit, k FROM element ORDER BY unit, k", 2);
+pub(crate) const ELEMENTS: Query = ("SELECT unit, k FROM element ORDER BY unit, k", 2);
 
-const HOUSING: Query = (
+pub(crate) const HOUSING: Query = (
     "SELECT unit, ord, container FROM housing ORDER BY unit, ord",
     3,
 );
@@ -594,7 +594,7 @@ const TWO: Case = Case {
 };
 
 /// Four units where they came to.
-const FOUR: Case = Case {
+pub(crate) const FOUR: Case = Case {
     done: Act::Add,
     queries: &[ELEMENTS, HOUSING],
     told: " 1 2\n 1 6\n 2 2\n 3 2\n 4 2\n\

@@ -1,203 +1,51 @@
-use Rattle.std.proofs.Common.{[], ◌∷◌, ◌+◌, refl, sym, ◌∙◌, nat_eq}
-use Rattle.std.proofs.lemmas.List.Sorted.{list_any-IsPermutation}
+use Rattle.std.proofs.Common.{◌≡◌, ◌∙◌, true, sym}
+use Rattle.std.proofs.lemmas.Bool.{false≢true}
 use Rattle.sqlite.specs.Held.{state}
-use Rattle.tree_core.specs.Forest.{add, each, nodes}
-use Rattle.tree_core.proofs.EachLemmas.{has_place-each, has-each}
+use Rattle.tree_core.specs.Forest.{has_place}
 use Rattle.catalogue_core.specs.Bounds.{IsKept}
-use Rattle.catalogue_core.specs.Describing.{with_numbered, HasPlaceFor, IsNew}
-use Rattle.catalogue_core.specs.Units.{Unit, has_id, is_from}
-use Rattle.office_tables.specs.Schema as tables
-use Rattle.office_tables.specs.Step.{Goes, HasRows, IsAborted, OnlyTouches}
+use Rattle.catalogue_core.specs.Describing.{HasPlaceFor, IsNew, with_numbered}
+use Rattle.catalogue_core.specs.Units.{has_id}
+use Rattle.office_tables.specs.Step.{Goes}
+use Rattle.office_tables.proofs.CallEnds.{same_fault}
+use Rattle.office_tables.proofs.Calls.{early, on_ok_then, still}
+use Rattle.office_tables.proofs.StoreCalls.{makes_not}
 use Rattle.catalogue_statements.specs.Added.{unit_of}
-use Rattle.catalogue_statements.specs.Rows.{ElementRow, HousingRow, office_row}
 use Rattle.catalogue_statements.specs.Represents.{RepresentsNumbered, catalogue_trees}
-use Rattle.office_tables.proofs.CallEnds.{excused_then, same_fault}
-use Rattle.office_tables.proofs.StoreCalls.{makes_not, makes_cut}
-use Rattle.office_tables.proofs.Calls.{cut_then, early, goes_then, office_of, on_err_then, on_ok_then, still_office}
-use Rattle.office_tables.proofs.Outcomes.{on_ok_by}
-use Rattle.office_tables.proofs.Touching.{touched_then, touched_wider}
-use Rattle.catalogue_statements.proofs.NewUnits.{no_unit, shows_added}
-use Rattle.catalogue_statements.proofs.Untold.{none_yet, unit_added}
-use Rattle.catalogue_store.proofs.Telling.{elements_shown, housed_shown, same_described, same_elements, same_housed}
-use Rattle.office_tables.proofs.Sparing.{last_touched, untouched_last, wider_spares}
+use Rattle.catalogue_store.proofs.Accepted.{makes_after, makes_refused}
 use Rattle.catalogue_store.proofs.descriptions.add_unit.Goals as goal
 
-pub insert_unit-requires-clause-inside : goal.insert_unit-requires-clause-inside
-insert_unit-requires-clause-inside g c = office_of g.P.Places.version (state g.S.Store c.args.conn.now) c.requires.inside
-
-pub describe-requires-clause-inside : goal.describe-requires-clause-inside
-describe-requires-clause-inside g c =
+pub add_placed-requires : goal.add_placed-requires
+add_placed-requires g c =
     let a = state g.S.Store c.args.conn.now in
-    let b = state g.S.Store c.insert_unit.new.conn in
-    let d = state g.S.Store c.add.new.conn in
-    still_office a d (office_of g.P.Places.version a c.requires.inside) (goes_then a b d c.in_ok-insert_unit.ensures.leaves.goes c.in_ok-add.ensures.makes.goes)
+    let b = state g.S.Store c.is_place.new.conn in
+    record { inside = still g.P.Places.version a b c.requires.inside c.in_ok-is_place.ensures.tells.looks.goes; small = c.requires.small; low = c.requires.low }
 
-pub set_next_unit-requires-clause-inside : goal.set_next_unit-requires-clause-inside
-set_next_unit-requires-clause-inside g c =
-    let a = state g.S.Store c.args.conn.now in
-    let b = state g.S.Store c.insert_unit.new.conn in
-    let d = state g.S.Store c.add.new.conn in
-    let e = state g.S.Store c.describe.new.conn in
-    still_office a e (office_of g.P.Places.version a c.requires.inside) (goes_then a d e (goes_then a b d c.in_ok-insert_unit.ensures.leaves.goes c.in_ok-add.ensures.makes.goes) c.in_ok-describe.ensures.goes)
-
-pub returns-in_err-insert_unit : goal.returns-in_err-insert_unit
-returns-in_err-insert_unit g c =
-    let u = unit_of c.args.unit.now in
+pub returns-in_err-is_place-clause-makes : goal.returns-in_err-is_place-clause-makes
+returns-in_err-is_place-clause-makes g c =
     let handed = c.from_residual.ensures in
-    let e = c.in_err-insert_unit.field-0.0 in
-    record {
-      makes = makes_not g.S.Store (RepresentsNumbered g.P.Places.represents g.P.Places.version) (λ k. IsKept k × IsNew (unit_of c.args.unit.now) k) (HasPlaceFor c.args.parent) c.args.conn.now c.insert_unit.new.conn c.from_residual.result (with_numbered c.args.parent (unit_of c.args.unit.now)) catalogue_trees e
-          (same_fault c.from_residual.result e handed.0 handed.1) c.in_err-insert_unit.ensures.leaves.cut c.in_err-insert_unit.ensures.leaves.spares
-          (λ o k it may kept clean free.
-          let at = it.catalogue.units in
-          c.in_err-insert_unit.ensures.faults at.units at.rows (sym (list_any-IsPermutation (has_id u.id) (nodes k.forest) at.units at.are) ∙ kept.1.number)
-          (sym (list_any-IsPermutation (is_from u.source u.legacy) (nodes k.forest) at.units at.are) ∙ kept.1.origin) clean free);
-    }
+    let e = c.in_err-is_place.field-0.0 in
+    let told = c.in_err-is_place.ensures.tells in
+    makes_not g.S.Store (RepresentsNumbered g.P.Places.represents g.P.Places.version) (λ k. IsKept k × IsNew (unit_of c.args.unit.now) k) (HasPlaceFor c.args.parent) c.args.conn.now c.is_place.new.conn c.from_residual.result (with_numbered c.args.parent (unit_of c.args.unit.now)) catalogue_trees e
+    (same_fault c.from_residual.result e handed.0 handed.1) told.cut told.spares (λ o k shown may kept clean free. told.faults (record o { next_unit = k.next }) k shown tt kept.0 clean free)
 
-pub returns-in_err-add : goal.returns-in_err-add
-returns-in_err-add g c =
-    let a = state g.S.Store c.args.conn.now in
-    let b = state g.S.Store c.insert_unit.new.conn in
-    let u = unit_of c.args.unit.now in
-    let handed = c.from_residual-in_err-add.ensures in
-    let e = c.in_err-add.field-0.0 in
+pub returns-then-not-branch : goal.returns-then-not-branch
+returns-then-not-branch g c =
+    let told = c.in_ok-is_place.ensures.tells in
     record {
-      makes = makes_cut g.S.Store (RepresentsNumbered g.P.Places.represents g.P.Places.version) (λ k. IsKept k × IsNew (unit_of c.args.unit.now) k) (HasPlaceFor c.args.parent) c.args.conn.now c.insert_unit.new.conn c.add.new.conn c.from_residual-in_err-add.result (with_numbered c.args.parent (unit_of c.args.unit.now)) catalogue_trees e
-          (same_fault c.from_residual-in_err-add.result e handed.0 handed.1) c.in_ok-insert_unit.ensures.leaves.goes.on
-          (λ at_b. touched_wider (tables.unit.tree ∷ []) catalogue_trees a.now b.now refl (c.in_ok-insert_unit.ensures.puts at_b).only) c.in_err-add.ensures.makes.cut
-          (λ clean. wider_spares (tables.link.tree ∷ []) catalogue_trees b (state g.S.Store c.add.new.conn) e refl (c.in_err-add.ensures.makes.spares clean))
-          (λ o k it may kept at_b clean free.
-          let ids = each (λ (x : Unit). x.id) k.forest in
-          let only = (c.in_ok-insert_unit.ensures.puts at_b).only in
-          let shown = g.met.P.Places.shows_same a.now.trees b.now.trees ids (only tables.link.tree refl refl) it.shown in
-          c.in_err-add.ensures.makes.faults tt ids shown
-          (has_place-each nat_eq (λ (x : Unit). x.id) c.args.parent k.forest ∙ may.place, has-each (nat_eq u.id) (λ (x : Unit). x.id) k.forest ∙ kept.1.number) kept.0.places clean free);
-    }
-
-pub returns-in_err-describe : goal.returns-in_err-describe
-returns-in_err-describe g c =
-    let a = state g.S.Store c.args.conn.now in
-    let b = state g.S.Store c.insert_unit.new.conn in
-    let d = state g.S.Store c.add.new.conn in
-    let u = unit_of c.args.unit.now in
-    let handed = c.from_residual-in_err-describe.ensures in
-    let e = c.in_err-describe.field-0.0 in
-    let went = goes_then a b d c.in_ok-insert_unit.ensures.leaves.goes c.in_ok-add.ensures.makes.goes in
-    record {
-      makes = makes_cut g.S.Store (RepresentsNumbered g.P.Places.represents g.P.Places.version) (λ k. IsKept k × IsNew (unit_of c.args.unit.now) k) (HasPlaceFor c.args.parent) c.args.conn.now c.add.new.conn c.describe.new.conn c.from_residual-in_err-describe.result (with_numbered c.args.parent (unit_of c.args.unit.now)) catalogue_trees e
-          (same_fault c.from_residual-in_err-describe.result e handed.0 handed.1) went.on
-          (λ at_d. touched_wider (tables.unit.tree ∷ tables.link.tree ∷ []) catalogue_trees a.now d.now refl
-          (touched_then (tables.unit.tree ∷ []) (tables.link.tree ∷ []) a.now b.now d.now (c.in_ok-insert_unit.ensures.puts (early b d _ c.in_ok-add.ensures.makes.goes.on.crash at_d)).only (c.in_ok-add.ensures.makes.only at_d)))
-          c.in_err-describe.ensures.cut
-          (λ clean. wider_spares (tables.element.tree ∷ tables.container.tree ∷ tables.housing.tree ∷ []) catalogue_trees d (state g.S.Store c.describe.new.conn) e refl (c.in_err-describe.ensures.spares clean))
-          (λ o k it may kept at_d clean free.
-          let v = g.P.Places.version in
-          let shown = record o { next_unit = k.next } in
-          let at = it.catalogue in
-          let xs = at.elements.elements in
-          let hs = at.housings.housings in
-          let at_b = early b d _ c.in_ok-add.ensures.makes.goes.on.crash at_d in
-          let put = c.in_ok-insert_unit.ensures.puts at_b in
-          let only = put.only in
-          let aside = c.in_ok-add.ensures.makes.only at_d in
-          let unit = unit_added a.now.trees d.now.trees u at.units.units at.units.rows (aside tables.unit.tree refl refl ∙ put.rows) in
-          let texts = same_elements a.now.trees d.now.trees xs (aside tables.element.tree refl refl ∙ only tables.element.tree refl refl) (elements_shown v a.now shown k at) in
-          let housed = same_housed a.now.trees d.now.trees k.containers hs (aside tables.container.tree refl refl ∙ only tables.container.tree refl refl) (aside tables.housing.tree refl refl ∙ only tables.housing.tree refl refl) (housed_shown v a.now shown k at may.knows) in
-          c.in_err-describe.ensures.faults unit kept.1.whole k.containers xs hs texts housed kept.0.few_boxes
-          (none_yet (λ (x : ElementRow). x.unit) u.id k.forest xs kept.1.number at.elements.others) (none_yet (λ (h : HousingRow). h.unit) u.id k.forest hs kept.1.number at.housings.others) clean free);
+      makes = makes_refused g.S.Store (RepresentsNumbered g.P.Places.represents g.P.Places.version) (λ k. IsKept k × IsNew (unit_of c.args.unit.now) k) (HasPlaceFor c.args.parent) (with_numbered c.args.parent (unit_of c.args.unit.now)) catalogue_trees c.args.conn.now c.is_place.new.conn told.looks
+          (λ clean o k shown may. false≢true (sym c.if-not-branch.true ∙ told.answers clean (record o { next_unit = k.next }) k shown ∙ may.place));
+      accepts = λ clean o k shown. tt;
     }
 
 pub returns : goal.returns
 returns g c =
-    let a = state g.S.Store c.args.conn.now in
-    let b = state g.S.Store c.insert_unit.new.conn in
-    let d = state g.S.Store c.add.new.conn in
-    let e = state g.S.Store c.describe.new.conn in
-    let h = state g.S.Store c.set_next_unit.new.conn in
-    let v = g.P.Places.version in
-    let represents = g.P.Places.represents in
-    let same = g.met.P.Places.shows_same in
-    let u = unit_of c.args.unit.now in
-    let parent = c.args.parent in
-    let r = c.set_next_unit.result in
-    let added = c.in_ok-add.ensures.makes in
-    let described = c.in_ok-describe.ensures in
-    let numbered = c.set_next_unit.ensures in
-    let went = goes_then a d e (goes_then a b d c.in_ok-insert_unit.ensures.leaves.goes added.goes) described.goes in
+    let a = state g.S.Store c.is_place.new.conn in
+    let b = state g.S.Store c.add_placed.new.conn in
+    let told = c.in_ok-is_place.ensures.tells in
+    let added = c.add_placed.ensures.makes in
     record {
-      makes = record {
-        represents_updated = λ clean o k it may.
-            let before = record o { next_unit = k.next } in
-            let at = it.catalogue in
-            let xs = at.elements.elements in
-            let hs = at.housings.housings in
-            let ids = each (λ (x : Unit). x.id) k.forest in
-            let grown = add nat_eq parent u.id ids in
-            let shown = RepresentsNumbered represents v h.now o (with_numbered parent u k) in
-            on_ok_by r (Goes e h) shown
-            (λ last.
-            let at_e = early e h _ last.on.crash clean in
-            let at_d = early d e _ described.goes.on.crash at_e in
-            let at_b = early b d _ added.goes.on.crash at_d in
-            let put = c.in_ok-insert_unit.ensures.puts at_b in
-            let kept = put.only in
-            let new_id = no_unit a.now.trees k.forest at.units u put.fresh in
-            let placed = added.represents_updated at_d tt ids (same a.now.trees b.now.trees ids (kept tables.link.tree refl refl) it.shown)
-            (has_place-each nat_eq (λ (x : Unit). x.id) parent k.forest ∙ may.place, has-each (nat_eq u.id) (λ (x : Unit). x.id) k.forest ∙ new_id) in
-            let aside = added.only at_d in
-            let texts = same_elements a.now.trees d.now.trees xs (aside tables.element.tree refl refl ∙ kept tables.element.tree refl refl) (elements_shown v a.now before k at) in
-            let housed = same_housed a.now.trees d.now.trees k.containers hs (aside tables.container.tree refl refl ∙ kept tables.container.tree refl refl) (aside tables.housing.tree refl refl ∙ kept tables.housing.tree refl refl) (housed_shown v a.now before k at may.knows) in
-            let made = described.tells at_e k.containers xs hs texts housed in
-            let told = described.only at_e in
-            let office = told tables.office.tree refl refl ∙ aside tables.office.tree refl refl ∙ kept tables.office.tree refl refl ∙ at.office in
-            on_ok_then r (HasRows tables.office.tree (office_row v (record before { next_unit = u.id + 1 }) ∷ []) e.now h.now) shown
-            (λ wrote. shows_added v represents a.now h.now before k parent u it may.place may.knows (record {
-              schema = (goes_then a e h went last).schema clean;
-              office = wrote.are;
-              units = wrote.only tables.unit.tree refl refl ∙ told tables.unit.tree refl refl ∙ aside tables.unit.tree refl refl ∙ put.rows;
-              fresh = put.fresh;
-              described = same_described e.now.trees h.now.trees u.id u.values k.containers xs hs (wrote.only tables.element.tree refl refl) (wrote.only tables.container.tree refl refl) (wrote.only tables.housing.tree refl refl) made;
-              shown = same e.now.trees h.now.trees grown (wrote.only tables.link.tree refl refl) (same d.now.trees e.now.trees grown (told tables.link.tree refl refl) placed);
-            }))
-            (numbered.rows clean v before office))
-            numbered.leaves.goes;
-        only = λ clean.
-            let unit = tables.unit.tree ∷ [] in
-            let link = tables.link.tree ∷ [] in
-            let told = tables.element.tree ∷ tables.container.tree ∷ tables.housing.tree ∷ [] in
-            let office = tables.office.tree ∷ [] in
-            let touched = OnlyTouches catalogue_trees a.now h.now in
-            on_ok_by r (Goes e h) touched
-            (λ last.
-            let at_e = early e h _ last.on.crash clean in
-            let at_d = early d e _ described.goes.on.crash at_e in
-            let at_b = early b d _ added.goes.on.crash at_d in
-            let two = touched_then unit link a.now b.now d.now (c.in_ok-insert_unit.ensures.puts at_b).only (added.only at_d) in
-            let three = touched_then (tables.unit.tree ∷ link) told a.now d.now e.now two (described.only at_e) in
-            on_ok_then r (OnlyTouches office e.now h.now) touched
-            (λ only. touched_wider (tables.unit.tree ∷ tables.link.tree ∷ tables.element.tree ∷ tables.container.tree ∷ tables.housing.tree ∷ office) catalogue_trees a.now h.now refl
-            (touched_then (tables.unit.tree ∷ tables.link.tree ∷ told) office a.now e.now h.now three only))
-            (numbered.only clean))
-            numbered.leaves.goes;
-        goes = on_ok_then r (Goes e h) (Goes a h) (goes_then a e h went) numbered.leaves.goes;
-        cut = on_err_then r (IsAborted e h) (IsAborted a h) (cut_then a e h went.on) numbered.leaves.cut;
-        spares = λ clean. last_touched catalogue_trees a e h went.on
-            (λ at_e.
-            let unit = tables.unit.tree ∷ [] in
-            let link = tables.link.tree ∷ [] in
-            let told = tables.element.tree ∷ tables.container.tree ∷ tables.housing.tree ∷ [] in
-            let at_d = early d e _ described.goes.on.crash at_e in
-            let at_b = early b d _ added.goes.on.crash at_d in
-            let two = touched_then unit link a.now b.now d.now (c.in_ok-insert_unit.ensures.puts at_b).only (added.only at_d) in
-            touched_wider (tables.unit.tree ∷ tables.link.tree ∷ told) catalogue_trees a.now e.now refl (touched_then (tables.unit.tree ∷ link) told a.now d.now e.now two (described.only at_e)))
-            r numbered.leaves.cut clean (untouched_last catalogue_trees e h r (numbered.leaves.spares clean));
-        faults = λ o k it may kept. excused_then a e h went.on r numbered.leaves.cut (λ at_e.
-            let before = record o { next_unit = k.next } in
-            let at_d = early d e _ described.goes.on.crash at_e in
-            let at_b = early b d _ added.goes.on.crash at_d in
-            let only = (c.in_ok-insert_unit.ensures.puts at_b).only in
-            let aside = added.only at_d in
-            let told = described.only at_e in
-            numbered.faults v before (told tables.office.tree refl refl ∙ aside tables.office.tree refl refl ∙ only tables.office.tree refl refl ∙ it.catalogue.office));
-      };
+      makes = makes_after g.S.Store (RepresentsNumbered g.P.Places.represents g.P.Places.version) (λ k. IsKept k × IsNew (unit_of c.args.unit.now) k) (HasPlaceFor c.args.parent) (with_numbered c.args.parent (unit_of c.args.unit.now)) catalogue_trees c.args.conn.now c.is_place.new.conn told.looks c.add_placed.new.conn c.add_placed.result added;
+      accepts = λ clean o k shown.
+          on_ok_then c.add_placed.result (Goes a b) (has_place has_id c.args.parent k.forest ≡ true)
+          (λ went. sym (told.answers (early a b _ went.on.crash clean) (record o { next_unit = k.next }) k shown) ∙ c.if-not-branch.false) added.goes;
     }

@@ -37,7 +37,7 @@ returns-in_err-run g c =
     does_not g.P.Places.represents g.P.Places.version _ command.Run a b c.from_residual.result c.in_err-run.field-0.0
     (same_fault c.from_residual.result c.in_err-run.field-0.0 e.0 e.1) made.cut
     (λ s sound so it clean free. made.faults tt (tables g.P.Places.version s).desk it.desk
-    (subst TakesEachOnce (sym so.1) (taken_once g.P.Places.version s sound)) (desk_legible g.P.Places.version s sound) clean free)
+    tt (desk_legible g.P.Places.version s sound, subst TakesEachOnce (sym so.1) (taken_once g.P.Places.version s sound)) clean free)
 
 pub returns-in_default : goal.returns-in_default
 returns-in_default g c =
@@ -67,7 +67,7 @@ returns-in_err-move_all g c =
     let at_b = early b d _ moved.cut.crash clean in
     cause_then a b d made.goes.on at_b _
     (moved.faults tt (with_run (next_run desk) c.args.today c.args.due.now desk)
-    (made.represents_updated at_b tt desk it.desk (subst TakesEachOnce (sym so.1) (taken_once v s sound)))
+    (made.represents_updated at_b tt desk it.desk tt)
     (subst (AllByRecursion IsNumber) (sym c.requires.theirs) (small_containers c.args.due.now c.requires.numbers))
     (legible_run (next_run desk) c.args.today c.args.due.now desk (today_legible v s sound c.args.today so.0) (desk_legible v s sound))
     clean (still_unlimited a b made.goes.on free)))
@@ -91,7 +91,7 @@ returns g c =
           (sym c.in-Some.is ∙ c.in_ok-run.ensures.number at_b desk it.desk) it (goes.schema clean)
           (touched_again touched a.now b.now d.now (touched_wider (schema.run.tree ∷ schema.run_line.tree ∷ []) touched a.now b.now refl (made.only at_b)) (touched_wider (schema.holding.tree ∷ []) touched b.now d.now refl (moved.only clean)))
           (subst (λ (l : List ℕ). RepresentsDesk d.now.trees (with_all_placed Desk l put)) c.requires.theirs
-          (moved.represents_updated clean tt put (made.represents_updated at_b tt desk it.desk (subst TakesEachOnce (sym so.1) (taken_once v s sound)))
+          (moved.represents_updated clean tt put (made.represents_updated at_b tt desk it.desk tt)
           (subst (AllByRecursion IsNumber) (sym c.requires.theirs) (small_containers c.args.due.now c.requires.numbers))));
       goes = goes;
       cut = tt;

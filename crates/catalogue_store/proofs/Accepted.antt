@@ -1,0 +1,109 @@
+-- A call that reads or writes once it has read that it may.
+use Rattle.std.proofs.Common.{◌≡◌, ◌&&◌, ◌∙◌, inl, refl, ℕ, Bool, true, false, List, Ok, Err, Result, sym, subst, IfOk}
+use Rattle.std.proofs.lemmas.Bool.{false≢true}
+use Rattle.std.specs.Prelude.{⊤}
+use Rattle.sqlite_trees.specs.declared.store.Store as store
+use Rattle.sqlite.specs.Effect.{Database}
+use Rattle.sqlite.specs.Held.{Held, state}
+use Rattle.sqlite.specs.State.{State, HasCleanDisk}
+use Rattle.office_tables.specs.Calls.{Makes, Tells}
+use Rattle.office_tables.specs.Step.{LeavesUnchanged, OnlyTouches}
+use Rattle.office_tables.specs.declared.fault.StoreFault.{StoreFault}
+use Rattle.office_tables.specs.declared.fault.StoreFault.TheVariants as fault
+use Rattle.office_tables.proofs.Calls.{early, cut_after, cut_then, goes_then, looks_then}
+use Rattle.office_tables.proofs.Causes.{still_unlimited}
+use Rattle.office_tables.proofs.LaterCauses.{next_cause}
+use Rattle.office_tables.proofs.Sparing.{looked_spares, same_untouched}
+
+pub if_ok_as : {X E : Type 0} (r : Result X E) (P Q : X → Type 0) → ((x : X) → P x → Q x) → IfOk r P → IfOk r Q
+if_ok_as (Ok x) P Q f p = f x p
+if_ok_as (Err e) P Q f p = tt
+
+pub if_ok_always : {X E : Type 0} (r : Result X E) (Q : X → Type 0) → ((x : X) → Q x) → IfOk r Q
+if_ok_always (Ok x) Q f = f x
+if_ok_always (Err e) Q f = tt
+
+pub both_true : (x y : Bool) → (x && y) ≡ true → (x ≡ true) × (y ≡ true)
+both_true true y h = (refl, h)
+both_true false y h = absurd (false≢true h)
+
+pub not_both : (x y : Bool) → (x && y) ≡ false → x ≡ true → y ≡ true → ⊥
+not_both x y none first then = (let all : (x && y) ≡ true = rw (first, then) refl in false≢true (sym none ∙ all))
+
+-- a call that reads, after another
+module _ {S Stays Model : Type 0} (g : store.Ghosts S) (represents : Database → Stays → Model → Type 0) (kept : Model → Type 0) (before mid : Held S) (looked : LeavesUnchanged (state g before) (state g mid)) where
+  pub tells_after : {X : Type 0} (after : Held S) (r : Result X StoreFault) (told answer : Stays → Model → X → Type 0)
+      → (HasCleanDisk (state g mid) → (s : Stays) (m : Model) → represents (state g before).now s m → (x : X) → told s m x → answer s m x)
+      → Tells g represents kept mid after r (λ _. ⊤) told → Tells g represents kept before after r (λ _. ⊤) answer
+  tells_after after (Ok x) told answer turn it =
+      let a = state g before in
+      let b = state g mid in
+      let c = state g after in
+      let back = early b c _ it.looks.goes.on.crash in
+      record {
+        answers = λ clean s m shown. turn (back clean) s m shown x (it.answers clean s m (subst (λ (db : Database). represents db s m) (sym (looked.same (back clean))) shown));
+        looks = looks_then a b c looked it.looks;
+        cut = tt;
+        spares = λ clean. tt;
+        faults = λ s m shown allowed within clean free. tt;
+      }
+  tells_after after (Err e) told answer turn it =
+      let a = state g before in
+      let b = state g mid in
+      let c = state g after in
+      record {
+        answers = λ clean s m shown. tt;
+        looks = tt;
+        cut = cut_then a b c looked.goes.on it.cut;
+        spares = λ clean. looked_spares a b c looked (early b c _ it.cut.crash clean) e (it.spares clean);
+        faults = λ s m shown allowed within clean free.
+            next_cause a b c looked.goes.on it.cut clean e (λ cleaner. it.faults s m (subst (λ (db : Database). represents db s m) (sym (looked.same cleaner)) shown) tt within clean (still_unlimited a b looked.goes.on free));
+      }
+
+-- a call that writes
+module _ {S Stays Model : Type 0} (g : store.Ghosts S) (represents : Database → Stays → Model → Type 0) (kept may : Model → Type 0) (made : Model → Model) (touched : List ℕ) (before mid : Held S) (looked : LeavesUnchanged (state g before) (state g mid)) where
+  abbrev a : State
+  a = state g before
+
+  abbrev b : State
+  b = state g mid
+
+  pub still_shown : HasCleanDisk b → (s : Stays) (m : Model) → represents a.now s m → represents b.now s m
+  still_shown clean s m shown = subst (λ (db : Database). represents db s m) (sym (looked.same clean)) shown
+
+  -- it may
+  pub makes_after : {X : Type 0} (after : Held S) (r : Result X StoreFault) → Makes g represents kept mid after r may made touched → Makes g represents kept before after r may made touched
+  makes_after after (Ok x) it =
+      let c = state g after in
+      let back = early b c _ it.goes.on.crash in
+      record {
+        represents_updated = λ clean s m shown allowed. it.represents_updated clean s m (still_shown (back clean) s m shown) allowed;
+        only = λ clean. subst (λ (db : Database). OnlyTouches touched db c.now) (looked.same (back clean)) (it.only clean);
+        goes = goes_then a b c looked.goes it.goes;
+        cut = tt;
+        spares = λ clean. tt;
+        faults = λ s m shown allowed within clean free. tt;
+      }
+  makes_after after (Err e) it =
+      let c = state g after in
+      let back = early b c _ it.cut.crash in
+      record {
+        represents_updated = λ clean s m shown allowed. tt;
+        only = λ clean. tt;
+        goes = tt;
+        cut = cut_then a b c looked.goes.on it.cut;
+        spares = λ clean. looked_spares a b c looked (back clean) e (it.spares clean);
+        faults = λ s m shown allowed within clean free.
+            next_cause a b c looked.goes.on it.cut clean e (λ cleaner. it.faults s m (still_shown cleaner s m shown) allowed within clean (still_unlimited a b looked.goes.on free));
+      }
+
+  -- it may not, and blames the schema
+  pub makes_refused : {X : Type 0} → (HasCleanDisk b → (s : Stays) (m : Model) → represents a.now s m → may m → ⊥) → Makes {X = X} g represents kept before mid (Err fault.Schema) may made touched
+  makes_refused never = record {
+    represents_updated = λ clean s m shown allowed. tt;
+    only = λ clean. tt;
+    goes = tt;
+    cut = cut_after a b looked.goes.on;
+    spares = λ clean. record { disk = tt; rows = inl (same_untouched touched a.now b.now (looked.same clean)) };
+    faults = λ s m shown allowed within clean free. absurd (never clean s m shown allowed);
+  }

@@ -1,0 +1,95 @@
+//! Calls that the catalogue's store does not accept, in either version: each blames the schema and changes no row.
+
+ghost use Rattle.sqlite.specs.Held.{state};
+ghost use Rattle.office_tables.specs.Step.{InTransaction};
+
+use crate::tests::{
+    ELEMENTS, FOUR, HOUSING, LATER, LINKS, MAPS, Query, SPANS, add, described, four_units,
+    new_office, show_rows,
+};
+use catalogue_store::{LinkPlaces, Places, StoreFault, move_unit, replace_values};
+use nested_sets::SpanPlaces;
+use sqlite::{Alter, Connection};
+use std::alloc::Global;
+use std::process::Abort;
+use std::test::Fail;
+
+/// A call that is not accepted where there are units 1 to 4, and unit 2 is below unit 1.
+#[derive(Clone, Copy)]
+enum Slip {
+    AddBelowNone,
+    ReplaceNone,
+    MoveNone,
+    MoveBelowNone,
+    MoveBelowItself,
+    MoveIntoItsBranch,
+}
+
+/// Makes the call.
+fn attempt<P: Places, S: Alter>(
+    alloc: Global,
+    conn: &mut Connection<S>,
+    done: Slip,
+) -> Result<(), StoreFault>
+    requires inside { InTransaction P.version (state S.Store conn.old) }
+{
+    match done {
+        Slip::AddBelowNone => add::<P, S>(alloc, conn, 5, Some(9), MAPS),
+        Slip::ReplaceNone => {
+            let later = described(alloc, LATER)?;
+            replace_values::<P, S>(alloc, conn, 9, &later)
+        }
+        Slip::MoveNone => move_unit::<P, S>(alloc, conn, 9, None),
+        Slip::MoveBelowNone => move_unit::<P, S>(alloc, conn, 2, Some(9)),
+        Slip::MoveBelowItself => move_unit::<P, S>(alloc, conn, 2, Some(2)),
+        Slip::MoveIntoItsBranch => move_unit::<P, S>(alloc, conn, 1, Some(2)),
+    }
+}
+
+/// What the call ends with, in a new office with four units.
+fn attempted<P: Places, S: Alter>(
+    alloc: Global,
+    conn: &mut Connection<S>,
+    done: Slip,
+) -> Result<(), StoreFault> {
+    new_office::<P, S>(alloc, conn)?;
+    four_units::<P, S>(alloc, conn)?;
+    attempt::<P, S>(alloc, conn, done)
+}
+
+/// The call blames the schema, and then these rows are there.
+fn see_over<P: Places>(
+    rt: &impl Abort,
+    alloc: Global,
+    done: Slip,
+    places: Query,
+    rows: &str,
+) -> Result<(), Fail> {
+    let mut conn = Connection::open_in_memory(alloc)?;
+    let blames = attempted::<P, _>(alloc, &mut conn, done) == Err(StoreFault::Schema);
+    assert!(rt; blames);
+    let mut text = String::new(alloc);
+    for query in [ELEMENTS, HOUSING, places] {
+        show_rows(&mut text, &mut conn, query)?;
+    }
+    let wanted = format!(in alloc; "{}{rows}", FOUR.told)?;
+    assert_eq!(rt; text.as_str(), wanted.as_str());
+    Ok(())
+}
+
+#[test]
+fn what_is_not_accepted_changes_no_row(rt: HostRuntime) -> Result<(), Fail> {
+    let slips: [Slip; 6] = [
+        Slip::AddBelowNone,
+        Slip::ReplaceNone,
+        Slip::MoveNone,
+        Slip::MoveBelowNone,
+        Slip::MoveBelowItself,
+        Slip::MoveIntoItsBranch,
+    ];
+    for done in slips {
+        see_over::<LinkPlaces>(&rt, rt.alloc(), done, LINKS, FOUR.links)?;
+        see_over::<SpanPlaces>(&rt, rt.alloc(), done, SPANS, FOUR.spans)?;
+    }
+    Ok(())
+}
