@@ -1,9 +1,10 @@
 #!/usr/bin/env bash
 # Offices that SQLite's own tool wrote anew: rewritten.sh PROGRAM
-# VACUUM, VACUUM INTO, .dump into a new file, .backup and REINDEX leave an office an office: after each `check` says `sound`, the file
-# tells what it told before, a session is answered as by the office that was not touched, a file is taken in, and `check` says `sound`
-# again. So does VACUUM after all of that. ANALYZE adds the table sqlite_stat1, which is none of an office: `store fault`, until it is
-# dropped. The kept file of version 1 is migrated after each of them. It ends with 1 where something is other than wanted.
+# VACUUM, VACUUM INTO, .dump into a new file, .backup and REINDEX leave an office an office, be it a new one or one that was migrated:
+# after each `check` says `sound`, the file tells what it told before, a session is answered as by the office that was not touched, a
+# file is taken in, and `check` says `sound` again. So does VACUUM after all of that. ANALYZE adds the table sqlite_stat1, which is none
+# of an office: `store fault`, until it is dropped. The kept file of version 1 is migrated after each of them. It ends with 1 where
+# something is other than wanted.
 set -euo pipefail
 here=$(cd "$(dirname "$0")" && pwd)
 program=$(realpath "$1")
@@ -57,18 +58,29 @@ make() {
         '3,,C,Maps and charts,Published,Box 3' '5,,E,Ledgers,Published,Box 1|Box 6' >"$room/file.csv"
 }
 
-# An office that was written anew, and again after it was used.
+# A new office with units in boxes and one reader.
+begin() {
+    local name='{"name":"Ann","until":"2024-12-31"}'
+    same 'an office' "$(says init --store "$1" --country GB --repo 0999 --seats 2 --daily 3 --hands 1 --run 2 --day 2024-03-01 </dev/null)" '0, , '
+    printf '%s\n' 'legacyId,parentId,identifier,title,publicationStatus,physicalObjectName' '1,,A,Docks,Published,Box 1' \
+        '2,1,1,Minutes,Published,Box 2' '3,,C,Maps,Published,Box 2' '4,3,1,Plans,Published,Box 3' '6,,F,Letters,Published,Box 4' >"$room/first.csv"
+    same 'its first file' "$(says import --store "$1" --source a "$room/first.csv" </dev/null | cut -d, -f1-3)" '0, {"changed":0,"new":5'
+    printf 'POST /desk/register HTTP/1.1\r\nHost: x\r\nContent-Length: %d\r\n\r\n%s' ${#name} "$name" |
+        timeout 60 "$program" talk --store "$1" | grep -q '200 OK' || same 'its reader' none registered
+}
+
+# An office that was written anew, and again after it was used: each_way OFFICE
 each_way() {
     local way new answers taken
-    cp "$room/office.db" "$room/plain.db"
+    cp "$1" "$room/plain.db"
     answers=$(asks | timeout 60 "$program" talk --store "$room/plain.db")
     taken=$(says import --store "$room/plain.db" --source a "$room/file.csv" </dev/null)
     same 'answers' "$(grep -c 'HTTP/1.1 200 OK' <<<"$answers")" 8
     same 'a file that is taken in' "${taken%%,\"remarks*}" '0, {"changed":1,"new":1'
     for way in "${ways[@]}"; do
-        new=$room/$way.db
-        "$way" "$room/office.db" "$new"
-        same "$way: the file" "$(told "$new")" "$(told "$room/office.db")"
+        new=${1%.db}_$way.db
+        "$way" "$1" "$new"
+        same "$way: the file" "$(told "$new")" "$(told "$1")"
         same "$way" "$(says check --store "$new" </dev/null)" '0, sound, '
         same "$way: answers" "$(asks | timeout 60 "$program" talk --store "$new")" "$answers"
         same "$way: a file" "$(says import --store "$new" --source a "$room/file.csv" </dev/null)" "$taken"
@@ -88,6 +100,12 @@ analyzed() {
     sqlite3 "$room/analyzed.db" 'DROP TABLE sqlite_stat1'
     same 'ANALYZE undone' "$(says check --store "$room/analyzed.db" </dev/null)" '0, sound, '
     same 'ANALYZE undone: the file' "$(told "$room/analyzed.db")" "$(told "$room/office.db")"
+    cp "$here/version1.db" "$room/old_analyzed.db"
+    sqlite3 "$room/old_analyzed.db" ANALYZE
+    same 'ANALYZE of version 1' "$(says migrate --store "$room/old_analyzed.db" </dev/null)" '3, , store fault'
+    sqlite3 "$room/old_analyzed.db" 'DROP TABLE sqlite_stat1'
+    same 'ANALYZE of version 1 undone' "$(says migrate --store "$room/old_analyzed.db" </dev/null)" '0, migrated, '
+    same 'ANALYZE of version 1 undone: the file' "$(told "$room/old_analyzed.db")" "$(told "$room/office.db")"
 }
 
 # The file of version 1, written anew and then migrated: what comes out is what comes of the file itself.
@@ -106,8 +124,10 @@ migrated() {
 }
 
 make "$room/office.db"
-each_way
+each_way "$room/office.db"
+begin "$room/new.db"
+each_way "$room/new.db"
 analyzed
 migrated
-[ "$wrong" = 0 ] && echo "${#ways[@]} ways to write an office anew, and ANALYZE"
+[ "$wrong" = 0 ] && echo "${#ways[@]} ways to write offices anew, and ANALYZE"
 exit "$wrong"
